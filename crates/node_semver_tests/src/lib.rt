@@ -32,13 +32,9 @@ mod limits;
 #[cfg(test)]
 mod long_texts;
 #[cfg(test)]
-mod npm_ranges;
-#[cfg(test)]
 mod operators;
 #[cfg(test)]
 mod order;
-#[cfg(test)]
-mod own_type;
 #[cfg(test)]
 mod prerelease_tags;
 #[cfg(test)]

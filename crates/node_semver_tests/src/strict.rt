@@ -2,7 +2,14 @@ use crate::checks::is_print;
 use crate::print_or_error::described;
 use crate::questions::{Question, each};
 use node_semver::{SemverError, Version, VersionRef};
-use std::alloc::Global;
+use std::alloc::{AllocError, Global};
+
+fn has_build_of(copy: Result<Version, AllocError>, version: &Version) -> bool {
+    match &copy {
+        Ok(copy) => copy.build == version.build,
+        Err(_) => false,
+    }
+}
 
 // Returns `true` if both types read the text as the version that `Version::parse` reads, with the same build.
 fn agrees(alloc: Global, text: &str, strict: &Version) -> bool {
@@ -10,9 +17,7 @@ fn agrees(alloc: Global, text: &str, strict: &Version) -> bool {
         (Ok(loose), Ok(borrowed)) => {
             loose.compare_build(strict).is_eq()
                 && strict.cmp_ref(&borrowed).is_eq()
-                && borrowed
-                    .to_version(alloc)
-                    .is_ok_and(|copy| copy.build == strict.build)
+                && has_build_of(borrowed.to_version(alloc), strict)
         }
         _ => false,
     }

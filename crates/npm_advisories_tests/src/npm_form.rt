@@ -1,9 +1,10 @@
 //! Advisories in npm's form, installed packages, and what is found.
 
-use npm_advisories::{AuditError, FaultKind, Installed, LockError, Severity, audit, audit_lock};
+use crate::checks::{finds, is_text};
+use npm_advisories::{Found, Installed, LockError, Severity, audit_lock};
 use serde_json::Value;
-use std::alloc::Global;
-use std::test::Fail;
+use std::alloc::{AllocError, Global};
+use std::fmt::Display;
 
 /// Advisories on two packages, as npm's registry returns them.
 pub(crate) const FILE: &str = r#"{
@@ -17,126 +18,85 @@ pub(crate) const FILE: &str = r#"{
   ]
 }"#;
 
-/// What is found of one package, whose folder is its name: JSON texts with a `;` after each.
-fn found<'a>(
+// A package with its folder, which is its name, its version, and the ranges by which others ask for it.
+fn finds_of<'a>(
     alloc: Global,
-    file: &'a Value,
     level: Severity,
-    name: &'a str,
-    version: &'a str,
+    package: (&'a str, &'a str),
     asked: &[&'a str],
-) -> Result<String, Fail> {
-    let one = Installed {
-        folder: name,
-        name,
-        version,
-        asked: Vec::from_slice(alloc, asked)?,
-    };
-    let mut text = String::new(alloc);
-    match audit(alloc, file, level, &[one]) {
-        Ok(all) => {
-            for found in &all {
-                text.push_str(found.to_json(alloc)?.to_string(alloc)?.as_str())?;
-                text.push_str(";")?;
-            }
+    wanted: &str,
+) -> bool {
+    match Vec::from_slice(alloc, asked) {
+        Ok(asked) => {
+            let one = Installed {
+                folder: package.0,
+                name: package.0,
+                version: package.1,
+                asked,
+            };
+            finds(alloc, FILE, level, &[one], wanted)
         }
-        Err(_) => text.push_str("refused")?,
+        Err(_) => false,
     }
-    Ok(text)
 }
 
+const LODASH: &str =
+    r#"{"admitted":"4.17.22","advisories":[{"id":1,"severity":"high","title":"Prototype Pollution","url":"https://a/1"},{"id":"G-2","severity":"low"},{"id":3,"severity":"unknown"}],"folder":"lodash","least":"4.17.22","name":"lodash","version":"4.17.11"};"#;
+
+const CRITICAL: &str =
+    r#"{"advisories":[{"id":3,"severity":"unknown"}],"folder":"lodash","least":"4.17.22","name":"lodash","version":"4.17.11"};"#;
+
 #[test]
-fn finds_the_advisories_that_hit(rt: HostRuntime) -> Result<(), Fail> {
+fn finds_the_advisories_that_hit(rt: HostRuntime) {
     let alloc = rt.alloc();
-    let file = Value::from_str(alloc, FILE)?;
-    let all = found(
-        alloc,
-        &file,
-        Severity::Info,
-        "lodash",
-        "4.17.11",
-        &["^4.17.0"],
-    )?;
-    assert_eq!(rt;
-        all.as_str(),
-        r#"{"admitted":"4.17.22","advisories":[{"id":1,"severity":"high","title":"Prototype Pollution","url":"https://a/1"},{"id":"G-2","severity":"low"},{"id":3,"severity":"unknown"}],"folder":"lodash","least":"4.17.22","name":"lodash","version":"4.17.11"};"#
-    );
+    let package = ("lodash", "4.17.11");
+    assert!(rt; finds_of(alloc, Severity::Info, package, &["^4.17.0"], LODASH));
     // A severity that is not known is never left out, and the offered versions do not depend on the level.
-    let high = found(
-        alloc,
-        &file,
-        Severity::Critical,
-        "lodash",
-        "4.17.11",
-        &["<4.17.22"],
-    )?;
-    assert_eq!(rt;
-        high.as_str(),
-        r#"{"advisories":[{"id":3,"severity":"unknown"}],"folder":"lodash","least":"4.17.22","name":"lodash","version":"4.17.11"};"#
-    );
-    Ok(())
+    assert!(rt; finds_of(alloc, Severity::Critical, package, &["<4.17.22"], CRITICAL));
 }
+
+const MINIMIST: &str =
+    r#"{"admitted":"1.2.6","advisories":[{"id":4,"severity":"critical"}],"folder":"minimist","least":"1.2.6","name":"minimist","version":"1.2.6-rc.1"};"#;
 
 // A prerelease inside the range is hit, and a release is offered.
 #[test]
-fn offers_a_release_for_a_prerelease(rt: HostRuntime) -> Result<(), Fail> {
-    let alloc = rt.alloc();
-    let file = Value::from_str(alloc, FILE)?;
-    let prerelease = found(
-        alloc,
-        &file,
-        Severity::Info,
-        "minimist",
-        "1.2.6-rc.1",
-        &["*", "^1.2.6-0"],
-    )?;
-    assert_eq!(rt;
-        prerelease.as_str(),
-        r#"{"admitted":"1.2.6","advisories":[{"id":4,"severity":"critical"}],"folder":"minimist","least":"1.2.6","name":"minimist","version":"1.2.6-rc.1"};"#
+fn offers_a_release_for_a_prerelease(rt: HostRuntime) {
+    let package = ("minimist", "1.2.6-rc.1");
+    assert!(rt;
+        finds_of(
+            rt.alloc(),
+            Severity::Info,
+            package,
+            &["*", "^1.2.6-0"],
+            MINIMIST
+        )
     );
-    Ok(())
 }
+
+// A package and its version.
+const SPARED: [(&str, &str); 4] = [
+    ("lodash", "4.17.22"),
+    ("minimist", "0.2.4"),
+    ("Lodash", "4.17.11"),
+    ("lodash", "4.17"),
+];
 
 #[test]
-fn finds_nothing_where_nothing_hits(rt: HostRuntime) -> Result<(), Fail> {
-    let alloc = rt.alloc();
-    let file = Value::from_str(alloc, FILE)?;
-    assert_eq!(rt;
-        found(alloc, &file, Severity::Info, "lodash", "4.17.22", &[])?.as_str(),
-        ""
-    );
-    assert_eq!(rt;
-        found(alloc, &file, Severity::Info, "minimist", "0.2.4", &[])?.as_str(),
-        ""
-    );
-    assert_eq!(rt;
-        found(alloc, &file, Severity::Info, "Lodash", "4.17.11", &[])?.as_str(),
-        ""
-    );
-    assert_eq!(rt;
-        found(alloc, &file, Severity::Info, "lodash", "4.17", &[])?.as_str(),
-        ""
-    );
-    Ok(())
-}
-
-/// The fault of a text: its kind, name and place.
-fn fault(alloc: Global, text: &str) -> Result<String, Fail> {
-    let file = Value::from_str(alloc, text)?;
-    let answer = match audit(alloc, &file, Severity::Info, &[]) {
-        Err(AuditError::Refused(fault)) => {
-            format!(in alloc; "{:?} {} {}", fault.kind, fault.name, fault.place)?
-        }
-        Err(AuditError::Memory) => format!(in alloc; "memory")?,
-        Ok(_) => format!(in alloc; "read")?,
-    };
-    Ok(answer)
+fn finds_nothing_where_nothing_hits(rt: HostRuntime) {
+    for package in &SPARED {
+        assert!(rt;
+            finds_of(rt.alloc(), Severity::Info, *package, &[], ""),
+            "{} {}",
+            package.0,
+            package.1
+        );
+    }
 }
 
 const FAULTS: [(&str, &str); 13] = [
-    ("{}", "read"),
+    ("{}", ""),
     ("1", "File  0"),
-    ("[]", "read"),
+    ("[]", ""),
     (r#"{"a": {}}"#, "List a 0"),
     (r#"{"a": [], "b": [1]}"#, "Advisory b 0"),
     (r#"{"a": [{"vulnerable_versions": "*"}]}"#, "Id a 0"),
@@ -166,54 +126,95 @@ const FAULTS: [(&str, &str); 13] = [
     ),
     (
         r#"{"a": [{"id": 1, "vulnerable_versions": "<1", "url": null}]}"#,
-        "read",
+        "",
     ),
 ];
 
+// The texts are no advisories, each for its fault: its kind, name and place. Those with no fault are read.
 #[test]
-fn refuses_what_are_no_advisories(rt: HostRuntime) -> Result<(), Fail> {
-    let alloc = rt.alloc();
+fn refuses_what_are_no_advisories(rt: HostRuntime) {
     for (text, wanted) in &FAULTS {
-        assert_eq!(rt; fault(alloc, text)?.as_str(), *wanted, "{text}");
+        assert!(rt;
+            finds(rt.alloc(), text, Severity::Info, &[], wanted),
+            "{text}"
+        );
     }
-    Ok(())
 }
 
-#[test]
-fn audits_a_lock_file(rt: HostRuntime) -> Result<(), Fail> {
-    let alloc = rt.alloc();
-    let file = Value::from_str(alloc, FILE)?;
-    let lock = Value::from_str(
-        alloc,
-        r#"{"lockfileVersion": 3, "packages": {
+const LOCK: &str = r#"{"lockfileVersion": 3, "packages": {
         "": {"dependencies": {"old": "npm:lodash@^4.17.0", "b": "1"}},
         "node_modules/b": {"version": "1.0.0", "dependencies": {"minimist": "~1.2.0"}},
         "node_modules/b/node_modules/minimist": {"version": "1.2.5"},
-        "node_modules/old": {"name": "lodash", "version": "4.17.21"}}}"#,
-    )?;
-    let Ok(all) = audit_lock(alloc, &file, Severity::Info, &lock) else {
-        return Err("no audit".into());
-    };
-    let mut text = String::new(alloc);
-    for found in &all {
-        let least = found.least.as_ref().ok_or("none offered")?;
-        let admitted = found.admitted.as_ref().ok_or("none admitted")?;
-        text.push_str(format!(in alloc;
-            "{} {} {least} {admitted};",
-            found.folder, found.name
-        )?.as_str())?;
+        "node_modules/old": {"name": "lodash", "version": "4.17.21"}}}"#;
+
+// Advisories, a lock file, and what is found: the folder and the name of each package that is hit, and what is offered.
+const LOCKS: [(&str, &str, &str); 3] = [
+    (
+        FILE,
+        LOCK,
+        "node_modules/b/node_modules/minimist minimist 1.2.6 1.2.6;node_modules/old lodash 4.17.22 4.17.22;",
+    ),
+    (FILE, "{}", "lock Version"),
+    ("1", LOCK, "advisories File"),
+];
+
+#[test]
+fn audits_a_lock_file(rt: HostRuntime) {
+    for (file, lock, wanted) in &LOCKS {
+        assert!(rt; audits(rt.alloc(), file, lock, wanted), "{wanted}");
     }
-    assert_eq!(rt;
-        text.as_str(),
-        "node_modules/b/node_modules/minimist minimist 1.2.6 1.2.6;node_modules/old lodash 4.17.22 4.17.22;"
-    );
-    let no_lock = Value::from_str(alloc, "{}")?;
-    let refused = audit_lock(alloc, &file, Severity::Info, &no_lock);
-    assert!(rt; matches!(refused, Err(LockError::Lock(_))));
-    let no_file = Value::from_str(alloc, "1")?;
-    let refused = audit_lock(alloc, &no_file, Severity::Info, &lock);
-    assert!(rt;
-        matches!(refused, Err(LockError::Advisories(fault)) if fault.kind == FaultKind::File)
-    );
-    Ok(())
+}
+
+fn audits(alloc: Global, file: &str, lock: &str, wanted: &str) -> bool {
+    match &Value::from_str(alloc, file) {
+        Ok(file) => audits_with(alloc, file, lock, wanted),
+        Err(_) => false,
+    }
+}
+
+fn audits_with(alloc: Global, file: &Value, lock: &str, wanted: &str) -> bool {
+    match &Value::from_str(alloc, lock) {
+        Ok(lock) => is_text(
+            offers_text(alloc, audit_lock(alloc, file, Severity::Info, lock)),
+            wanted,
+        ),
+        Err(_) => false,
+    }
+}
+
+fn offers_text(alloc: Global, answer: Result<Vec<Found<'_, '_>>, LockError<'_>>) -> Option<String> {
+    match &answer {
+        Ok(all) => offers(alloc, all.as_slice()).ok(),
+        Err(LockError::Lock(fault)) => format!(in alloc; "lock {fault:?}").ok(),
+        Err(LockError::Advisories(fault)) => format!(in alloc; "advisories {:?}", fault.kind).ok(),
+        Err(LockError::Memory) => None,
+    }
+}
+
+fn offers(alloc: Global, all: &[Found<'_, '_>]) -> Result<String, AllocError> {
+    let mut text = String::new(alloc);
+    for found in all {
+        push_offer(alloc, &mut text, found)?;
+    }
+    Ok(text)
+}
+
+fn push_offer(alloc: Global, text: &mut String, found: &Found<'_, '_>) -> Result<(), AllocError> {
+    text.push_str(found.folder)?;
+    text.push_str(" ")?;
+    text.push_str(found.name)?;
+    push_version(alloc, text, found.least.as_ref())?;
+    push_version(alloc, text, found.admitted.as_ref())?;
+    text.push_str(";")
+}
+
+fn push_version(
+    alloc: Global,
+    text: &mut String,
+    version: Option<&impl Display>,
+) -> Result<(), AllocError> {
+    match version {
+        Some(version) => text.push_str(format!(in alloc; " {version}")?.as_str()),
+        None => text.push_str(" none"),
+    }
 }

@@ -2,44 +2,61 @@
 
 mod faults;
 
-use npm_advisories::{Installed, Severity, audit};
+use crate::checks::finds;
+use npm_advisories::{AuditError, Found, Installed, Severity, audit};
 use serde_json::Value;
-use std::alloc::Global;
-use std::test::Fail;
+use std::alloc::{AllocError, Global};
 
-/// Whether a version of `a` is hit: `hit`, `spared` or `refused`.
-fn answer(alloc: Global, file: &Value, version: &str) -> Result<&'static str, Fail> {
+// Whether a version of `a` is hit: `hit`, `spared` or `refused`.
+fn answer(alloc: Global, file: &Value, version: &str) -> &'static str {
     let one = Installed {
         folder: "",
         name: "a",
         version,
         asked: Vec::new(alloc),
     };
-    match audit(alloc, file, Severity::Info, &[one]) {
-        Ok(found) => Ok(if found.len() == 0 { "spared" } else { "hit" }),
-        Err(_) => Ok("refused"),
+    word(audit(alloc, file, Severity::Info, &[one]))
+}
+
+fn word(answer: Result<Vec<Found<'_, '_>>, AuditError<'_>>) -> &'static str {
+    match &answer {
+        Ok(found) => if found.len() == 0 { "spared" } else { "hit" },
+        Err(_) => "refused",
     }
 }
 
-/// The versions of a text for which the answer is not the wanted one, with a blank after each.
-fn mistaken(alloc: Global, file: &Value, versions: &str, wanted: &str) -> Result<String, Fail> {
-    let mut text = String::new(alloc);
+// Returns `true` if this is the answer for each of these versions, with blanks between.
+fn answers_each(alloc: Global, file: &Value, versions: &str, wanted: &str) -> bool {
     for version in versions.split_ascii_whitespace() {
-        if answer(alloc, file, version)? != wanted {
-            text.push_str(version)?;
-            text.push_str(" ")?;
+        if answer(alloc, file, version) != wanted {
+            return false;
         }
     }
-    Ok(text)
+    true
 }
 
-/// An OSV object with these members of an element of `affected` about `a`.
-fn about_a(alloc: Global, members: &str) -> Result<Value, Fail> {
-    let text = format!(in alloc;
-        r#"{{"id": "O", "affected": [{{"package": {{"ecosystem": "npm", "name": "a"}}, {}}}]}}"#,
-        members
-    )?;
-    Ok(Value::from_str(alloc, text.as_str())?)
+// The text of an OSV object with these members of an element of `affected` about `a`.
+fn about_a(alloc: Global, members: &str) -> Result<String, AllocError> {
+    format!(in alloc;
+        r#"{{"id": "O", "affected": [{{"package": {{"ecosystem": "npm", "name": "a"}}, {members}}}]}}"#
+    )
+}
+
+// Returns `true` if the first versions are hit and the second ones are not.
+fn hits_of(alloc: Global, members: &str, hit: &str, spared: &str) -> bool {
+    match &about_a(alloc, members) {
+        Ok(text) => hits_in(alloc, text, hit, spared),
+        Err(_) => false,
+    }
+}
+
+fn hits_in(alloc: Global, text: &str, hit: &str, spared: &str) -> bool {
+    match &Value::from_str(alloc, text) {
+        Ok(file) => {
+            answers_each(alloc, file, hit, "hit") && answers_each(alloc, file, spared, "spared")
+        }
+        Err(_) => false,
+    }
 }
 
 // events; versions that are hit; versions that are not
@@ -78,97 +95,88 @@ const EVENTS: [(&str, &str, &str); 8] = [
 
 // OSV schema, "affected[].ranges[].events" and "Evaluation".
 #[test]
-fn hits_what_lies_between_events(rt: HostRuntime) -> Result<(), Fail> {
-    let alloc = rt.alloc();
+fn hits_what_lies_between_events(rt: HostRuntime) {
     for (events, hit, spared) in &EVENTS {
-        let members = format!(in alloc;
-            r#""ranges": [{{"type": "SEMVER", "events": [{}]}}]"#,
-            events
-        )?;
-        let file = about_a(alloc, members.as_str())?;
-        assert_eq!(rt;
-            mistaken(alloc, &file, hit, "hit")?.as_str(),
-            "",
-            "{events}"
-        );
-        assert_eq!(rt;
-            mistaken(alloc, &file, spared, "spared")?.as_str(),
-            "",
-            "{events}"
-        );
+        assert!(rt; hits_between(rt.alloc(), events, hit, spared), "{events}");
     }
-    Ok(())
 }
 
-#[test]
-fn hits_listed_versions(rt: HostRuntime) -> Result<(), Fail> {
-    let alloc = rt.alloc();
-    let rows = [
-        (
-            r#""versions": ["1.2.3", "no version", 7, "v2.0.0+x"]"#,
-            "1.2.3 1.2.3+b 2.0.0",
-            "1.2.4 1.2.3-a 1.9.9",
-        ),
-        (
-            r#""ranges": [{"type": "SEMVER", "events": [{"introduced": "3.0.0"}]}], "versions": ["1.0.0"]"#,
-            "1.0.0 3.0.0",
-            "2.0.0",
-        ),
-        (
-            r#""ranges": [{"type": "GIT", "events": [{"introduced": "0"}]}, {"type": "ECOSYSTEM"}], "versions": null"#,
-            "",
-            "1.0.0",
-        ),
-        (r#""ranges": null"#, "", "1.0.0"),
-    ];
-    for (members, hit, spared) in &rows {
-        let file = about_a(alloc, members)?;
-        assert_eq!(rt;
-            mistaken(alloc, &file, hit, "hit")?.as_str(),
-            "",
-            "{members}"
-        );
-        assert_eq!(rt;
-            mistaken(alloc, &file, spared, "spared")?.as_str(),
-            "",
-            "{members}"
-        );
+fn hits_between(alloc: Global, events: &str, hit: &str, spared: &str) -> bool {
+    match &members_of(alloc, events) {
+        Ok(members) => hits_of(alloc, members, hit, spared),
+        Err(_) => false,
     }
-    Ok(())
 }
 
+fn members_of(alloc: Global, events: &str) -> Result<String, AllocError> {
+    format!(in alloc; r#""ranges": [{{"type": "SEMVER", "events": [{events}]}}]"#)
+}
+
+// members; versions that are hit; versions that are not
+const MEMBERS: [(&str, &str, &str); 4] = [
+    (
+        r#""versions": ["1.2.3", "no version", 7, "v2.0.0+x"]"#,
+        "1.2.3 1.2.3+b 2.0.0",
+        "1.2.4 1.2.3-a 1.9.9",
+    ),
+    (
+        r#""ranges": [{"type": "SEMVER", "events": [{"introduced": "3.0.0"}]}], "versions": ["1.0.0"]"#,
+        "1.0.0 3.0.0",
+        "2.0.0",
+    ),
+    (
+        r#""ranges": [{"type": "GIT", "events": [{"introduced": "0"}]}, {"type": "ECOSYSTEM"}], "versions": null"#,
+        "",
+        "1.0.0",
+    ),
+    (r#""ranges": null"#, "", "1.0.0"),
+];
+
 #[test]
-fn passes_over_what_is_no_advisory_about_the_package(rt: HostRuntime) -> Result<(), Fail> {
-    let alloc = rt.alloc();
-    let files = [
-        (r#"[]"#, "spared"),
-        (r#"{"id": "O"}"#, "spared"),
-        // In npm's form a package may be called `id`.
-        (r#"{"id": []}"#, "spared"),
-        (r#"{"id": "O", "affected": [{}]}"#, "spared"),
-        (
-            r#"{"id": "O", "affected": [{"package": {"ecosystem": "PyPI", "name": "a"}, "ranges": 1}]}"#,
-            "spared",
-        ),
-        (
-            r#"{"id": "O", "affected": [{"package": {"ecosystem": "npm", "name": "b"}, "versions": ["1.0.0"]}]}"#,
-            "spared",
-        ),
-        (
-            r#"[{"id": "O", "affected": [{"package": {"ecosystem": "npm", "name": "a"}, "versions": ["1.0.0"]}]}]"#,
-            "hit",
-        ),
-        (
-            r#"[{"id": "O", "withdrawn": "2022-01-01T00:00:00Z",
+fn hits_listed_versions(rt: HostRuntime) {
+    for (members, hit, spared) in &MEMBERS {
+        assert!(rt; hits_of(rt.alloc(), members, hit, spared), "{members}");
+    }
+}
+
+// A file, and whether 1.0.0 of `a` is hit.
+const FILES: [(&str, &str); 8] = [
+    (r#"[]"#, "spared"),
+    (r#"{"id": "O"}"#, "spared"),
+    // In npm's form a package may be called `id`.
+    (r#"{"id": []}"#, "spared"),
+    (r#"{"id": "O", "affected": [{}]}"#, "spared"),
+    (
+        r#"{"id": "O", "affected": [{"package": {"ecosystem": "PyPI", "name": "a"}, "ranges": 1}]}"#,
+        "spared",
+    ),
+    (
+        r#"{"id": "O", "affected": [{"package": {"ecosystem": "npm", "name": "b"}, "versions": ["1.0.0"]}]}"#,
+        "spared",
+    ),
+    (
+        r#"[{"id": "O", "affected": [{"package": {"ecosystem": "npm", "name": "a"}, "versions": ["1.0.0"]}]}]"#,
+        "hit",
+    ),
+    (
+        r#"[{"id": "O", "withdrawn": "2022-01-01T00:00:00Z",
             "affected": [{"package": {"ecosystem": "npm", "name": "a"}, "versions": ["1.0.0"]}]}]"#,
-            "spared",
-        ),
-    ];
-    for (text, wanted) in &files {
-        let file = Value::from_str(alloc, text)?;
-        assert_eq!(rt; answer(alloc, &file, "1.0.0")?, *wanted, "{text}");
+        "spared",
+    ),
+];
+
+#[test]
+fn passes_over_what_is_no_advisory_about_the_package(rt: HostRuntime) {
+    for (text, wanted) in &FILES {
+        assert!(rt; is_answered(rt.alloc(), text, wanted), "{text}");
     }
-    Ok(())
+}
+
+fn is_answered(alloc: Global, text: &str, wanted: &str) -> bool {
+    match &Value::from_str(alloc, text) {
+        Ok(file) => answer(alloc, file, "1.0.0") == wanted,
+        Err(_) => false,
+    }
 }
 
 /// Two advisories as GitHub's database has them, shortened.
@@ -182,26 +190,25 @@ const FILE: &str = r#"[
    "database_specific": {}}
 ]"#;
 
+const TOLD: &str =
+    r#"{"admitted":"4.17.21","advisories":[{"id":"GHSA-35jh-r3h4-6jhm","severity":"high","title":"Command Injection in lodash","url":"https://nvd.nist.gov/vuln/detail/CVE-2021-23337"},{"id":"GHSA-0","severity":"unknown"}],"folder":"node_modules/lodash","least":"4.17.21","name":"lodash","version":"4.17.20"};"#;
+
 #[test]
-fn tells_and_offers(rt: HostRuntime) -> Result<(), Fail> {
-    let alloc = rt.alloc();
-    let file = Value::from_str(alloc, FILE)?;
-    let one = Installed {
-        folder: "node_modules/lodash",
-        name: "lodash",
-        version: "4.17.20",
-        asked: Vec::from_slice(alloc, &["^4.17.0"])?,
-    };
-    let Ok(all) = audit(alloc, &file, Severity::Info, &[one]) else {
-        return Err("no audit".into());
-    };
-    let mut text = String::new(alloc);
-    for found in &all {
-        text.push_str(found.to_json(alloc)?.to_string(alloc)?.as_str())?;
+fn tells_and_offers(rt: HostRuntime) {
+    assert!(rt; offers(rt.alloc(), FILE, &["^4.17.0"], TOLD));
+}
+
+fn offers(alloc: Global, file: &str, asked: &[&str], wanted: &str) -> bool {
+    match Vec::from_slice(alloc, asked) {
+        Ok(asked) => {
+            let one = Installed {
+                folder: "node_modules/lodash",
+                name: "lodash",
+                version: "4.17.20",
+                asked,
+            };
+            finds(alloc, file, Severity::Info, &[one], wanted)
+        }
+        Err(_) => false,
     }
-    assert_eq!(rt;
-        text.as_str(),
-        r#"{"admitted":"4.17.21","advisories":[{"id":"GHSA-35jh-r3h4-6jhm","severity":"high","title":"Command Injection in lodash","url":"https://nvd.nist.gov/vuln/detail/CVE-2021-23337"},{"id":"GHSA-0","severity":"unknown"}],"folder":"node_modules/lodash","least":"4.17.21","name":"lodash","version":"4.17.20"}"#
-    );
-    Ok(())
 }

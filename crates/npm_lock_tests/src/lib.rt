@@ -5,6 +5,8 @@
 #[cfg(test)]
 mod check;
 #[cfg(test)]
+mod checks;
+#[cfg(test)]
 mod linked;
 #[cfg(test)]
 mod manifest;

@@ -1,8 +1,8 @@
 //! Tests of `overrides`: what they say, the packages beside the root, and what is found out.
-use npm_lock::{Problems, Reason, check};
+use crate::checks::{Findings, text_tells};
+use npm_lock::{Problems, check};
 use serde_json::Value;
-use std::alloc::Global;
-use std::test::Fail;
+use std::alloc::{AllocError, Global};
 
 // `overrides` of the root, which depends on `a`, and what is found out about the dependencies of `a` on `@s/c` and `b`, both
 // `^1`: satisfied (`+`), not satisfied (`-`) or not checked (`?`). Of both 2.0.0 is installed.
@@ -48,69 +48,90 @@ const ROWS: [(&str, &str); 29] = [
 ];
 
 #[test]
-fn reads_the_rules_of_each_row(rt: HostRuntime) -> Result<(), Fail> {
-    for (overrides, wanted) in ROWS {
-        let text = format!(in rt.alloc();
-            "{{\"lockfileVersion\": 3, \"packages\": {{\"\": {{\"dependencies\": {{\"a\": \"1\"}}, \"overrides\": {overrides}}}, \
-            \"node_modules/a\": {{\"version\": \"1.0.0\", \"dependencies\": {{\"b\": \"^1\", \"@s/c\": \"^1\"}}}}, \
-            \"node_modules/b\": {{\"version\": \"2.0.0\"}}, \"node_modules/@s/c\": {{\"version\": \"2.0.0\"}}}}}}"
-        )?;
-        let lock = Value::from_str(rt.alloc(), text.as_str())?;
-        let found = check(rt.alloc(), &lock, None)?;
-        assert!(rt;
-            is_found(&found, "@s/c", wanted.as_bytes().first().copied()),
-            "{overrides}: @s/c"
-        );
-        assert!(rt;
-            is_found(&found, "b", wanted.as_bytes().get(1).copied()),
-            "{overrides}: b"
-        );
+fn reads_the_rules_of_each_row(rt: HostRuntime) {
+    for (overrides, wanted) in &ROWS {
+        assert!(rt; is_read(rt.alloc(), overrides, wanted), "{overrides}");
     }
-    Ok(())
+}
+
+fn is_read(alloc: Global, overrides: &str, wanted: &str) -> bool {
+    match &lock_text(alloc, overrides) {
+        Ok(text) => are_found(alloc, text, wanted.as_bytes()),
+        Err(_) => false,
+    }
+}
+
+fn lock_text(alloc: Global, overrides: &str) -> Result<String, AllocError> {
+    format!(in alloc;
+        "{{\"lockfileVersion\": 3, \"packages\": {{\"\": {{\"dependencies\": {{\"a\": \"1\"}}, \"overrides\": {overrides}}}, \
+        \"node_modules/a\": {{\"version\": \"1.0.0\", \"dependencies\": {{\"b\": \"^1\", \"@s/c\": \"^1\"}}}}, \
+        \"node_modules/b\": {{\"version\": \"2.0.0\"}}, \"node_modules/@s/c\": {{\"version\": \"2.0.0\"}}}}}}"
+    )
+}
+
+fn are_found(alloc: Global, text: &str, signs: &[u8]) -> bool {
+    match &Value::from_str(alloc, text) {
+        Ok(lock) => are_found_in(alloc, lock, signs),
+        Err(_) => false,
+    }
+}
+
+fn are_found_in(alloc: Global, lock: &Value, signs: &[u8]) -> bool {
+    match &check(alloc, lock, None) {
+        Ok(found) => {
+            is_found(found, "@s/c", signs.first().copied())
+                && is_found(found, "b", signs.get(1).copied())
+        }
+        Err(_) => false,
+    }
 }
 
 fn is_found(found: &Problems, name: &str, sign: Option<u8>) -> bool {
-    let is_wrong = found
-        .list
-        .iter()
-        .any(|problem| problem.dependency.name.as_str() == name);
-    let is_unchecked = found
-        .unchecked
-        .iter()
-        .any(|unchecked| unchecked.dependency.name.as_str() == name);
-    is_wrong == (sign == Some(b'-')) && is_unchecked == (sign == Some(b'?'))
+    is_wrong(found, name) == (sign == Some(b'-'))
+        && is_unchecked(found, name) == (sign == Some(b'?'))
 }
 
-// The root, peers and what lies in other packages are changed too. What is missing is a problem whatever the spec, and so
-// is a local peer. In a workspace no rule is read, and a workspace is what the root asks for whatever the rule.
-#[test]
-fn changes_each_dependency_of_a_name(rt: HostRuntime) -> Result<(), Fail> {
-    let alloc = rt.alloc();
-    let text =
-        r#"{"lockfileVersion": 3, "packages": {"": {"dependencies": {"b": "^1", "w": "^3"}, "workspaces": ["w"],
+fn is_wrong(found: &Problems, name: &str) -> bool {
+    for problem in &found.list {
+        if problem.dependency.name.as_str() == name {
+            return true;
+        }
+    }
+    false
+}
+
+fn is_unchecked(found: &Problems, name: &str) -> bool {
+    for unchecked in &found.unchecked {
+        if unchecked.dependency.name.as_str() == name {
+            return true;
+        }
+    }
+    false
+}
+
+const CHANGED: &str =
+    r#"{"lockfileVersion": 3, "packages": {"": {"dependencies": {"b": "^1", "w": "^3"}, "workspaces": ["w"],
             "overrides": {"b": "2.0.0", "c": "2.0.0", "d@1": "2.0.0", "w": "4", "p": "2.0.0"}},
         "node_modules/a": {"version": "1.0.0", "peerDependencies": {"b": "^1", "p": "^1"}, "dependencies": {"c": "^1", "d": "^1"}},
         "node_modules/a/node_modules/e": {"version": "1.0.0", "dependencies": {"b": "^1", "w": "^1"}},
         "node_modules/a/node_modules/p": {"version": "2.0.0"}, "node_modules/b": {"version": "2.0.0"},
         "node_modules/w": {"link": true, "resolved": "w"}, "w": {"version": "1.0.0", "dependencies": {"b": "^1"}}}}"#;
-    let lock = Value::from_str(alloc, text)?;
-    let found = check(alloc, &lock, None)?;
-    let wanted = [
-        r#"{"dev":false,"from":"node_modules/a","name":"c","optional":false,"peer":false,"problem":"missing","spec":"2.0.0"}"#,
-        r#"{"dev":false,"from":"node_modules/a","name":"d","optional":false,"peer":false,"problem":"missing","spec":"^1"}"#,
-        r#"{"dev":false,"from":"node_modules/a","name":"p","optional":false,"peer":true,"problem":"peer local","spec":"2.0.0","to":"node_modules/a/node_modules/p","version":"2.0.0"}"#,
-        r#"{"dev":false,"from":"node_modules/a/node_modules/e","name":"w","optional":false,"peer":false,"problem":"invalid","spec":"4","to":"w","version":"1.0.0"}"#,
-    ];
-    assert_eq!(rt; found.list.len(), wanted.len());
-    for (problem, wanted) in found.list.iter().zip(wanted.iter()) {
-        assert_eq!(rt; problem.to_json(alloc)?.to_string(alloc)?.as_str(), *wanted);
-    }
-    assert_eq!(rt; found.dependencies, 9);
-    assert_eq!(rt; found.unchecked.len(), 1);
-    assert_eq!(rt; found.unchecked[0].reason, Reason::Override);
-    let written = found.unchecked[0].to_json(alloc)?.to_string(alloc)?;
-    let wanted =
-        r#"{"dev":false,"from":"w","name":"b","optional":false,"peer":false,"spec":"^1","to":"node_modules/b","unchecked":"override","version":"2.0.0"}"#;
-    assert_eq!(rt; written.as_str(), wanted);
-    Ok(())
+
+const CHANGES: Findings = Findings {
+    packages: 6,
+    dependencies: 9,
+    problems: r#"
+missing {"dev":false,"from":"node_modules/a","name":"c","optional":false,"peer":false,"problem":"missing","spec":"2.0.0"}
+missing {"dev":false,"from":"node_modules/a","name":"d","optional":false,"peer":false,"problem":"missing","spec":"^1"}
+peer local {"dev":false,"from":"node_modules/a","name":"p","optional":false,"peer":true,"problem":"peer local","spec":"2.0.0","to":"node_modules/a/node_modules/p","version":"2.0.0"}
+invalid {"dev":false,"from":"node_modules/a/node_modules/e","name":"w","optional":false,"peer":false,"problem":"invalid","spec":"4","to":"w","version":"1.0.0"}"#,
+    unchecked: r#"
+override {"dev":false,"from":"w","name":"b","optional":false,"peer":false,"spec":"^1","to":"node_modules/b","unchecked":"override","version":"2.0.0"}"#,
+};
+
+// The root, peers and what lies in other packages are changed too. What is missing is a problem whatever the spec, and so
+// is a local peer. In a workspace no rule is read, and a workspace is what the root asks for whatever the rule.
+#[test]
+fn changes_each_dependency_of_a_name(rt: HostRuntime) {
+    assert!(rt; text_tells(rt.alloc(), CHANGED, &CHANGES));
 }

@@ -1,6 +1,6 @@
 -- Spans in the order of their lower ends: which of two begins later, and which ends later.
 use Rattle.std.proofs.Common.{◌≡◌, ◌⊎◌, ℕ, ◌<◌, ◌≤◌, List, [], ◌∷◌, Ordering, Equal, true, false, refl}
-use Rattle.std.proofs.Common.{Bool, sym, arith, get_or, length, lit<}
+use Rattle.std.proofs.Common.{Bool, sym, ◌∙◌, inl, inr, arith, get_or, length, lit<}
 use Rattle.std.specs.List.{AllByRecursion}
 use Rattle.std.specs.List.Sorted.{IsPermutation, IsSorted}
 use Rattle.std.specs.Ordering.{is_lt, nat_cmp, ordering_then}
@@ -10,6 +10,7 @@ use Rattle.semver_cuts.specs.declared.cut.Cut.{Cut}
 use Rattle.semver_cuts.specs.Cut.{cut_cmp}
 use Rattle.semver_cuts.specs.Ends.{IsCutAtMost, IsCutBelow}
 use Rattle.semver_cuts.specs.Private.Placed.{PlacedSpan, placed_cmp}
+use Rattle.semver_cuts.specs.Lemmas.Ends.{at_most-below, below-at_most, below_trans, cut_cmp-equal_right}
 
 -- ---- tests of numbers
 
@@ -59,7 +60,13 @@ module _ {T : Type 0} {cmp : T → T → Ordering} (o : IsTotalOrder cmp) where
   pub no_later-trans : (upper upper' : Cut T) (place place' : ℕ) (p : PlacedSpan T) → EndsNoLater upper place p
       → IsCutBelow cmp upper upper' ⊎ ((cut_cmp cmp upper upper' ≡ Equal) × (place' ≤ place))
       → EndsNoLater upper' place' p
-  no_later-trans upper upper' place place' p h1 h2 = grind arith
+  no_later-trans upper upper' place place' p (inl h1) (inl h2) = inl (below_trans o p.span.upper upper upper' h1 h2)
+  no_later-trans upper upper' place place' p (inl h1) (inr h2) =
+      inl (below-at_most o p.span.upper upper upper' h1 (inr h2.0))
+  no_later-trans upper upper' place place' p (inr h1) (inl h2) =
+      inl (at_most-below o p.span.upper upper upper' (inr h1.0) h2)
+  no_later-trans upper upper' place place' p (inr h1) (inr h2) =
+      inr (sym (cut_cmp-equal_right o upper upper' p.span.upper h2.0) ∙ h1.0, omega (arith, h1.1, h2.1))
 
 -- ---- two spans
 

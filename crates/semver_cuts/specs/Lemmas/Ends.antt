@@ -1,8 +1,8 @@
 -- Less and at most of cuts, wherever the order of the values is total, and the tests of them in a program.
 use native.Mathlib.Omega.{arith}
 use Rattle.std.specs.Prelude.{◌≡◌, ◌⊎◌, ◌↔◌, Bool, IsTrue, true, false}
-use mathlib.Core.Path.{ap}
-use mathlib.Core.Logic.{inr}
+use mathlib.Core.Path.{ap, sym, ◌∙◌}
+use mathlib.Core.Logic.{inl, inr}
 use Rattle.std.specs.declared.cmp.Ordering.{Ordering}
 use Rattle.std.specs.declared.cmp.Ordering.TheVariants.{Equal}
 use Rattle.std.specs.Ordering.{is_lt, is_le}
@@ -40,7 +40,8 @@ module _ {T : Type 0} {cmp : T → T → Ordering} (o : IsTotalOrder cmp) where
 
   -- below one that is at most a third is below the third
   pub below-at_most : (c d e : Cut T) → IsCutBelow cmp c d → IsCutAtMost cmp d e → IsCutBelow cmp c e
-  below-at_most c d e h1 h2 = grind arith
+  below-at_most c d e h1 (inl h2) = below_trans c d e h1 h2
+  below-at_most c d e h1 (inr h2) = sym (cut_cmp-equal_right d e c h2) ∙ h1
 
   -- at most one that is below a third is below the third
   pub at_most-below : (c d e : Cut T) → IsCutAtMost cmp c d → IsCutBelow cmp d e → IsCutBelow cmp c e
@@ -48,7 +49,9 @@ module _ {T : Type 0} {cmp : T → T → Ordering} (o : IsTotalOrder cmp) where
 
   -- at most is transitive
   pub at_most_trans : (c d e : Cut T) → IsCutAtMost cmp c d → IsCutAtMost cmp d e → IsCutAtMost cmp c e
-  at_most_trans c d e h1 h2 = grind arith
+  at_most_trans c d e (inl h1) h2 = inl (below-at_most c d e h1 h2)
+  at_most_trans c d e (inr h1) (inl h2) = inl (at_most-below c d e (inr h1) h2)
+  at_most_trans c d e (inr h1) (inr h2) = inr (sym (cut_cmp-equal_right d e c h2) ∙ h1)
 
   -- of two cuts one is at most the other, or the other is below it
   pub at_most-or-below : (c d : Cut T) → IsCutAtMost cmp c d ⊎ IsCutBelow cmp d c

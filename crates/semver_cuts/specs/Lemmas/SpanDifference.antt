@@ -50,7 +50,13 @@ module _ {T : Type 0} {cmp : T → T → Ordering} (o : IsTotalOrder cmp) where
 
     in-pieces : IsInSpan cmp one cut → ¬ IsInSpan cmp other cut
         → IsInSpan cmp (span_between one.lower other.lower) cut ⊎ IsInSpan cmp (span_between other.upper one.upper) cut
-    in-pieces is out = grind (arith, at_most-or-below o)
+    in-pieces is out = elim (at_most-or-below o other.lower cut) [
+      | inr below ↦ inl (record { lower = is.lower; upper = below })
+      | inl from ↦ elim (at_most-or-below o other.upper cut) [
+        | inl above ↦ inr (record { lower = above; upper = is.upper })
+        | inr to ↦ absurd (out (record { lower = from; upper = to }))
+      ]
+    ]
 
     -- a cut lies in one of the two pieces exactly if it lies in the first span and not in the second
     pub pieces-cuts : IsInSome cmp (span_if_any cmp one.lower other.lower ++ span_if_any cmp other.upper one.upper) cut

@@ -203,22 +203,38 @@ fn answers_each(alloc: Global, range: &Range, all: bool, versions: &str, wanted:
     true
 }
 
-fn row_holds(alloc: Global, options: NpmOptions, row: &str) -> bool {
-    let Some(row) = &spread(alloc, row) else {
-        return false;
-    };
+fn text_answers(
+    alloc: Global,
+    options: NpmOptions,
+    text: &str,
+    admitted: &str,
+    others: &str,
+) -> bool {
+    match &Range::parse_npm(alloc, text, options) {
+        Ok(range) => {
+            let all = options.include_prerelease;
+            answers_each(alloc, range, all, admitted, true)
+                && answers_each(alloc, range, all, others, false)
+        }
+        Err(_) => false,
+    }
+}
+
+fn is_answered(alloc: Global, options: NpmOptions, row: &str) -> bool {
     let Some((text, versions)) = row.split_once("; ") else {
         return false;
     };
-    let Some((admitted, others)) = versions.split_once("; ") else {
-        return false;
-    };
-    let Ok(range) = &Range::parse_npm(alloc, text, options) else {
-        return false;
-    };
-    let all = options.include_prerelease;
-    answers_each(alloc, range, all, admitted, true)
-        && answers_each(alloc, range, all, others, false)
+    match versions.split_once("; ") {
+        Some((admitted, others)) => text_answers(alloc, options, text, admitted, others),
+        None => false,
+    }
+}
+
+fn row_holds(alloc: Global, options: NpmOptions, row: &str) -> bool {
+    match &spread(alloc, row) {
+        Some(row) => is_answered(alloc, options, row),
+        None => false,
+    }
 }
 
 fn each_holds(rt: &(impl Abort + AllocGlobal), options: NpmOptions, rows: &[&str]) {
@@ -227,17 +243,23 @@ fn each_holds(rt: &(impl Abort + AllocGlobal), options: NpmOptions, rows: &[&str
     }
 }
 
-// Returns `true` if the text is refused where the row says, with a copy of the text.
-fn is_refused_at(alloc: Global, options: NpmOptions, read: &str, rest: &str) -> bool {
-    let Ok(text) = &format!(in alloc; "{read}{rest}") else {
-        return false;
-    };
+// Returns `true` if the text is refused at this place, with a copy of the text.
+fn is_text_refused_at(alloc: Global, options: NpmOptions, text: &str, place: usize) -> bool {
     match &Range::parse_npm(alloc, text, options) {
         Ok(_) => false,
         Err(error) => {
-            let kind = error.kind() == &SemverErrorKind::NoValidRanges;
-            kind && error.offset() == read.len() && error.input() == text.as_str()
+            error.kind() == &SemverErrorKind::NoValidRanges
+                && error.offset() == place
+                && error.input() == text
         }
+    }
+}
+
+// The same where the row says.
+fn is_refused_at(alloc: Global, options: NpmOptions, read: &str, rest: &str) -> bool {
+    match &format!(in alloc; "{read}{rest}") {
+        Ok(text) => is_text_refused_at(alloc, options, text, read.len()),
+        Err(_) => false,
     }
 }
 

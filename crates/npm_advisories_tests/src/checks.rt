@@ -1,0 +1,73 @@
+use npm_advisories::{AuditError, Found, Installed, Severity, audit};
+use serde_json::Value;
+use std::alloc::{AllocError, Global};
+
+// Each function returns a plain value and drops what it made, and most use `match` in place of `?`, which is two more
+// calls. So each is short to prove.
+
+// The text that was made is this one.
+pub(crate) fn is_text(made: Option<String>, wanted: &str) -> bool {
+    match &made {
+        Some(text) => text.as_str() == wanted,
+        None => false,
+    }
+}
+
+// What is found of packages: JSON texts with a `;` after each.
+fn lines(alloc: Global, all: &[Found<'_, '_>]) -> Result<String, AllocError> {
+    let mut text = String::new(alloc);
+    for found in all {
+        push_line(alloc, &mut text, found)?;
+    }
+    Ok(text)
+}
+
+fn push_line(alloc: Global, text: &mut String, found: &Found<'_, '_>) -> Result<(), AllocError> {
+    push_value(alloc, text, &found.to_json(alloc)?)
+}
+
+fn push_value(alloc: Global, text: &mut String, value: &Value) -> Result<(), AllocError> {
+    text.push_str(value.to_string(alloc)?.as_str())?;
+    text.push_str(";")
+}
+
+// The same, or the fault: its kind, name and place.
+fn answer_text(
+    alloc: Global,
+    answer: Result<Vec<Found<'_, '_>>, AuditError<'_>>,
+) -> Option<String> {
+    match &answer {
+        Ok(all) => lines(alloc, all.as_slice()).ok(),
+        Err(AuditError::Refused(fault)) => {
+            format!(in alloc; "{:?} {} {}", fault.kind, fault.name, fault.place).ok()
+        }
+        Err(AuditError::Memory) => None,
+    }
+}
+
+// Returns `true` if this is found of the packages, with the advisories of this file.
+pub(crate) fn finds_in(
+    alloc: Global,
+    file: &Value,
+    level: Severity,
+    installed: &[Installed<'_>],
+    wanted: &str,
+) -> bool {
+    is_text(
+        answer_text(alloc, audit(alloc, file, level, installed)),
+        wanted,
+    )
+}
+
+pub(crate) fn finds(
+    alloc: Global,
+    file: &str,
+    level: Severity,
+    installed: &[Installed<'_>],
+    wanted: &str,
+) -> bool {
+    match &Value::from_str(alloc, file) {
+        Ok(file) => finds_in(alloc, file, level, installed, wanted),
+        Err(_) => false,
+    }
+}

@@ -331,7 +331,7 @@ const withManifest = () => {
   const linked = linkedManifests(file.packages)
   // npm refuses a rule that changes what the root asks for, and leaves workspaces out.
   const isAsked = name => groups.some(group => manifest[group]?.[name] !== undefined)
-  if (!Object.keys(linked).length && !Object.keys(file.packages).some(folder => /^(w|\.\.)\//.test(folder))) {
+  if (!Object.keys(file.packages).some(folder => /^(w|\.\.)\//.test(folder))) {
     manifest.overrides = Object.fromEntries(Object.entries(group()).filter(([name]) => !isAsked(name)))
   }
   return { file, manifest: { ...manifest, name: 'root' }, linked }

@@ -4,7 +4,7 @@ use Rattle.std.proofs.Common.{append_assoc, append-nil, bytes_eq, map, refl, sym
 use Rattle.std.proofs.lemmas.List.{map-append}
 use Rattle.std.proofs.lemmas.List.Elements.{filter-append}
 use Rattle.std.specs.List.{filter_map}
-use Rattle.std.specs.Option.{option_map_or, option_to_list}
+use Rattle.std.specs.Option.{option_to_list}
 use Rattle.npm_lock.specs.Dependents.{Request, texts_at, texts_of}
 use Rattle.npm_lock.specs.Private.Requests.{AddsRequests}
 use Rattle.npm_lock.specs.declared.dependents.Dependents.{Dependents}

@@ -4,7 +4,7 @@ use Rattle.serde_json.specs.Data.{Data}
 use Rattle.npm_lock.specs.Asked.{AskedValue}
 use Rattle.npm_lock.specs.Outcomes.{IsLocalPeer, absent, invalid, local_peer, missing, unchecked, valid}
 use Rattle.npm_lock.specs.Packages.{IsFoundIn, Package}
-use Rattle.npm_lock.specs.Private.PackageValue.{asked_value, package_value, packages_data}
+use Rattle.npm_lock.specs.Private.PackageValue.{package_value}
 use Rattle.npm_lock.proofs.outcome.judgement_of.Goals as goal
 use Rattle.npm_lock.proofs.outcome.judgement_of.Goals.{then-asked, else-asked}
 

@@ -16,8 +16,8 @@ Options:
                      20 means 20.0.0, and v20.11 means 20.11.0.
                      Example: npm_lock_check --node 20 package-lock.json
   --manifest FILE    The package.json of the root: write where it and the lock file do not ask for the
-                     same, and check the lock file for what the package.json asks for. The same of each
-                     workspace, by its package.json in the folder of FILE, if that is there.
+                     same, and check the lock file for what the package.json asks for. The package.json
+                     of each workspace, below the folder of FILE, is checked alike if it is there.
                      Example: npm_lock_check --manifest package.json package-lock.json
   --advisories FILE  Also write each installed package that a security advisory of this file hits, and
                      a version that none hits. The file is in OSV's form, or in that of npm's bulk endpoint.

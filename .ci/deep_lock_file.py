@@ -6,6 +6,7 @@
     nested    N packages, each in the `node_modules` of the one before, ask for a name in the root and for one that is nowhere
     wide      one package asks for N names, which are installed
     links     one package asks for N names, which are links
+    workspaces  the root asks for N names, which are workspaces, listed one by one
     copies    N packages, each with a copy of one name in its own `node_modules`, ask for that name
 """
 import json
@@ -30,9 +31,12 @@ elif shape == "copies":
         packages[f"node_modules/{name}"] = {"version": "1.2.3", "dependencies": {"copied": "^1.0.0"}}
         packages[f"node_modules/{name}/node_modules/copied"] = {"version": "1.2.3"}
 else:
+    linked = shape in ("links", "workspaces")
     packages[""]["dependencies"] = {name: "^1.0.0" for name in names}
+    if shape == "workspaces":
+        packages[""]["workspaces"] = [f"linked/{name}" for name in names]
     for name in names:
-        if shape == "links":
+        if linked:
             packages[f"node_modules/{name}"] = {"link": True, "resolved": f"linked/{name}"}
-        packages[f"linked/{name}" if shape == "links" else f"node_modules/{name}"] = {"version": "1.2.3"}
+        packages[f"linked/{name}" if linked else f"node_modules/{name}"] = {"version": "1.2.3"}
 json.dump({"lockfileVersion": 3, "packages": packages}, sys.stdout)

@@ -1,5 +1,8 @@
 // node large_lock_file.js [tree [COUNT]]: writes a lock file of COUNT packages and the root; COUNT is 2,000 if it is not given.
 // node large_lock_file.js advisories COUNT: writes advisories that hit each second package of such a file.
+// node large_lock_file.js events COUNT, or askers COUNT: writes advisories about `hit`. With events they are one OSV range of
+// twice COUNT events, the last first; with askers one advisory. The same with `-lock` writes a lock file with that package, which
+// COUNT packages ask for with askers.
 // Without `tree` a package has six dependencies, mostly on packages that come after it: about 12,000 in all, at random.
 // With `tree` the graph is like a real one: a package is a dependency of one package before it, each second package
 // depends also on one of 200 packages that many share, and each hundredth on a package before it, which makes a cycle.
@@ -60,4 +63,23 @@ function advisories () {
   }
   return made
 }
-console.log(JSON.stringify(shape === 'advisories' ? advisories() : lockFile(), null, 2))
+function hitLock (asking) {
+  const packages = { '': {}, 'node_modules/hit': { version: '1.0.0' } }
+  for (let i = 0; i < asking; i++) {
+    packages[`node_modules/p${i}`] = { version: '1.0.0', dependencies: { hit: i % 2 ? '^1.0.0' : '>=1' } }
+  }
+  return { lockfileVersion: 3, packages }
+}
+function events () {
+  const made = []
+  for (let i = count; i > 0; i--) made.push({ fixed: `${i}.1.0` }, { introduced: `${i}.0.0` })
+  return [{ id: 'E', affected: [{ package: { ecosystem: 'npm', name: 'hit' }, ranges: [{ type: 'ECOSYSTEM', events: made }] }] }]
+}
+const shapes = {
+  advisories,
+  events,
+  'events-lock': () => hitLock(0),
+  askers: () => ({ hit: [{ id: 1, vulnerable_versions: '<1.0.1' }] }),
+  'askers-lock': () => hitLock(count)
+}
+console.log(JSON.stringify((shapes[shape] || lockFile)(), null, 2))

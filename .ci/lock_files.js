@@ -43,8 +43,19 @@ const group = () => {
   return made
 }
 
+// What may stand before a version, and texts that npm reads as versions or not.
+const leads = [0, 1, 2, 3].reduce(all => ['', ...all.flatMap(lead => [...'vV= \t'].map(one => lead + one))], [''])
+const written = [...leads.map(lead => `${lead}1.2.3`), ...['1.2.3 ', '1.2.3\n\t', '\ufeff1.2.3\u00a0', '\u2028v\u205f1.2.3', '\r\v\f=1.2.3',
+  '\u00851.2.3', '\u180e1.2.3', '1.2.3v', '1.2.3 +b', '1.2.3+b ', '01.2.3', '1.2.3b', '1.2.3-01', '1.2.3--', '1.2', '1.2.3.4', 'v', 'latest',
+  '-1.2.3', `${'v'.repeat(251)}1.2.3`, `${'v'.repeat(252)}1.2.3`, `${'\u3000'.repeat(251)}1.2.3`, `${'\u3000'.repeat(252)}1.2.3`,
+  `${' '.repeat(126)}1.2.3${' '.repeat(126)}`, `1.2.3-${'a'.repeat(250)}`, `1.2.3-${'a'.repeat(251)}`]]
+const withVersions = texts => ({
+  '': { dependencies: Object.fromEntries(texts.map((_, i) => [`d${i}`, '>=1.2.3-0'])) },
+  ...Object.fromEntries(texts.map((version, i) => [`node_modules/d${i}`, { version }]))
+})
+
 const member = () => {
-  const made = { version: pick(versions) }
+  const made = { version: below(8) ? pick(versions) : pick(written) }
   if (below(2)) made.engines = { node: pick(engines) }
   for (const mark of ['dev', 'optional', 'peer']) if (below(8) === 0) made[mark] = true
   for (const name of groups) if (below(3) === 0) made[name] = group()
@@ -136,7 +147,8 @@ const rows = [
   ...[true, 'true', 'false', 1, -1, 0.5, [], {}, false, 0, '', null].map(optional),
   // Workspaces that are in a group of the root too.
   workspaces(['w'], 'w'), workspaces(['w'], 'w', { version: '2.1.0-alpha.1' }), workspaces({ packages: ['w'] }, 'w'),
-  workspaces(['./w'], 'w'), workspaces(['*'], 'w'), workspaces(['*'], 'v/w'), workspaces(['v/*'], 'v/w'),
+  workspaces(['./w'], 'w'), ...['/w', '//w', './/w', '/./w', '././w'].map(pattern => workspaces([pattern], 'w')),
+  ...['/v/*', './/v/**', '/v/w'].map(pattern => workspaces([pattern], 'v/w')), workspaces(['*'], 'w'), workspaces(['*'], 'v/w'), workspaces(['v/*'], 'v/w'),
   workspaces(['v/*'], 'v/u/w'), workspaces(['v/**'], 'v/u/w'), workspaces(['**'], 'v/u/w'), workspaces(['*'], '.w'),
   workspaces(['v/**'], 'v'), workspaces(['v/*'], 'v'), workspaces(['v/**'], 'v/.u/w'), workspaces(['v/**'], 'v/u/.w'), workspaces(['.v/**'], '.v/w'),
   workspaces(['v', 'w'], 'w'), workspaces(['v'], 'w'), workspaces([], 'w'), workspaces(['../w'], '../w'),
@@ -149,7 +161,9 @@ const rows = [
   })),
   // `npm:` in letters of either case, and before what is no name.
   ...['NPM:b@^1', 'nPm:b@^2', 'npm:^1', 'npm:^2', 'npm:1', 'npm:>=1 <3', 'npm:>=1 <2', 'npm:', 'npm:*', 'npm:b'].map(
-    spec => ({ '': { dependencies: { a: spec } }, 'node_modules/a': at('2.0.0') }))
+    spec => ({ '': { dependencies: { a: spec } }, 'node_modules/a': at('2.0.0') })),
+  // Versions with leads and white space.
+  withVersions(written)
 ]
 
 // What a JSON object tells: its members in their order.
@@ -434,7 +448,7 @@ const main = async () => {
     npm.found.sort()
     const run = more => spawnSync(program, [...(version ? ['--node', version] : []), ...(manifest ? ['--manifest', beside] : []), ...more],
       { input: text, encoding: 'utf8', maxBuffer: 1 << 28 })
-    const ran = run(['--ignore', 'group'])
+    const ran = run(['--ignore', 'group', '--outside'])
     const isMismatched = isCompared && / [1-9]\d* mismatches/.test(run([]).stderr)
     fs.rmSync(room, { recursive: true })
     const sorted = ran.stdout.split('\n').filter(line => line).sort()

@@ -1,4 +1,4 @@
-// Compares ranges as Range::parse_npm reads them with those of the npm package semver that npm itself has installed, for
+// Compares ranges as npm_semver::parse_range reads them with those of the npm package semver that npm itself has installed, for
 // npm_ranges. The words are the program npm_answers, the number of generated pairs, and how many disagreements to print.
 'use strict'
 const { execFileSync } = require('child_process')
@@ -8,27 +8,80 @@ const path = require('path')
 const ROOT = execFileSync('npm', ['root', '-g'], { encoding: 'utf8' }).trim()
 const semver = require(path.join(ROOT, 'npm', 'node_modules', 'semver'))
 
-// Where npm answers otherwise: the name of a rule, and which texts it covers. docs/DIFFERENCES.md has the rules by these
-// names, with the smallest texts and reasons.
+// Where npm answers otherwise: the name of a rule, which texts it covers, and an example: a text, a version, the options,
+// and the letters of npm and of npm_semver::parse_range. docs/DIFFERENCES.md has the rules by these names, with reasons.
 const pieces = text => text.split('||')
 const anyPiece = (text, test) => pieces(text).some(piece => test.test(piece))
 const STAR_WORD = /(^|[\s<>=~^v])([xX*]|>=\s*0|$)/
+const STRICT = {}
+const LOOSE = { loose: true }
+const many = (count, text) => text.repeat(count)
 const RULES = [
-  ['a number near the limit', text => /[0-9]{16}/.test(text)],
-  ['marks before a partial', text => /v[v=\s]|=\s*=|(^|[\s|])=\s*\S+\s+-\s|\s-\s+=/.test(text)],
-  ['white space inside an operator', text => /[<>=~^]\s+[<>=~^]/.test(text)],
-  ['an operator after other characters', text => anyPiece(text, /[^\s<>=~^][<>=~^]+(\s|$)/)],
-  ['a star beside other characters', text => /[^\s|.<>=~^v]\*|\*[^\s|.]/.test(text)],
-  ['a hyphen for a prerelease', (text, version, options) => options.loose && /-($|[\s|.+])/.test(text)],
-  ['zeros before the zero of a caret', (text, version, options) => options.loose && /\^[v=\s]*0+\.?0*\.?0/.test(text)],
-  ['a build before a hyphen', (text, version, options) => options.includePrerelease && /\+[^\s|]*\s+-\s/.test(text)],
-  ['all versions beside others', (text, version, options) =>
-    (options.loose || pieces(text).length > 1) && anyPiece(text, STAR_WORD)],
+  {
+    name: 'a number near the limit',
+    covers: text => /[0-9]{16}/.test(text),
+    example: ['^9007199254740991', '9007199254740991.0.0', STRICT, 'x', 'y'],
+  },
+  {
+    name: 'marks before a partial',
+    covers: text => /v[v=\s]|=\s*=|(^|[\s|])=\s*\S+\s+-\s|\s-\s+=/.test(text),
+    example: ['vv1.2.3', '1.2.3', STRICT, 'x', 'y'],
+  },
+  {
+    name: 'a `=` after a prerelease or a build that ends with `v`',
+    covers: (text, version, options) => options.loose && /[^\s|]v=(\s|$)/.test(text),
+    example: ['1.2.3-v= 1', '1.0.0', LOOSE, 'x', 'y'],
+  },
+  {
+    name: 'a star beside other characters',
+    covers: text => /[^\s|.<>=~^v]\*|\*[^\s|.]/.test(text),
+    example: ['1.2.3*', '1.2.3', STRICT, 'y', 'x'],
+  },
+  {
+    name: 'a hyphen for a prerelease',
+    covers: (text, version, options) => options.loose && /-($|[\s|.+])/.test(text),
+    example: ['1.2.3-', '1.2.3--', LOOSE, 'y', 'x'],
+  },
+  {
+    name: 'a digit for a prerelease',
+    covers: (text, version, options) => options.loose && /\.\d\d+\./.test(text),
+    example: ['1.2.34.5', '1.2.3-4.5', LOOSE, 'y', 'x'],
+  },
+  {
+    name: 'a build before a hyphen',
+    covers: (text, version, options) => options.includePrerelease && /\+[^\s|]*\s+-\s/.test(text),
+    example: ['1.2.3+5 - 2', '1.2.3-0', { includePrerelease: true }, 'n', 'y'],
+  },
+  {
+    name: 'zeros before the zero of a caret',
+    covers: (text, version, options) => options.loose && /\^[v=\s]*0+\.?0*\.?0/.test(text),
+    example: ['^00.2.3', '0.9.0', LOOSE, 'y', 'n'],
+  },
+  {
+    name: 'all versions beside others',
+    covers: (text, version, options) => (options.loose || pieces(text).length > 1) && anyPiece(text, STAR_WORD),
+    example: ['>=0.0.0 || 1.0.0-a', '1.0.0-a', STRICT, 'n', 'y'],
+  },
+  {
+    name: 'at least 0.0.0',
+    covers: (text, version, options) => !options.includePrerelease && /^0\.0\.0-/.test(version) && /\.0+-?[0-9a-zA-Z-]/.test(text),
+    example: ['>=0.0.0 <=0.0.0-a', '0.0.0-a', STRICT, 'y', 'n'],
+  },
+  {
+    name: 'a partial above 256 bytes',
+    covers: text => /[^\s|]{257}/.test(text),
+    example: [many(256, 'v') + '1', '1.0.0', STRICT, 'y', 'x'],
+  },
+  {
+    name: 'a prerelease of 251 characters without its hyphen',
+    covers: (text, version, options) => options.loose && /[^\s|]{256}/.test(text),
+    example: ['~1.2.3' + many(251, 'a'), '1.2.3', LOOSE, 'x', 'y'],
+  },
 ]
 
 // ---- generated texts
 
-let state = 12345
+let state = Number(process.env.NPM_RANGE_SEED || 12345)
 const random = n => {
   state = (Math.imul(state, 1664525) + 1013904223) >>> 0
   return Math.floor((state / 4294967296) * n)
@@ -50,13 +103,27 @@ const partial = () => {
 const OPERATORS = ['', '', '', '>=', '>', '<', '<=', '=', '~', '~>', '^', '^', '>= ', '< ', '~ ', '^ ', '> ', '<= ', '~> ', '= ', '> =', '=<']
 const blank = () => random(20) ? ' ' : pick(['  ', '\t', '\n', ' \r\n', '\f', '\v', '\u00a0', '\u2003', '\ufeff', ' \u3000'])
 const WORDS = ['foo', '-', '|', '&&', ',', '>', '~', 'latest', '1.2.3.4', '>=<1', '~>=1.2', '1.2.3<2', '- 1', '1 -', '1.2.3-', '*1', '1*']
-const word = () => random(30) ? pick(OPERATORS) + partial() : pick(WORDS)
+// Signs with blanks between or none, before a partial: `~ >= 1`, `> =1`.
+const SIGNS = ['<', '>', '=', '>=', '<=', '~', '~>', '^', 'v']
+const signs = () => {
+  let text = pick(SIGNS)
+  for (let i = random(3); i > 0; i--) {
+    text += pick(['', ' ', ' ']) + pick(SIGNS)
+  }
+  return text + pick(['', ' ', ' '])
+}
+const lead = () => random(12) ? pick(OPERATORS) : signs()
+// Digits after a patch, as in `1.2.3.4` and `1.2.34.5`.
+const tail = () => random(60) ? '' : '.' + pick(['0', '4', '10', 'x', 'a'])
+const word = () => random(30) ? lead() + partial() + tail() : pick(WORDS)
+// Most texts are short, and one of a hundred has up to twenty words or pieces.
+const count = few => random(100) ? random(few) : random(20)
 const piece = () => {
   if (!random(6)) {
     return partial() + blank() + '-' + blank() + partial()
   }
   const words = []
-  for (let i = random(15) ? 1 + random(3) : 0; i > 0; i--) {
+  for (let i = random(15) ? 1 + count(3) : 0; i > 0; i--) {
     words.push(word())
   }
   let text = words.join(blank())
@@ -65,7 +132,8 @@ const piece = () => {
 }
 const rangeText = () => {
   let text = piece()
-  while (!random(4)) {
+  let more = random(4) ? 0 : 1 + count(3)
+  for (; more > 0; more--) {
     text += pick(['||', ' || ', '|| ', ' ||', '|||']) + piece()
   }
   return text
@@ -73,6 +141,21 @@ const rangeText = () => {
 const NUMBER = ['0', '0', '1', '1', '2', '3', '10']
 const versionText = () => `${pick(NUMBER)}.${pick(NUMBER)}.${pick(NUMBER)}` +
   pick(['', '', '', '-a', '-0', '-beta.2', '-beta.3', '-rc.1', '-1', '-a.1', '-alpha'])
+
+// ---- short texts
+
+// Each text of at most four of these characters, with a version.
+const ALPHABET = '~^><=v1x.-* |'
+const SHORT_VERSIONS = ['0.0.0', '1.0.0', '1.1.0', '2.0.0', '1.0.0-0']
+function shortTexts() {
+  const texts = []
+  let longest = ['']
+  for (let length = 1; length <= 4; length++) {
+    longest = longest.flatMap(text => [...ALPHABET].map(character => text + character))
+    texts.push(...longest)
+  }
+  return texts.map((text, i) => [text, SHORT_VERSIONS[i % SHORT_VERSIONS.length]])
+}
 
 // ---- texts of the installed packages
 
@@ -138,7 +221,7 @@ function answers(program, form, versions, pairs) {
 }
 
 function compare(program, name, pairs, shown) {
-  const counts = new Map(RULES.map(rule => [rule[0], 0]))
+  const counts = new Map(RULES.map(rule => [rule.name, 0]))
   let agreed = 0
   let wrong = 0
   let admitted = 0
@@ -156,9 +239,9 @@ function compare(program, name, pairs, shown) {
           admitted += wanted === 'y' ? 1 : 0
           return
         }
-        const rule = RULES.find(rule => rule[1](text, version, options))
+        const rule = RULES.find(rule => rule.covers(text, version, options))
         if (rule) {
-          counts.set(rule[0], counts.get(rule[0]) + 1)
+          counts.set(rule.name, counts.get(rule.name) + 1)
           return
         }
         wrong++
@@ -175,26 +258,37 @@ function compare(program, name, pairs, shown) {
   return { wrong, admitted, counts }
 }
 
-const [program, count, shown] = process.argv.slice(2)
+// The examples of the rules: the letters that they say, and no rule without its example.
+function compareExamples(program) {
+  let wrong = 0
+  for (const { name, covers, example: [text, version, options, npm, here] } of RULES) {
+    const form = options.loose ? 'loose' : 'strict'
+    const versions = options.includePrerelease ? 'prereleases' : 'releases'
+    const found = [letter(npmRange(text, options), version), answers(program, form, versions, [[text, version]])]
+    if (found[0] !== npm || found[1] !== here || !covers(text, version, options)) {
+      wrong++
+      console.log(`the example of a rule: ${name}: npm ${found[0]}, here ${found[1]}`)
+    }
+  }
+  return wrong
+}
+
+const [program, size, shown] = process.argv.slice(2)
 const generated = []
-for (let i = 0; i < Number(count); i++) {
+for (let i = 0; i < Number(size); i++) {
   generated.push([rangeText(), versionText()])
 }
 const found = new Set()
 installed(ROOT, found)
 const texts = [...found].sort().filter(text => text.length < 2000)
 const real = texts.flatMap(text => VERSIONS.map(version => [text, version]))
+const short = shortTexts()
 const first = compare(program, `generated, ${generated.length} pairs`, generated, Number(shown))
 const second = compare(program, `installed, ${texts.length} texts`, real, Number(shown))
-let failed = first.wrong + second.wrong
-if (first.admitted * 50 < generated.length || second.admitted === 0) {
+const third = compare(program, `short, ${short.length} texts`, short, Number(shown))
+let failed = first.wrong + second.wrong + third.wrong + compareExamples(program)
+if (first.admitted * 50 < generated.length || second.admitted === 0 || third.admitted === 0) {
   console.log('too few pairs admit: the comparison says nothing')
   failed++
-}
-for (const [rule, times] of first.counts) {
-  if (times === 0 && Number(count) >= 300000) {
-    console.log(`no generated pair shows the rule: ${rule}`)
-    failed++
-  }
 }
 process.exit(failed === 0 ? 0 : 1)

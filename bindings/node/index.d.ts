@@ -1,4 +1,5 @@
 // SPDX-License-Identifier: Apache-2.0
+/// <reference lib="es2015.iterable" />
 
 /** Options as npm has them. Any other value than an object, if it is truthy, means `loose`. Other options are ignored. */
 export interface Options {
@@ -40,14 +41,17 @@ export class SemVer {
 
 /** An operator and a version, as `>=1.2.3`. */
 export class Comparator {
-    static readonly ANY: unique symbol;
+    /** What `semver` is where the comparator admits any version. */
+    static readonly ANY: SemVer & symbol;
     /** Throws a `TypeError` if the text is no comparator. */
     constructor(comparator: string | Comparator, options?: Loose);
     options: Options;
     loose: boolean;
-    operator: '' | '>' | '>=' | '<' | '<=';
-    semver: SemVer | typeof Comparator.ANY;
+    operator: '' | '=' | '>' | '>=' | '<' | '<=';
+    semver: SemVer;
     value: string;
+    /** Sets `operator` and `semver` to those of a text. */
+    parse(comparator: string): void;
     toString(): string;
     test(version: string | SemVer | typeof Comparator.ANY): boolean;
     intersects(comparator: Comparator, options?: Loose): boolean;
@@ -199,8 +203,9 @@ export function leastBeyond(one: string | Range, other: string | Range, options?
 export function leastCommon(one: string | Range, other: string | Range, options?: Loose): SemVer | null;
 
 /** The order of two identifiers: digits by their numbers, and before the others, which are ordered by characters. */
-export function compareIdentifiers(one: string | number, other: string | number): -1 | 0 | 1;
-export function rcompareIdentifiers(one: string | number, other: string | number): -1 | 0 | 1;
+export function compareIdentifiers(one: Identifier, other: Identifier): -1 | 0 | 1;
+export function rcompareIdentifiers(one: Identifier, other: Identifier): -1 | 0 | 1;
+type Identifier = string | number | null | undefined;
 
 /** npm's regular expressions, their sources, and the place of each by its name: `re[tokens.FULL]`. */
 export const re: RegExp[];

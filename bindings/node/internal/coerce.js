@@ -14,10 +14,14 @@ const BUILD = '[a-zA-Z0-9-]{1,250}';
 const MORE = `(?:-(${IDENTIFIER}(?:\\.${IDENTIFIER})*))?(?:\\+(${BUILD}(?:\\.${BUILD})*))?`;
 const END = '(?:$|[^\\d])';
 
+// The numbers alone, and with a prerelease and a build after them; each for one match and for one after the other.
+const [FIRST, FIRST_FULL] = [NUMBERS + END, NUMBERS + MORE + END].map((source) => new RegExp(source));
+const [NEXT, NEXT_FULL] = [FIRST, FIRST_FULL].map(({ source }) => new RegExp(source, 'g'));
+
 // The match that ends last; of those that end at one place, the longest.
-function lastMatch(text, source) {
-    const pattern = new RegExp(source, 'g');
+function lastMatch(text, pattern) {
     let found = null;
+    pattern.lastIndex = 0;
     for (let next = pattern.exec(text); next !== null; next = pattern.exec(text)) {
         const end = (match) => match.index + match[0].length;
         if (found !== null && end(found) === text.length) {
@@ -46,8 +50,8 @@ function coerce(version, options) {
         const found = native.coerce(counted, !!rtl, !!includePrerelease);
         return found === null ? null : parse(found, options);
     }
-    const source = NUMBERS + (includePrerelease ? MORE : '') + END;
-    const match = rtl ? lastMatch(text, source) : new RegExp(source).exec(text);
+    const match = rtl ? lastMatch(text, includePrerelease ? NEXT_FULL : NEXT)
+        : (includePrerelease ? FIRST_FULL : FIRST).exec(text);
     if (match === null) {
         return null;
     }

@@ -46,17 +46,7 @@ class Comparator {
     parse(text) {
         const [, operator, version] = /^([<>]?=?)\s*(.*)$/s.exec(text);
         this.operator = operator === '=' ? '' : operator;
-        this.semver = text === '' ? ANY : this.#read(text, version);
-    }
-
-    #read(text, version) {
-        try {
-            return new SemVer(version, this.loose);
-        } catch (error) {
-            const isForm = error.message?.startsWith('Invalid Version:')
-                || (version.length > LONGEST_VERSION && !(this.loose ? LOOSE_FORM : FORM).test(text));
-            throw isForm ? new TypeError(`Invalid comparator: ${text}`) : error;
-        }
+        this.semver = text === '' ? ANY : readVersion(version, text, this.loose);
     }
 
     toString() {
@@ -93,6 +83,17 @@ class Comparator {
             return comparator.value === '' || admits(this.value, comparator.semver, options);
         }
         return meet(this, comparator, parseOptions(options));
+    }
+}
+
+// The version of a comparator's text.
+function readVersion(version, text, isLoose) {
+    try {
+        return new SemVer(version, isLoose);
+    } catch (error) {
+        const isForm = error.message?.startsWith('Invalid Version:')
+            || (version.length > LONGEST_VERSION && !(isLoose ? LOOSE_FORM : FORM).test(text));
+        throw isForm ? new TypeError(`Invalid comparator: ${text}`) : error;
     }
 }
 

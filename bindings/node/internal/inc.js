@@ -1,33 +1,68 @@
 // SPDX-License-Identifier: Apache-2.0
-// The next version: the library's bump; and npm's own steps for identifiers that SemVer does not have, as `beta.1`, and
-// for texts of digits, which npm does not take for numbers here.
+// The next version. Of a text the library makes it. A SemVer, which is changed in place, takes npm's own steps, and so do
+// identifiers that SemVer does not have, as `beta.1`, and texts of digits, which npm does not take for numbers here.
 'use strict';
 
 const native = require('./native.js');
 const { BUMPS } = require('./bumps.js');
 const { caught } = require('./errors.js');
 const { compareIdentifiers } = require('./identifiers.js');
-const { SemVer, identifierOf } = require('./semver.js');
+const { SemVer } = require('./semver.js');
 const { trimmedVersion } = require('./texts.js');
 
-const NUMBERS = new Map(BUMPS.map((name, number) => [name, number]).slice(1));
-const RELEASES = ['major', 'minor', 'patch'];
-
-// The number after an identifier, by the numbers of node_semver.h.
-const NO_BASE = 2;
-const numberOf = (identifierBase) => (Number(identifierBase) ? 1 : 0);
-const baseOf = (identifierBase) => (identifierBase === false ? NO_BASE : numberOf(identifierBase));
-
-// What the native part returns where there is no bumped version.
-const REASONS = new Map([[7, 'identifier is empty'], [8, 'identifier already exists']]);
 const invalid = (reason) => new Error(`invalid increment argument: ${reason}`);
 
-// Whether the library and npm have the same of an identifier: a number, or a text of letters, digits and hyphens that is
-// more than digits.
-const isWord = (value) => typeof value === 'string' && /^(?=\d*[a-zA-Z-])[a-zA-Z0-9-]+$/.test(value);
-const isKnown = (value) => (typeof value === 'number' ? Number.isSafeInteger(value) && value >= 0 : isWord(value));
+// The number after an identifier.
+const numberOf = (identifierBase) => (Number(identifierBase) ? 1 : 0);
 
-// ---- npm's steps ----
+// ---- a SemVer ----
+
+// What the release types do with the three numbers.
+function raiseMajor(semVer) {
+    if (semVer.minor !== 0 || semVer.patch !== 0 || semVer.prerelease.length === 0) {
+        semVer.major++;
+    }
+    semVer.minor = 0;
+    semVer.patch = 0;
+}
+
+function raiseMinor(semVer) {
+    if (semVer.patch !== 0 || semVer.prerelease.length === 0) {
+        semVer.minor++;
+    }
+    semVer.patch = 0;
+}
+
+function raisePatch(semVer) {
+    if (semVer.prerelease.length === 0) {
+        semVer.patch++;
+    }
+}
+
+// The same as if there were no prerelease.
+const anew = (call) => (semVer) => {
+    semVer.prerelease = [];
+    call(semVer);
+};
+
+// What a release type without a prerelease does with the numbers; `undefined` for another one.
+function numbersRaiser(release) {
+    switch (release) {
+        case 'major': return raiseMajor;
+        case 'minor': return raiseMinor;
+        case 'patch': return raisePatch;
+        default: return undefined;
+    }
+}
+
+// Those with a prerelease, and whether it follows that of the old version.
+const PRERELEASES = new Map([
+    ['premajor', { raiseNumbers: anew(raiseMajor), isNext: false }],
+    ['preminor', { raiseNumbers: anew(raiseMinor), isNext: false }],
+    ['prepatch', { raiseNumbers: anew(raisePatch), isNext: false }],
+    ['prerelease', { raiseNumbers: raisePatch, isNext: true }],
+    ['pre', { raiseNumbers: () => {}, isNext: true }],
+]);
 
 // The list with its last number raised; without one, with the number `base` after it.
 function withNextNumber(identifiers, base) {
@@ -40,11 +75,11 @@ function withNextNumber(identifiers, base) {
 function nextPrerelease(before, identifier, identifierBase) {
     const base = numberOf(identifierBase);
     if (!identifier && identifierBase === false) {
-        throw invalid(REASONS.get(7));
+        throw invalid('identifier is empty');
     }
     const isSame = identifierBase === false && before.length > 0 && identifier === before.join('.');
     if (isSame && !before.some((value) => typeof value === 'number')) {
-        throw invalid(REASONS.get(8));
+        throw invalid('identifier already exists');
     }
     const next = withNextNumber(before, base);
     if (!identifier || (compareIdentifiers(next[0], identifier) === 0 && !isNaN(next[1]))) {
@@ -53,49 +88,41 @@ function nextPrerelease(before, identifier, identifierBase) {
     return identifierBase === false ? [identifier] : [identifier, base];
 }
 
-// ---- a SemVer ----
-
-// Puts the three numbers of the bumped version of a text, and returns its print.
-function putTriple(semVer, text, number, identifier, base, release) {
-    const found = native.bump(text, number, identifier, base);
-    if (typeof found !== 'string') {
-        throw invalid(REASONS.get(found) ?? release);
-    }
-    [semVer.major, semVer.minor, semVer.patch] = native.triple;
-    return found;
-}
-
-const tripleOf = ({ major, minor, patch }) => `${major}.${minor}.${patch}`;
-
 function raisePrerelease(semVer, release, identifier, identifierBase) {
-    const number = NUMBERS.get(release);
-    const { prerelease } = semVer;
-    if (prerelease.every(isKnown) && (!identifier || isWord(identifier))) {
-        const text = tripleOf(semVer) + (prerelease.length ? `-${prerelease.join('.')}` : '');
-        const found = putTriple(semVer, text, number, identifier || '', baseOf(identifierBase), release);
-        return found.slice(found.indexOf('-') + 1).split('.').map(identifierOf);
+    const type = PRERELEASES.get(release);
+    if (type === undefined) {
+        throw invalid(release);
     }
-    const isAnew = release.length > 3 && release !== 'prerelease';
-    const next = nextPrerelease(isAnew ? [] : prerelease, identifier, identifierBase);
-    putTriple(semVer, tripleOf(semVer) + (prerelease.length ? '-0' : ''), number, '', 0, release);
-    return next;
+    const prerelease = nextPrerelease(type.isNext ? semVer.prerelease : [], identifier, identifierBase);
+    type.raiseNumbers(semVer);
+    semVer.prerelease = prerelease;
 }
 
 // Raises a SemVer in place. Its build stays.
 function raise(semVer, release, identifier, identifierBase) {
-    const number = NUMBERS.get(release);
-    if (number === undefined) {
-        throw invalid(release);
-    }
-    if (RELEASES.includes(release)) {
-        putTriple(semVer, tripleOf(semVer) + (semVer.prerelease.length ? '-0' : ''), number, '', 0, release);
+    const raiseNumbers = numbersRaiser(release);
+    if (raiseNumbers !== undefined) {
+        raiseNumbers(semVer);
         semVer.prerelease = [];
     } else {
-        semVer.prerelease = raisePrerelease(semVer, release, identifier, identifierBase);
+        raisePrerelease(semVer, release, identifier, identifierBase);
     }
-    semVer.raw = semVer.format() + (semVer.build.length ? `+${semVer.build.join('.')}` : '');
+    const version = semVer.format();
+    semVer.raw = semVer.build.length === 0 ? version : `${version}+${semVer.build.join('.')}`;
     return semVer;
 }
+
+// ---- a text ----
+
+const NUMBERS = new Map(BUMPS.map((name, number) => [name, number]).slice(1));
+
+// The number after an identifier, by the numbers of node_semver.h.
+const NO_BASE = 2;
+const baseOf = (identifierBase) => (identifierBase === false ? NO_BASE : numberOf(identifierBase));
+
+// Whether the library and npm have the same of an identifier: a text of letters, digits and hyphens that is more than
+// digits.
+const isWord = (value) => typeof value === 'string' && /^(?=\d*[a-zA-Z-])[a-zA-Z0-9-]+$/.test(value);
 
 // The length of the shortest text with a number that JavaScript does not have.
 const LONG = '0.0.0-9007199254740992'.length;

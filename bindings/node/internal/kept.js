@@ -5,10 +5,12 @@
 const native = require('./native.js');
 const { trimmedRange } = require('./texts.js');
 
-// How many ranges the native part keeps, at most `PLACES` of src/binding.h, and the greatest length of a text that is
-// kept.
+// How many ranges the native part keeps, `PLACES` of src/binding.h, and the greatest length of a text that is kept.
 const PLACES = 512;
 const LONGEST_KEPT = 128;
+
+// The places of this load of the package. The native part frees them with this object.
+const table = native.makeTable();
 
 const REFUSED = -1;
 
@@ -23,7 +25,7 @@ let newer = emptyHalf();
 let next = 0;
 
 // The print of the range at each place, which is made when it is asked for.
-const prints = Array(PLACES).fill(undefined);
+const prints = new Map();
 
 // The place of a range text that is read with such options, from now on if it was not kept; or -1; or `undefined` for a
 // text that is too long. The next text that is kept may take the place, so nothing runs between this and the call that
@@ -40,11 +42,11 @@ const keptKey = (text, flags, isTrimmed) => placeOf(text, flags, isTrimmed) ?? t
 const textKey = (text, flags) => `${flags}${text}`;
 
 function keep(text, flags, isTrimmed) {
-    const place = next;
+    const place = table.first + next;
     const found = native.keep(place, isTrimmed ? text : trimmedRange(text), flags) ? place : REFUSED;
-    prints[place] = undefined;
+    prints.delete(place);
     newer[flags][text] = found;
-    next = (place + 1) % PLACES;
+    next = (next + 1) % PLACES;
     if (next % HALF === 0) {
         older = newer;
         newer = emptyHalf();

@@ -6,8 +6,10 @@
 const native = require('./native.js');
 const { parseOptions } = require('./options.js');
 const { callKey, rangeOf } = require('./range.js');
-const { SemVer, compareVersions, keyOfSemVer, versionKey } = require('./semver.js');
-const { LONGEST_VERSION, strictText } = require('./texts.js');
+const {
+    SemVer, compareSemVersWithBuilds, compareVersions, compareWithBuilds, keyOfSemVer,
+} = require('./semver.js');
+const { LONGEST_VERSION, strictText, trimmedVersion } = require('./texts.js');
 
 // A string may have at most 2^29 characters. Versions with more are compared one by one.
 const MOST_LINES = 2 ** 28;
@@ -22,8 +24,8 @@ function line(key) {
 
 // ---- sort ----
 
-const byBuild = (options) => (one, other) => compareVersions(one, other, options, native.compareBuild);
-const byBuildDown = (options) => (one, other) => compareVersions(other, one, options, native.compareBuild);
+const byBuild = (options) => (one, other) => compareWithBuilds(one, other, options);
+const byBuildDown = (options) => (one, other) => compareWithBuilds(other, one, options);
 const sortArray = Array.prototype.sort;
 
 // The elements of an array but `undefined`, and how many places have an element.
@@ -45,8 +47,11 @@ function elements(list) {
 
 // The key of a version of a list. Throws if it is neither a text nor a SemVer.
 function keyOf(version, options) {
-    const key = versionKey(version) ?? keyOfSemVer(new SemVer(version, options));
-    return options && typeof version === 'string' && parseOptions(options).loose ? strictText(key) || key : key;
+    if (typeof version !== 'string') {
+        return keyOfSemVer(new SemVer(version, options));
+    }
+    const key = trimmedVersion(version);
+    return options && parseOptions(options).loose ? strictText(key) || key : key;
 }
 
 // The lines of versions, or `undefined` if they cannot be written so.
@@ -62,25 +67,42 @@ function linesOf(versions, options) {
     return lines;
 }
 
+const isVersion = (version) => typeof version === 'string' || version instanceof SemVer;
+
+// The places of versions in their order: of SemVers by their fields, else as the library finds it; or `undefined`.
+function placesInOrder(versions, options, isDescending) {
+    if (versions.every((version) => version instanceof SemVer)) {
+        const read = versions.map((version) => new SemVer(version, options));
+        const places = read.map((_, place) => place);
+        return places.sort(isDescending ? (one, other) => compareSemVersWithBuilds(read[other], read[one])
+            : (one, other) => compareSemVersWithBuilds(read[one], read[other]));
+    }
+    const lines = versions.every(isVersion) ? linesOf(versions, options) : undefined;
+    const order = lines === undefined ? undefined : native.order(lines, isDescending);
+    return typeof order === 'object' ? order : undefined;
+}
+
 // The versions in order.
 function ordered(versions, options, isDescending) {
-    const lines = versions.length > 1 ? linesOf(versions, options) : undefined;
-    const order = lines === undefined ? undefined : native.order(lines, isDescending);
-    if (typeof order !== 'object') {
+    const places = versions.length > 1 ? placesInOrder(versions, options, isDescending) : undefined;
+    if (places === undefined) {
         return versions.sort((isDescending ? byBuildDown : byBuild)(options));
     }
     const list = [];
-    for (let i = 0; i < order.length; i++) {
-        list.push(versions[order[i]]);
+    for (let i = 0; i < places.length; i++) {
+        list.push(versions[places[i]]);
     }
     return list;
 }
 
 // Sorts in place, as npm does: builds too, equal versions in the order in which they stood, then `undefined`, and last
-// the places without an element.
+// the places without an element. A list of one place is not read.
 function sorted(list, options, isDescending) {
     if (!Array.isArray(list) || list.sort !== sortArray) {
         return list.sort((isDescending ? byBuildDown : byBuild)(options));
+    }
+    if (list.length < 2) {
+        return list;
     }
     const { values, count, length } = elements(list);
     const versions = ordered(values, options, isDescending);

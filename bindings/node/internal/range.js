@@ -14,9 +14,19 @@ const { readAlternative, readSet, refusal, setOf } = require('./words.js');
 // The kinds of cuts, by their numbers in node_semver.h.
 const KINDS = ['start', 'before', 'after', 'end'];
 
+// What stands for `||` in a text without alternatives, and in no comparator.
+const BAR = '\0';
+
+// A word with it, whose operator is joined with a partial that follows.
+const APART = /(\0[^ ]*[<>=~^]) (?=[v=]*[\dxX*])/g;
+
 let keyOfRange;
 let callKey;
 let rangeOfKey;
+let own;
+
+// The Ranges that stand in for copies.
+const standIns = new WeakMap();
 
 // Marks a constructor's call that passes a key, and not what a user passed.
 const MADE = Symbol('made');
@@ -42,13 +52,17 @@ class Range {
         this.#flags = flagsOf(this);
         this.#isMade = made === MADE;
         if (made === MADE) {
-            this.raw = native.rangeText(range);
             this.#held = range;
+            if (typeof range === 'string') {
+                this.raw = native.rangeText(range);
+            } else {
+                printLater(this, range);
+            }
         } else {
             this.raw = typeof range === 'string' ? trimmedRange(range) : textOfRange(range);
+            this.#text = this.raw;
             this.#read();
         }
-        this.#text = this.raw;
     }
 
     // Reads the text, which the native part keeps, or this object holds.
@@ -62,8 +76,17 @@ class Range {
     }
 
     static {
-        callKey = (range) => range.#held ?? keptKey(range.#text, range.#flags, true);
-        keyOfRange = (range) => range.#held ?? textKey(range.#text, range.#flags);
+        // A deep copy, an object that inherits from a Range and a proxy have no private fields: a Range of their text
+        // stands in.
+        own = (range) => (#text in range ? range : standIn(range));
+        callKey = (range) => {
+            const mine = own(range);
+            return mine.#held ?? keptKey(mine.#text, mine.#flags, true);
+        };
+        keyOfRange = (range) => {
+            const mine = own(range);
+            return mine.#held ?? textKey(mine.#text, mine.#flags);
+        };
         rangeOfKey = (key, options) => (key === null ? null : new Range(key, options, MADE));
     }
 
@@ -84,27 +107,27 @@ class Range {
 
     // npm's comparators, which are made when they are first asked for.
     get set() {
-        this.#set ??= this.#isMade ? setOf(keyOfRange(this), this.options)
-            : readSet(this.#text, this.#flags, this.options);
-        return this.#set;
+        const mine = own(this);
+        mine.#set ??= mine.#isMade ? setOf(keyOfRange(mine), mine.options) : readSet(mine.#text, mine.#flags, mine.options);
+        return mine.#set;
     }
 
     set set(value) {
-        this.#set = value;
+        own(this).#set = value;
     }
 
     get range() {
-        this.#range ??= this.format();
-        return this.#range;
+        return own(this).#range ?? this.format();
     }
 
     set range(value) {
-        this.#range = value;
+        own(this).#range = value;
     }
 
     format() {
-        this.#range = this.set.map((comparators) => comparators.join(' ').trim()).join('||').trim();
-        return this.#range;
+        const text = this.set.map((comparators) => comparators.join(' ').trim()).join('||').trim();
+        own(this).#range = text;
+        return text;
     }
 
     toString() {
@@ -117,11 +140,13 @@ class Range {
         return { options, loose, includePrerelease, raw, set, range };
     }
 
-    // The comparators of a text without `||`.
+    // The comparators of a text without `||`: a word with it is none.
     parseRange(range) {
-        const comparators = readAlternative(range.trim(), this.#flags, this.options);
+        const flags = flagsOf(this);
+        const text = trimmedRange(range).replaceAll('||', BAR).replace(APART, '$1');
+        const comparators = readAlternative(text, flags, this.options);
         if (comparators.length === 0 && !this.loose) {
-            throw new TypeError(refusal(range, this.#flags));
+            throw new TypeError(refusal(text, flags).replaceAll(BAR, '||'));
         }
         return comparators;
     }
@@ -145,6 +170,23 @@ class Range {
             && range.set.some((theirs) => isSatisfiable(theirs, options)
                 && ours.every((one) => theirs.every((other) => one.intersects(other, options)))));
     }
+}
+
+// Gives a Range that was made of others its text when it is first asked for, since it may be long.
+function printLater(range, key) {
+    const put = (value) => Object.defineProperty(range, 'raw', { value, enumerable: true, configurable: true, writable: true });
+    const get = () => put(native.rangeText(key)).raw;
+    Object.defineProperty(range, 'raw', { get, set: put, enumerable: true, configurable: true });
+}
+
+// The Range of the text of an object that has no private fields.
+function standIn(range) {
+    let found = standIns.get(range);
+    if (found === undefined) {
+        found = new Range(range.raw, range.options);
+        standIns.set(range, found);
+    }
+    return found;
 }
 
 // Whether the comparators of an alternative meet in pairs.

@@ -31,8 +31,12 @@ function keptPrint(text, place, flags) {
     if (place === REFUSED) {
         return null;
     }
-    prints[place] ??= printOf(text, optionsOf(flags));
-    return prints[place];
+    let print = prints.get(place);
+    if (print === undefined) {
+        print = printOf(text, optionsOf(flags));
+        prints.set(place, print);
+    }
+    return print;
 }
 
 function validRange(range, options) {
@@ -95,8 +99,18 @@ const intersects = (one, other, options) => new Range(one, options).intersects(n
 // The keys of two ranges. Throws where one is none.
 const both = (one, other, options) => [keyOfRange(new Range(one, options)), keyOfRange(new Range(other, options))];
 
-const intersect = (one, other, options) => rangeOfKey(native.intersect(...both(one, other, options)), options);
-const difference = (one, other, options) => rangeOfKey(native.difference(...both(one, other, options)), options);
+// The range that the native part makes of two, or null. It makes none of more than 1,000,000 pairs of sets.
+function madeOf(call, one, other, options) {
+    const key = call(...both(one, other, options));
+    if (key === undefined) {
+        throw Object.assign(new RangeError('the two ranges have more than 1,000,000 pairs of sets'),
+            { code: 'ERR_OUT_OF_RANGE' });
+    }
+    return rangeOfKey(key, options);
+}
+
+const intersect = (one, other, options) => madeOf(native.intersect, one, other, options);
+const difference = (one, other, options) => madeOf(native.difference, one, other, options);
 
 const leastBeyond = (one, other, options) => semVerOfKey(native.leastBeyond(...both(one, other, options)));
 const leastCommon = (one, other, options) => semVerOfKey(native.leastCommon(...both(one, other, options)));

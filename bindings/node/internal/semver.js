@@ -3,6 +3,7 @@
 'use strict';
 
 const native = require('./native.js');
+const { compareIdentifiers } = require('./identifiers.js');
 const { parseOptions } = require('./options.js');
 const { LONGEST_VERSION, strictText, trimmedVersion, withoutBuild, withoutV } = require('./texts.js');
 
@@ -93,28 +94,23 @@ class SemVer {
             }
             other = new SemVer(other, this.options);
         }
-        return other.version === this.version ? 0 : compareKeys(this, other, native.compare);
+        return compareSemVers(this, other);
     }
 
     compareMain(other) {
-        const { major, minor, patch } = this.#read(other);
-        return Math.sign(this.major - major) || Math.sign(this.minor - minor) || Math.sign(this.patch - patch);
+        return compareTriples(this, semVerOf(other, this));
     }
 
     comparePre(other) {
-        const { prerelease } = this.#read(other);
-        return compareKeys(zeroWith('-', this.prerelease), zeroWith('-', prerelease), native.compare);
+        return comparePrereleases(this, semVerOf(other, this));
     }
 
     compareBuild(other) {
-        const { build } = this.#read(other);
-        return compareKeys(zeroWith('+', this.build), zeroWith('+', build), native.compareBuild);
-    }
-
-    #read(other) {
-        return other instanceof SemVer ? other : new SemVer(other, this.options);
+        return compareBuilds(this, semVerOf(other, this));
     }
 }
+
+const semVerOf = (version, { options }) => (version instanceof SemVer ? version : new SemVer(version, options));
 
 // The text of an object that is passed for a version: a SemVer of this package with other options, or of npm's package.
 function textOfSemVer(version) {
@@ -139,12 +135,11 @@ function refusal(text, isLoose) {
     return place < 0 ? `Invalid Version: ${text}` : `Invalid ${['major', 'minor', 'patch'][place]} version`;
 }
 
-// `0.0.0` with some identifiers.
-const zeroWith = (before, identifiers) => `0.0.0${identifiers.length ? before + identifiers.join('.') : ''}`;
-
 // The text of a SemVer as its fields stand, which a user may have changed.
-const textWithoutBuild = ({ major, minor, patch, prerelease }) =>
-    `${major}.${minor}.${patch}${prerelease.length ? `-${prerelease.join('.')}` : ''}`;
+function textWithoutBuild({ major, minor, patch, prerelease }) {
+    const triple = `${major}.${minor}.${patch}`;
+    return prerelease.length === 0 ? triple : `${triple}-${prerelease.join('.')}`;
+}
 const textOf = (semVer) => `${textWithoutBuild(semVer)}${semVer.build.length ? `+${semVer.build.join('.')}` : ''}`;
 
 const isWritten = ({ major, minor, patch }, text) => text.length <= LONGEST_VERSION
@@ -157,34 +152,101 @@ function keyOfSemVer(semVer) {
 }
 const semVerOfKey = (key, options) => (key === null ? null : new SemVer(key, options, MADE));
 
-// The key of an argument for a version; `undefined` if it is neither a text nor a SemVer.
-function versionKey(version) {
-    if (typeof version === 'string') {
-        return trimmedVersion(version);
+// ---- the order ----
+
+// What `native.compare`, `native.compareBuild` and `native.diff` return from here on where one of the two is no version.
+const FIRST_REFUSED = 16;
+
+const LAST_DIGIT = 57;
+
+// Whether an identifier begins with a letter, so that it is no number.
+const isWord = (identifier) => typeof identifier === 'string' && identifier.charCodeAt(0) > LAST_DIGIT;
+const isDigits = (identifier) => /^\d+$/.test(identifier);
+
+const isText = (identifier) => typeof identifier === 'string' && isDigits(identifier);
+const isNumber = (value) => Number.isSafeInteger(value) && value >= 0;
+
+// The order of two numbers of versions. A user may have put other values into a SemVer.
+function compareNumbers(one, other) {
+    if (!isNumber(one) || !isNumber(other)) {
+        return compareIdentifiers(one, other);
     }
-    return version instanceof SemVer ? keyOfSemVer(version) : undefined;
+    return one === other ? 0 : one < other ? -1 : 1;
 }
 
-// Compares two SemVers, or the texts of two versions.
-function compareKeys(one, other, call) {
-    const result = call(keyOf(one), keyOf(other));
-    if (result > 1) {
-        throw new TypeError(`Invalid Version: ${result === 2 ? one : other}`);
-    }
-    return result;
+// The order of two identifiers of digits that are texts, since JavaScript may not have their numbers.
+function compareDigits(one, other) {
+    const order = native.compareBuild(`0.0.0+${one}`, `0.0.0+${other}`);
+    return order < FIRST_REFUSED ? order : compareIdentifiers(one, other);
 }
 
-const keyOf = (version) => (typeof version === 'string' ? version : keyOfSemVer(version));
-
-// -1, 0 or 1. Throws where one of the two is no version.
-function compareVersions(one, other, options, call = native.compare) {
-    if (typeof one === 'string' && typeof other === 'string') {
-        const result = call(trimmedVersion(one), trimmedVersion(other));
-        if (result <= 1) {
-            return result;
+// The order of two lists of identifiers, by the first two that differ.
+function compareLists(one, other) {
+    const length = Math.min(one.length, other.length);
+    for (let i = 0; i < length; i++) {
+        const left = one[i];
+        const right = other[i];
+        if (left !== right) {
+            if (isWord(left) && isWord(right)) {
+                return left < right ? -1 : 1;
+            }
+            const areTexts = isText(left) && isText(right);
+            const order = areTexts ? compareDigits(left, right) : compareNumbers(left, right);
+            if (order !== 0 || !areTexts) {
+                return order;
+            }
         }
     }
-    return compareKeys(new SemVer(one, options), new SemVer(other, options), call);
+    return Math.sign(one.length - other.length);
 }
 
-module.exports = { SemVer, identifierOf, semVerOfKey, keyOfSemVer, versionKey, compareVersions };
+const compareTriples = (one, other) => compareNumbers(one.major, other.major) || compareNumbers(one.minor, other.minor)
+    || compareNumbers(one.patch, other.patch);
+
+// A version without a prerelease is above those with one.
+const comparePrereleases = ({ prerelease: one }, { prerelease: other }) => (one.length === 0 || other.length === 0
+    ? Math.sign(other.length - one.length) : compareLists(one, other));
+
+const compareBuilds = ({ build: one }, { build: other }) => compareLists(one, other);
+
+// Whether JavaScript has the numbers of a version exactly.
+const isExact = ({ major, minor, patch }) => !(Math.max(major, minor, patch) > Number.MAX_SAFE_INTEGER);
+
+// The order of two SemVers by their fields; versions of the same text are equal. The library compares the versions that no
+// text writes.
+function compareSemVers(one, other) {
+    if (one.version === other.version) {
+        return 0;
+    }
+    if (!isExact(one) && !isExact(other)) {
+        const order = native.compare(keyOfSemVer(one), keyOfSemVer(other));
+        if (order < FIRST_REFUSED) {
+            return order;
+        }
+    }
+    return compareTriples(one, other) || comparePrereleases(one, other);
+}
+
+const compareSemVersWithBuilds = (one, other) => compareSemVers(one, other) || compareBuilds(one, other);
+
+// Of texts the library is asked, others are compared as SemVers. Throws where one of the two is no version.
+function compareBy(one, other, options, call, compareThem) {
+    if (typeof one === 'string' && typeof other === 'string') {
+        const order = call(trimmedVersion(one), trimmedVersion(other));
+        if (order < FIRST_REFUSED) {
+            return order;
+        }
+    }
+    return compareThem(new SemVer(one, options), new SemVer(other, options));
+}
+
+const compareVersions = (one, other, options) => compareBy(one, other, options, native.compare, compareSemVers);
+
+// The build counts where two versions are equal.
+const compareWithBuilds = (one, other, options) => compareBy(one, other, options, native.compareBuild,
+    compareSemVersWithBuilds);
+
+module.exports = {
+    FIRST_REFUSED, SemVer, identifierOf, semVerOfKey, keyOfSemVer, compareSemVers, compareSemVersWithBuilds,
+    compareVersions, compareWithBuilds,
+};

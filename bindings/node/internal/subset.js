@@ -44,8 +44,8 @@ function isVersionInside({ semver }, { lower, upper }, dom, options) {
 }
 
 // Whether an end of the one alternative is a prerelease for which the other has no comparator of the same three numbers.
-function lacksPrerelease(end, dom, options) {
-    if (!end || options.includePrerelease || end.semver.prerelease.length === 0) {
+function lacksPrerelease(end, dom) {
+    if (!end || end.semver.prerelease.length === 0) {
         return false;
     }
     const { prerelease: identifiers } = end.semver;
@@ -67,6 +67,7 @@ function isEndInside(end, sign, isSide, dom, options) {
 
 // Whether the ends of the one alternative lie inside the other.
 function areEndsInside({ lower, upper, isOne }, dom, options) {
+    const { includePrerelease } = options;
     if ((lower && !isEndInside(lower, 1, isLower, dom, options))
         || (upper && !isEndInside(upper, -1, isUpper, dom, options))) {
         return false;
@@ -77,7 +78,7 @@ function areEndsInside({ lower, upper, isOne }, dom, options) {
     if (!isOne && ((lower && !upper && dom.some(isUpper)) || (upper && !lower && dom.some(isLower)))) {
         return false;
     }
-    return !lacksPrerelease(lower, dom, options) && !lacksPrerelease(upper, dom, options);
+    return includePrerelease || (!lacksPrerelease(lower, dom) && !lacksPrerelease(upper, dom));
 }
 
 // Whether one alternative lies inside another; null if it admits nothing.
@@ -85,8 +86,7 @@ function isInside(sub, dom, options) {
     if (isAny(dom) && (isAny(sub) || options.includePrerelease)) {
         return true;
     }
-    const least = options.includePrerelease ? prerelease : release;
-    const ours = isAny(sub) ? least : sub;
+    const ours = !isAny(sub) ? sub : options.includePrerelease ? prerelease : release;
     const theirs = isAny(dom) ? release : dom;
     const ends = { lower: highest(ours, options), upper: lowest(ours, options) };
     const versions = ours.filter(({ operator }) => operator === '');

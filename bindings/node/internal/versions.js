@@ -5,7 +5,7 @@
 const native = require('./native.js');
 const { BUMPS } = require('./bumps.js');
 const { caught } = require('./errors.js');
-const { SemVer, compareVersions, keyOfSemVer } = require('./semver.js');
+const { FIRST_REFUSED, SemVer, compareSemVers, compareVersions, compareWithBuilds } = require('./semver.js');
 const { trimmedVersion, withoutBuild, withoutV } = require('./texts.js');
 
 function parse(version, options, throwErrors = false) {
@@ -51,7 +51,7 @@ function prerelease(version, options) {
 const compare = (one, other, options) => compareVersions(one, other, options);
 
 // The build counts where two versions are equal.
-const compareBuild = (one, other, options) => compareVersions(one, other, options, native.compareBuild);
+const compareBuild = (one, other, options) => compareWithBuilds(one, other, options);
 
 const rcompare = (one, other, options) => compare(other, one, options);
 const compareLoose = (one, other) => compare(one, other, true);
@@ -78,9 +78,33 @@ function cmp(one, operator, other, options) {
     return call(one, other, options);
 }
 
+// ---- the release type between two versions ----
+
+const NUMBERS = ['major', 'minor', 'patch'];
+
+// npm's steps.
+function diffOf(one, other) {
+    const order = compareSemVers(one, other);
+    if (order === 0) {
+        return null;
+    }
+    const [high, low] = order > 0 ? [one, other] : [other, one];
+    if (low.prerelease.length > 0 && high.prerelease.length === 0) {
+        return !low.patch && !low.minor ? 'major' : high.patch ? 'patch' : high.minor ? 'minor' : 'major';
+    }
+    const name = NUMBERS.find((number) => one[number] !== other[number]);
+    return high.prerelease.length === 0 ? name : name === undefined ? 'prerelease' : `pre${name}`;
+}
+
+// Of two texts the library says it.
 function diff(one, other) {
-    const keys = [parse(one, null, true), parse(other, null, true)].map(keyOfSemVer);
-    return BUMPS[native.diff(...keys)];
+    if (typeof one === 'string' && typeof other === 'string') {
+        const found = native.diff(trimmedVersion(one), trimmedVersion(other));
+        if (found < FIRST_REFUSED) {
+            return BUMPS[found];
+        }
+    }
+    return diffOf(parse(one, null, true), parse(other, null, true));
 }
 
 module.exports = {

@@ -14,9 +14,6 @@ const { withoutBuild } = require('./texts.js');
 // The kinds of cuts, by their numbers in node_semver.h.
 const [BEFORE, AFTER] = [1, 2];
 
-// The leads of a comparator. One that stands alone takes the next text between blanks.
-const LEAD = /^(?:[<>]=?|=|~>?|\^)$/;
-
 // The comparators of a set, of which the native part gives the kinds of its two cuts and the keys of their versions.
 function comparatorsOf([lower, from, upper, to], options) {
     if (lower === BEFORE && upper === AFTER && typeof from === 'string' && withoutBuild(from) === withoutBuild(to)) {
@@ -38,6 +35,17 @@ const ODD_ZERO = /^[^~^]*0+\.0+\.0+(?:-0+)?\+|^[^\dxX*]*(?:(?:0+\.){0,2}00|0+\.0
 // Whether the library reads a text as a partial.
 const isPartial = (text, flags) => native.sets(textKey(`^${text}`, flags)) !== null;
 
+// Whether the library drops the blank between two texts: after an operator, by what follows it.
+function isJoined(text, next) {
+    if (/[~^]$/.test(text)) {
+        return true;
+    }
+    if (text.endsWith('~>')) {
+        return !/^[v=]*$/.test(next);
+    }
+    return /(?:[<>]|(?<![v=])=)$/.test(text) && /^[v=]*[\dxX*]/.test(next);
+}
+
 // The words of an alternative, as the library divides it. The two sides of a hyphen range are words, each with a star on
 // its other side.
 function wordsOf(alternative, flags) {
@@ -45,9 +53,13 @@ function wordsOf(alternative, flags) {
     if (texts.length === 3 && texts[1] === '-' && isPartial(texts[0], flags) && isPartial(texts[2], flags)) {
         return [`${texts[0]} - *`, `* - ${texts[2]}`];
     }
-    const words = [];
-    for (let i = 0; i < texts.length; i++) {
-        words.push(LEAD.test(texts[i]) && i + 1 < texts.length ? `${texts[i]} ${texts[++i]}` : texts[i]);
+    const words = [texts[0]];
+    for (let i = 1; i < texts.length; i++) {
+        if (isJoined(texts[i - 1], texts[i])) {
+            words.push(`${words.pop()} ${texts[i]}`);
+        } else {
+            words.push(texts[i]);
+        }
     }
     return words;
 }

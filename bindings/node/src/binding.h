@@ -72,7 +72,7 @@ node_semver_status read_version(const char *text, size_t length, node_semver_ver
 void let_version_go(struct version *version);
 napi_value version_key(napi_env env, node_semver_version version);
 
-/* The key of a range may also be the number of a place where it is kept; an empty place is refused. */
+/* The key of a range may also be the number of a place where it is kept; a place that is empty or not there is refused. */
 node_semver_status get_range(napi_env env, napi_value key, struct range *range);
 node_semver_status get_range_text(napi_env env, napi_value text, struct range *range);
 
@@ -96,12 +96,13 @@ napi_value held_range(napi_env env, const struct range *range);
 
 /* ---- state.c ---- */
 
-#define PLACES 512u
-
-/* What an environment has for itself, since each worker thread has its own: the ranges that are kept, and the triple of
- * the version that was read last, in an array of JavaScript that is as old as the environment. */
+/* What an environment has for itself, since each worker thread has its own: the tables of the ranges that are kept, by
+ * their numbers, NULL where one is freed; and the triple of the version that was read last, in an array of JavaScript
+ * that is as old as the environment. The environment and each table use it. */
 struct state {
-    struct range places[PLACES];
+    struct table **tables;
+    uint32_t count;
+    uint32_t users;
     double *triple;
     napi_ref array;
 };
@@ -110,7 +111,17 @@ struct state {
 bool make_state(napi_env env, napi_value exports);
 struct state *state_of(napi_env env);
 
+/* Frees the state when its last user lets it go. */
+void let_state_go(struct state *state);
+
 /* ---- kept.c ---- */
+
+/* How many places a table has. */
+#define PLACES 512u
+
+/* makeTable(): an object with a table of places of its own, which is freed with it. Its `first` is the number of the first
+ * place. */
+napi_value make_table(napi_env env, napi_callback_info info);
 
 /* The range at a place. It stays there until the next call of `keep`. */
 node_semver_status kept_range(napi_env env, uint32_t number, struct range *range);

@@ -12,6 +12,9 @@ struct held {
     bool includes_prereleases;
 };
 
+/* How many sets a range has at most that is printed for its key. */
+#define MOST_PRINTED 64u
+
 /* Node keeps a tag with each of these objects, which no other package and no JavaScript can put on an object. */
 static const napi_type_tag version_tag = {0x6d1f0c5e8a2b4973, 0xb5e09d3c7142f68a};
 static const napi_type_tag range_tag = {0x2c84e7b1930d5f6a, 0x97a3d05b4e6c18f2};
@@ -208,8 +211,8 @@ static napi_value text_key(napi_env env, const struct range *range) {
     return result != NULL ? result : out_of_memory(env);
 }
 
-/* Takes the range, in the same way. */
-napi_value range_key(napi_env env, const struct range *range) {
+/* The key that a print gives, where the print is read as the same range; else an object. */
+static napi_value printed_key(napi_env env, const struct range *range) {
     struct range again;
     napi_value key = text_key(env, range);
     node_semver_status status = key == NULL ? THROWN : get_range(env, key, &again);
@@ -222,6 +225,12 @@ napi_value range_key(napi_env env, const struct range *range) {
     }
     node_semver_range_free(range->handle);
     return is_same ? key : failed(env, status);
+}
+
+/* Takes the range, in the same way. One of many sets is held, and not printed. */
+napi_value range_key(napi_env env, const struct range *range) {
+    return node_semver_range_set_count(&range->handle) > MOST_PRINTED ? held_range(env, range)
+                                                                      : printed_key(env, range);
 }
 
 napi_value held_range(napi_env env, const struct range *range) {

@@ -3,9 +3,12 @@
  * See docs/DECISIONS.md, "A version crosses as a text". */
 #include "binding.h"
 
-/* What `compare` and `compareBuild` return where the first key, or the second, is no version. */
-#define FIRST_REFUSED 2
-#define SECOND_REFUSED 3
+/* What `compare`, `compareBuild` and `diff` return where the first key, or the second, is no version. */
+#define FIRST_REFUSED 16
+#define SECOND_REFUSED 17
+
+/* How many pairs of sets two ranges have at most of which a range is made. */
+#define MOST_PAIRS 1000000u
 
 /* versionText(key): the print of the version, or null where the key is none. */
 static napi_value version_text(napi_env env, napi_callback_info info) {
@@ -195,7 +198,7 @@ static napi_value compare_build(napi_env env, napi_callback_info info) {
     return with_versions(env, info, compared_with_builds);
 }
 
-/* diff(one, other): the number of the bump in node_semver.h, of two keys that are not refused. */
+/* diff(one, other): the number of the bump in node_semver.h, or which key is refused. */
 static napi_value diff(napi_env env, napi_callback_info info) {
     return with_versions(env, info, bump_between);
 }
@@ -280,13 +283,26 @@ static napi_value made_version(napi_env env, node_semver_status status, node_sem
     return status == NODE_SEMVER_NONE ? of_null(env) : failed(env, status);
 }
 
+/* Whether the sets of two ranges are at most `MOST_PAIRS` pairs. A range that is made of both may have a set for each
+ * pair. */
+static bool are_few(const struct range *one, const struct range *other) {
+    size_t left = node_semver_range_set_count(&one->handle), right = node_semver_range_set_count(&other->handle);
+    return right == 0 || left <= MOST_PAIRS / right;
+}
+
 static napi_value common(napi_env env, const struct range *one, const struct range *other) {
+    if (!are_few(one, other)) {
+        return NULL;
+    }
     node_semver_range made = NODE_SEMVER_EMPTY;
     node_semver_status status = node_semver_range_intersect(&one->handle, &other->handle, &made);
     return made_range(env, status, made, one, other);
 }
 
 static napi_value rest(napi_env env, const struct range *one, const struct range *other) {
+    if (!are_few(one, other)) {
+        return NULL;
+    }
     node_semver_range made = NODE_SEMVER_EMPTY;
     node_semver_status status = node_semver_range_difference(&one->handle, &other->handle, &made);
     return made_range(env, status, made, one, other);
@@ -309,7 +325,7 @@ static napi_value least_of_both(napi_env env, const struct range *one, const str
 }
 
 /* intersect(one, other), difference(one, other), leastBeyond(one, other), leastCommon(one, other): the key of the new
- * range or version, or null if there is none. */
+ * range or version, or null if there is none. The first two return undefined for too many pairs of sets. */
 static napi_value intersect(napi_env env, napi_callback_info info) {
     return with_ranges(env, info, common);
 }
@@ -339,7 +355,7 @@ NAPI_MODULE_INIT() {
         FUNCTION("keep", keep),                FUNCTION("bump", bump),
         FUNCTION("readVersion", read_parts),   FUNCTION("sets", sets),
         FUNCTION("fromSets", from_sets),       FUNCTION("leastCommon", least_common),
-        FUNCTION("coerce", coerce),
+        FUNCTION("coerce", coerce),            FUNCTION("makeTable", make_table),
     };
     if (!make_state(env, exports)) {
         return out_of_memory(env);

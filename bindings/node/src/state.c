@@ -4,14 +4,17 @@
 
 #include <stdlib.h>
 
+void let_state_go(struct state *state) {
+    if (--state->users == 0) {
+        free(state->tables);
+        free(state);
+    }
+}
+
 static void free_state(napi_env env, void *data, void *hint) {
-    struct state *state = data;
     (void)env;
     (void)hint;
-    for (size_t i = 0; i < PLACES; i++) {
-        node_semver_range_free(state->places[i].handle);
-    }
-    free(state);
+    let_state_go(data);
 }
 
 /* A Float64Array of three numbers, which a reference keeps. */
@@ -25,8 +28,11 @@ static bool make_triple(napi_env env, napi_value exports, struct state *state) {
 
 bool make_state(napi_env env, napi_value exports) {
     struct state *state = calloc(1, sizeof *state);
-    if (state != NULL && make_triple(env, exports, state)
-        && napi_set_instance_data(env, state, free_state, NULL) == napi_ok) {
+    if (state == NULL) {
+        return false;
+    }
+    state->users = 1;
+    if (make_triple(env, exports, state) && napi_set_instance_data(env, state, free_state, NULL) == napi_ok) {
         return true;
     }
     free(state);

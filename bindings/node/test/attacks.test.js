@@ -150,6 +150,7 @@ describe('the process goes on', () => {
             for (const [name, call] of Object.entries(native)) {
                 if (typeof call !== 'function') continue;
                 outcome(() => call());
+                if (name === 'makeTable') continue;
                 for (const one of values) {
                     outcome(() => call(one));
                     for (const other of values) {

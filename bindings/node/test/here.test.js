@@ -235,9 +235,8 @@ describe('a SemVer or a Range stands for its text', () => {
             assert.strictEqual(changed.raw, '2.2.3');
         }
     });
-    test('fields that make no version throw', () => {
+    test('fields that make no version satisfy no range', () => {
         const changed = Object.assign(new semver.SemVer('1.2.3'), { major: 'x', version: 'x' });
-        assert.throws(() => semver.compare(changed, '1.2.3'), TypeError);
         assert.strictEqual(semver.satisfies(changed, '1'), false);
     });
     test('options make another of it', () => {

@@ -13,7 +13,7 @@ const CALLS = 200000;
 const MOST = 8 * 1024 * 1024;
 
 // How many bytes the process has more after so many calls than after a few.
-async function growth(call, turns) {
+async function growth(call, turns, calls = CALLS) {
     const loop = async (times) => {
         for (let i = 0; i < times; i++) {
             call(i);
@@ -27,9 +27,9 @@ async function growth(call, turns) {
         }
         return process.memoryUsage().rss;
     };
-    await loop(CALLS / 4);
-    const before = await loop(CALLS / 4);
-    return await loop(CALLS) - before;
+    await loop(calls / 4);
+    const before = await loop(calls / 4);
+    return await loop(calls) - before;
 }
 
 const versions = Array.from({ length: 20 }, (_, i) => `1.${i}.0-rc.${i}+b.${i}`);
@@ -44,9 +44,6 @@ const calls = {
     'new Range': (i) => new semver.Range(text(i)).test('1.2.3'),
     'new SemVer, refused': () => semver.parse('1.2'),
     compareBuild: (i) => semver.compareBuild(`1.2.3+a.${i}`, '1.2.3+a.b'),
-    minVersion: (i) => semver.minVersion(text(i)),
-    'Range.set': (i) => new semver.Range(text(i)).set,
-    'subset and intersects': (i) => [semver.subset(text(i), '>=1'), semver.intersects(text(i), '>1')],
     'inc, diff and coerce': (i) => [semver.inc(`1.${i}.0-rc.1`, 'prerelease'), semver.diff(`1.${i}.0`, '2.0.0'),
         semver.coerce(`a 1.${i} b`)],
     'satisfies, loose, with prereleases': (i) => semver.satisfies('v1.2.3rc.1', text(i),
@@ -56,6 +53,21 @@ const calls = {
     'sets, and a range from them': (i) => semver.Range.fromSets(new semver.Range(text(i)).sets),
     'satisfies, a String': (i) => semver.satisfies('1.2.3', new String(text(i))),
 };
+
+// Calls that make the comparators of a range, which takes longer.
+const SLOW_CALLS = CALLS / 8;
+const slow = {
+    minVersion: (i) => semver.minVersion(text(i)),
+    'Range.set': (i) => new semver.Range(text(i)).set,
+    'subset and intersects': (i) => [semver.subset(text(i), '>=1'), semver.intersects(text(i), '>1')],
+};
+
+for (const [name, call] of Object.entries(slow)) {
+    test(`${name}: ${SLOW_CALLS} calls`, async () => {
+        const grown = await growth(call, false, SLOW_CALLS);
+        assert.ok(grown < MOST, `${grown} bytes more`);
+    });
+}
 
 for (const [name, call] of Object.entries(calls)) {
     test(`${name}: ${CALLS} calls`, async () => {

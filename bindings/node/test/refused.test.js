@@ -33,11 +33,12 @@ function build() {
 
 build();
 const semver = require(room);
-const { refuse, refusals } = require(path.join(room, 'build/Release/node_semver.node'));
+const { refuse, refusals, makeTable } = require(path.join(room, 'build/Release/node_semver.node'));
 
 const long = '^1.2.3-alpha.1 || '.repeat(20) + '>=2.0.0-rc.1';
 const ranges = ['>=1.2.3-rc.4.a.b <2.0.0-beta.9+c || 5.x || 7.1.2-x', long].map((text) => new semver.Range(text));
 const versions = Array.from({ length: 20 }, (_, i) => `1.${i * 7 % 20}.0-rc.${i}.a+b.${i}`);
+const many = new semver.Range('>=1.2.3 || '.repeat(9) + '^1.2.3-rc.1');
 const beyond = semver.leastBeyond('>1.2.9007199254740991', '<1');
 const build250 = `1.0.0+${'a.'.repeat(120)}b`;
 
@@ -83,6 +84,9 @@ const calls = {
     fromSets: () => String(semver.Range.fromSets(ranges[0].sets)),
     subset: () => semver.subset(ranges[0], ranges[1]),
     intersects: () => semver.intersects(ranges[0], ranges[1]),
+    'intersect, many sets': () => semver.intersect(many, many).sets.length,
+    'intersect, many sets, printed': () => semver.intersect(many, many).raw,
+    'the table of the ranges that are kept': () => typeof makeTable().first,
 };
 
 function rethrown(error) {

@@ -14,11 +14,11 @@ const hasLoosely = (...expressions) => (text, isLoose) => isLoose && has(...expr
 // The functions that show a build.
 const BUILDS = ['compareBuild', 'SemVer.compareBuild', 'sort', 'rsort'];
 
-// A word that is any version, or nothing.
-const STAR = /(^|[\s<>=~^v|])([xX*]|>=\s*0|$|\|)/;
+// A word that is any version.
+const STAR = /(^|[\s<>=~^v|])([xX*]|>=\s*0)/;
 
-// A text between blanks that ends like an operator, and is none.
-const LONG_OPERATOR = /(?<![^\s|])(?!(?:[<>]=?|=|~>?|\^)(?![^\s|]))[^\s|]*[<>=~^](?![^\s|])/;
+// Whether one of several alternatives is any version, or empty.
+const hasAny = (text) => text.includes('||') && text.split('||').some((one) => one.trim() === '' || STAR.test(one));
 
 // A partial that begins with 0.0.0.
 const ZERO = /(^|[\s>=~^v|])0(\.[0xX*]){0,2}(\.\d+)?(?![\w.-])/;
@@ -55,13 +55,13 @@ const rules = [
         range: has(/v[v=\s]/, /=\s*=/, /(^|[\s|])=\s*\S+\s+-\s/, /\s-\s+=/),
     },
     {
-        name: 'an operator apart from its partial',
-        example: ['validRange', '~ >1'],
-        npm: '>=1.0.0 <2.0.0-0',
-        here: null,
-        why: 'an operator has no blank inside. npm joins each operator with what follows, also after other characters: '
-            + 'it refuses `foo> 1`, which is `1` here in loose mode',
-        range: has(/[<>=~^]\s+[<>=~^]/, /<<|>>/, /(?<!\|)\|[<>=~^]+(\s|$)/, LONG_OPERATOR),
+        name: 'two marks at the end of a word',
+        example: ['validRange', '1.2.3-v= 1', true],
+        npm: null,
+        here: '>=1.0.0 <2.0.0-0',
+        why: '`v=` is two marks, after which a partial is a word of its own; npm joins it where the `v` ends a prerelease '
+            + 'or a build',
+        range: hasLoosely(/[^\s|]v=(\s|$)/),
     },
     {
         name: 'a star beside other characters',
@@ -102,7 +102,7 @@ const rules = [
         here: true,
         why: 'npm drops the alternatives beside `*`, and in loose mode a `*` between words that it ignores; it takes '
             + '`>=0.0.0` for no end, which shows beside a prerelease of 0.0.0',
-        range: (text, isLoose) => ((isLoose || text.includes('||')) && STAR.test(text))
+        range: (text, isLoose) => hasAny(text) || (isLoose && STAR.test(text))
             || (ZERO.test(text) && text.includes('0.0.0-')),
     },
 ];

@@ -115,3 +115,31 @@ describe('a thousand', () => {
         assert.ok(semver.intersects(read, '1.999.0') && !semver.intersects(read, '>=1.999.1'));
     });
 });
+
+// The intersection and the difference of ranges may have a set for each pair.
+describe('pairs of sets', () => {
+    const repeated = (text, count) => Array(count).fill(text).join(' || ');
+    const range = semver.intersect(repeated('^1.2.3', 100), repeated('>=1.5 <3', 100));
+    test('a range of many sets is printed when its text is asked for', () => {
+        assert.ok(range.test('1.6.0') && !range.test('1.4.0') && !range.test('2.0.0'));
+        assert.strictEqual(range.sets.length, 10000);
+        assert.deepStrictEqual(Object.keys(range), ['options', 'loose', 'includePrerelease', 'raw']);
+        const text = repeated('>=1.5.0 <2.0.0-0', 10000).replaceAll(' || ', '||');
+        assert.strictEqual(range.raw, text);
+        assert.strictEqual(Object.assign(semver.intersect(range, '*'), { raw: 'x' }).raw, 'x');
+        assert.ok(new semver.Range(range, { includePrerelease: true }).test('1.6.0-a'));
+        assert.ok(semver.intersect(range, '1.7').test('1.7.3') && semver.satisfies('1.6.0', { ...range }.raw));
+    });
+    test('above a million pairs there is an error', () => {
+        const [some, more] = [1000, 1001].map((count) => new semver.Range(repeated('1.2.3', count)));
+        const error = { name: 'RangeError', code: 'ERR_OUT_OF_RANGE' };
+        for (const call of [semver.intersect, semver.difference]) {
+            assert.throws(() => call(some, more), error);
+            assert.throws(() => call(more, some), error);
+        }
+        assert.ok(semver.intersect(some, some).test('1.2.3'));
+        assert.strictEqual(semver.difference(some, some), null);
+        assert.ok(semver.intersect(more, '1 || 2').test('1.2.3'));
+        assert.strictEqual(String(semver.leastCommon(more, more)), '1.2.3');
+    });
+});

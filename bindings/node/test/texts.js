@@ -84,6 +84,9 @@ class Texts {
         if (this.one(60)) {
             return this.of(ODD);
         }
+        if (this.one(150)) {
+            return `1.2.3${this.of(['-', '+'])}v=${this.space()}${this.partial()}`;
+        }
         const operator = this.of(['', '^', '~', '>=', '<', '<=', '>', '=', '~>', '^', '', '<', '>=']);
         return operator + (this.one(15) ? this.space() : '') + this.partial();
     }

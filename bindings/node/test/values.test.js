@@ -50,6 +50,11 @@ describe('lists are as with npm', () => {
         },
         'a getter throws': () => Object.defineProperty(['1.0.0', '1.1.0'], 0, { get() { throw new RangeError('x'); } }),
         'a proxy of a list': () => new Proxy(['2.0.0', , '1.0.0'], {}),
+        'a list of one that is no version': () => ['x'],
+        'a frozen list of one': () => Object.freeze(['1.0.0']),
+        'an empty frozen list': () => Object.freeze([]),
+        'a frozen list in order': () => Object.freeze(['1.0.0', '1.1.0']),
+        'a list of numbers': () => ['1.0.0', 'x', 5],
         'a frozen list': () => Object.freeze(['2.0.0', '1.0.0']),
         'a list whose length is fixed, with a hole': () => Object.preventExtensions(['2.0.0', , '1.0.0']),
         'a class of lists': () => (class extends Array {}).from(['2.0.0', '1.0.0', '1.5.0']),
@@ -116,6 +121,78 @@ describe('other values are as with npm', () => {
     for (const [value, make] of Object.entries(values)) {
         for (const [name, call] of Object.entries(calls)) {
             isAsNpm(`${name}: ${value}`, make, call);
+        }
+    }
+});
+
+describe('SemVers are compared as with npm', () => {
+    const texts = ['1.2.3', '1.2.3+b', '1.2.3+a', '1.2.3-rc.1+b', '1.2.3-rc.1+a', '1.2.3-rc.01', '1.2.3-10', '1.2.3-9.x',
+        '0.9.9', '1.2.3+10', '1.2.3+9', '1.2.3-a.b', '1.2.3-a.-', '1.2.3--', '1.2.3-rc'];
+    const all = [undefined, true, { includePrerelease: true }];
+    const make = (s, options) => texts.map((text) => s.parse(text, options)).filter(Boolean);
+    for (const own of all) {
+        for (const options of all) {
+            const name = `${inspect(own)}, asked with ${inspect(options)}`;
+            isAsNpm(`sort: ${name}`, () => [], (s) => s.sort(make(s, own), options).map(({ raw }) => raw).join());
+            isAsNpm(`rsort: ${name}`, () => [], (s) => s.rsort(make(s, own), options).map(({ raw }) => raw).join());
+            isAsNpm(`each two: ${name}`, () => [], (s) => make(s, own).map((one) => make(s, own).map((other) =>
+                [s.compare(one, other, options), s.compareBuild(one, other, options), s.diff(one, other),
+                    one.compare(other), one.comparePre(other), one.compareBuild(other)].join()).join(' ')).join('\n'));
+        }
+    }
+    const raised = ['beta.1', '01', '9007199254740993', 'a.01', '\u00e9', '-'].flatMap((identifier) =>
+        [undefined, false, '1'].map((base) => ['prerelease', identifier, base]));
+    const limits = [['1.2.9007199254740991', 'patch'], ['1.9007199254740991.0', 'minor'], ['9007199254740991.0.1', 'major'],
+        ['1.2.3-9007199254740990', 'prerelease'], ['1.2.3-9007199254740991', 'prerelease']];
+    const others = ['1.2.4', '1.2.4-beta', '1.2.4-beta.1', '1.2.4-beta.1.1', '1.2.4-0', '1.2.4-1', '1.2.4-a.1', '0.1.0',
+        '1.2.9007199254740991', '9007199254740991.0.0', '1.2.4-\u00e9'];
+    for (const [text, ...words] of [...raised.map((words) => ['1.2.3', ...words]), ...limits]) {
+        isAsNpm(`inc ${inspect([text, ...words])}, and then compare`, () => [], (s) => {
+            const version = new s.SemVer(text).inc(...words);
+            return [version.version, s.inc(text, ...words), ...others.filter((other) => s.valid(other)).map((other) =>
+                [s.compare(version, other), s.diff(version, other), version.compareBuild(other)].join())].join(' ');
+        });
+    }
+    test('numbers that JavaScript does not have', () => {
+        const read = (texts) => texts.map((text) => new semver.SemVer(text));
+        const [one, other] = read(['1.2.3-9007199254740992', '1.2.3-9007199254740993']);
+        assert.deepStrictEqual([one.compare(other), other.compare(one), one.comparePre(other)], [-1, 1, -1]);
+        const builds = read(['1.2.3+9007199254740992', '1.2.3+9007199254740993']);
+        assert.deepStrictEqual([semver.compareBuild(...builds), builds[1].compareBuild(builds[0])], [-1, 1]);
+        const beyond = semver.leastBeyond('>1.2.9007199254740991', '<1');
+        const after = semver.Range.fromSets([{ lower: { kind: 'after', version: beyond }, upper: { kind: 'end' } }]);
+        const further = semver.leastBeyond(after, '<1');
+        assert.deepStrictEqual([semver.compare(beyond, further), further.compare(beyond)], [-1, 1]);
+    });
+    test('fields that a user has set', () => {
+        for (const field of ['x', -1, 1.5, '5', null]) {
+            const [ours, theirs] = [semver, npm].map(({ SemVer, compare }) => ['1.2.3', '5.0.0', '0.0.1-a'].map((text) =>
+                compare(Object.assign(new SemVer('1.2.3'), { major: field, version: 'x' }), text)));
+            assert.deepStrictEqual(ours, theirs, inspect(field));
+        }
+    });
+});
+
+describe('parseRange is as with npm', () => {
+    const texts = ['^1', ' ^1', '^1 ', '1  <2', '\t1', '', ' ', '1 || 2', '1||2', '||', '^1 ||', '1 2 || 3', '* || 1', 'foo ||'];
+    for (const text of texts) {
+        for (const options of [undefined, true, { includePrerelease: true }]) {
+            isAsNpm(`${inspect(text)} with ${inspect(options)}`, () => text, (s) => {
+                try {
+                    return new s.Range('1', options).parseRange(text).join();
+                } catch ({ message }) {
+                    return message;
+                }
+            });
+        }
+    }
+});
+
+test('subset without options', () => {
+    for (const [one, other] of [['1', '1 || 2'], ['1.2.3', '^1'], ['*', '*'], ['*', '1'], ['1', '*'], ['1.2.3 1.2.4', '5']]) {
+        for (const options of [null, undefined, 0, false]) {
+            assert.strictEqual(outcome(() => semver.subset(one, other, options)),
+                outcome(() => npm.subset(one, other, options)), `${one}, ${other}, ${options}`);
         }
     }
 });

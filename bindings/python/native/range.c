@@ -124,8 +124,16 @@ static PyObject *combined(combination *combine, PyObject *one, PyObject *other)
     return NULL;
 }
 
+/* The most pairs of sets that an intersection is made of. It has a set for each two that meet. */
+#define MOST_PAIRS 1000000
+
 static PyObject *range_and(PyObject *one, PyObject *other)
 {
+    if (Py_TYPE(one) == Py_TYPE(other) && SET_COUNT(one) > MOST_PAIRS / SET_COUNT(other)) {
+        PyErr_Format(PyExc_ValueError, "the ranges have %zu and %zu sets, and more than %d pairs of them",
+                     SET_COUNT(one), SET_COUNT(other), MOST_PAIRS);
+        return NULL;
+    }
     return combined(node_semver_range_intersect, one, other);
 }
 

@@ -56,6 +56,16 @@ class Long(unittest.TestCase):
         self.assertEqual(Range.from_sets(sets), self.one)
         self.assertEqual(str(Range.from_sets(iter(sets))), str(self.one))
 
+    def test_an_intersection_has_at_most_a_million_pairs(self) -> None:
+        same, longer = Range("||".join(["^1.2.3"] * 1000)), Range("||".join(["^1.2.3"] * 1001))
+        pairs = same & same
+        self.assertTrue(pairs is not None and "1.9.0" in pairs)
+        for one, other in [(same, longer), (longer, same), (longer, longer)]:
+            with self.assertRaisesRegex(ValueError, "more than 1000000 pairs"):
+                one & other
+        self.assertIsNone(longer - same)
+        self.assertTrue(longer.allows_all(same))
+
     def test_combines(self) -> None:
         self.assertEqual(self.sets_of(self.one & self.other), self.numbered(">={even}.4.0 <{even}.8.0"))
         self.assertEqual(self.sets_of(self.one - self.other), self.numbered(">={even}.1.0-rc.{n} <{even}.4.0"))

@@ -8,3 +8,4 @@ pub mod CandidateSteps
 pub mod BeyondAnswers
 pub mod CommonAnswers
 pub mod ZeroLists
+pub mod CommonOrders

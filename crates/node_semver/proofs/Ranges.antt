@@ -1,1 +1,2 @@
 pub mod RangeAnswers
+pub mod Contained

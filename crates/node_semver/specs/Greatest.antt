@@ -6,8 +6,8 @@ use Rattle.std.specs.Prelude.{◌≡◌, List, ◌∷◌, ◌++◌}
 use Rattle.std.specs.List.{AllByRecursion}
 use Rattle.semver_cuts.specs.Ends.{Ends}
 use Rattle.semver_sets.specs.Meaning.{RangeAdmits}
-use Rattle.semver_versions.specs.Order.{IsBelow, IsSame}
-use Rattle.semver_versions.specs.Version.{VersionValue}
+use Rattle.semver_texts.specs.Order.{IsBelow, IsSame}
+use Rattle.semver_texts.specs.Version.{VersionValue}
 
 -- the version is in the list and is wanted. No wanted version of the list is better, and no wanted one before it has
 -- the same precedence

@@ -8,10 +8,10 @@ use Rattle.std.specs.List.{AllByRecursion}
 use Rattle.semver_cuts.specs.declared.cut.Cut.{Cut}
 use Rattle.semver_cuts.specs.declared.cut.Cut.TheVariants.{Start, Before, After, End}
 use Rattle.semver_cuts.specs.Ends.{Ends}
-use Rattle.semver_versions.specs.IdentifierValue.{IdentifierValue}
+use Rattle.semver_texts.specs.IdentifierValue.{IdentifierValue}
 use Rattle.semver_sets.specs.Meaning.{IsInside, RangeAdmits, RangeContains, SetAdmits}
-use Rattle.semver_versions.specs.Order.{IsBelow}
-use Rattle.semver_versions.specs.Version.{VersionValue}
+use Rattle.semver_texts.specs.Order.{IsBelow}
+use Rattle.semver_texts.specs.Version.{VersionValue}
 
 -- the version is wanted, and no wanted version has lower precedence
 pub record IsLeastOf (Wanted : VersionValue → Type 0) (least : VersionValue) : Type 0 where

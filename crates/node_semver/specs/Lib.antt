@@ -15,9 +15,6 @@ pub mod RangeAlgebra
 pub mod SetTree
 -- ---- the result of reading a range text
 pub mod RangeAnswer
--- ---- npm's own reading of a range text, handed on from `npm_sets`, and its result
-pub mod NpmRanges
-pub mod NpmRangeAnswer
 -- ---- not part of any public contract: what private functions compute, and lemmas
 pub mod Private
 pub mod Lemmas

@@ -2,7 +2,7 @@
 use Rattle.std.specs.Prelude.{List, [], ◌∷◌, Option, Some, None}
 use Rattle.semver_cuts.specs.Ends.{Ends}
 use Rattle.semver_sets.specs.Meaning.{Admit, AnyByRecursion}
-use Rattle.semver_versions.specs.Version.{VersionValue}
+use Rattle.semver_texts.specs.Version.{VersionValue}
 
 -- the sets of the resulting range, or no sets if the result is `None`
 abbrev pub sets_of_answer : Option (List (Ends VersionValue)) → List (Ends VersionValue)

@@ -10,11 +10,11 @@ use Rattle.semver_cuts.specs.CommonSpans.{common_spans}
 use Rattle.semver_cuts.specs.Ends.{Ends}
 use Rattle.semver_cuts.specs.Difference.{AreDifference}
 use Rattle.semver_sets.specs.Comparator.{Comparator}
-use Rattle.semver_versions.specs.Comparison.{version_cmp}
+use Rattle.semver_texts.specs.Comparison.{version_cmp}
 use Rattle.semver_sets.specs.Division.{IsWritten}
 use Rattle.semver_sets.specs.Meaning.{AnyByRecursion, RangeAdmits}
 use Rattle.semver_sets.specs.Merging.{AreSetsOfText}
-use Rattle.semver_versions.specs.Version.{VersionValue}
+use Rattle.semver_texts.specs.Version.{VersionValue}
 use Rattle.node_semver.specs.RangeAlgebra.{PairAdmits}
 use Rattle.node_semver.specs.declared.tree.SetTree.{SetTree}
 use Rattle.node_semver.specs.declared.tree.SetTree.TheVariants.{Text, Both', Without'}

@@ -45,12 +45,13 @@ mod range;
 mod tree;
 
 pub use comparisons::Comparisons;
-pub use npm_sets::NpmOptions;
 pub use range::{AllOf, Range, WithPrereleases, max_satisfying, min_satisfying};
-pub use semver_versions::end::EndVersion;
+pub use semver_texts::end::EndVersion;
+pub use semver_texts::{
+    AsVersion, Identifier, IdentifierRef, Identifiers, MAX_LENGTH, MAX_SAFE_INTEGER, Triple,
+};
 pub use semver_versions::{
-    Admits, AsVersion, Bump, BumpError, CoerceOptions, Identifier, IdentifierBase, IdentifierRef,
-    Identifiers, JsonError, MAX_LENGTH, MAX_SAFE_INTEGER, OrderedVersion, SemverError,
-    SemverErrorKind, SourceSpan, Triple, Version, VersionFault, VersionRef,
+    Admits, JsonError, OrderedVersion, SemverError, SemverErrorKind, SourceSpan, Version,
+    VersionFault, VersionRef,
 };
 pub use tree::SetTree;

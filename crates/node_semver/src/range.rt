@@ -5,7 +5,7 @@ ghost use Rattle.std.specs.Prelude.{◌≡◌, ◌⊎◌, ◌↔◌, ◌∷◌, 
 ghost use Rattle.std.specs.List.{AllByRecursion};
 ghost use Rattle.semver_sets.specs.Meaning.{IsRefused, RangeAdmits};
 ghost use Rattle.semver_sets.specs.Merging.{all_cuts};
-ghost use Rattle.semver_sets.specs.RangeSets.{IsRangeSet, IsRangeValue};
+ghost use Rattle.semver_sets.specs.RangeSets.{IsRangeSet, IsRangeValue, sets_seen};
 ghost use Rattle.semver_sets.specs.Searching.{IsShortSearch};
 ghost use Rattle.semver_sets.specs.declared.read.Unread.TheVariants.{Refused};
 ghost use Rattle.semver_versions.specs.Error.{IsOutOfMemory, IsRefusalAt, no_valid_ranges};
@@ -18,7 +18,6 @@ mod contained;
 mod equality;
 mod greatest;
 mod least;
-mod npm;
 mod prereleases;
 mod print;
 mod sets;
@@ -34,8 +33,8 @@ use semver_sets::read::Unread;
 use semver_sets::read::full::{full_set, read_full};
 use semver_sets::set_list::Sets;
 use semver_sets::set_list::gathered::Gathered;
+use semver_texts::end::EndVersion;
 use semver_versions::Admits;
-use semver_versions::end::EndVersion;
 use std::alloc::{AllocError, Global};
 use std::marker::Model;
 
@@ -84,7 +83,7 @@ impl Model for Range {
     ghost use Rattle.std.specs.Prelude.{List};
     ghost use Rattle.semver_cuts.specs.Ends.{Ends};
     ghost use Rattle.semver_sets.specs.RangeSets.{IsRangeValue, sets_seen};
-    ghost use Rattle.semver_versions.specs.Version.{VersionValue};
+    ghost use Rattle.semver_texts.specs.Version.{VersionValue};
 
     ghost Value = { List (Ends VersionValue) };
 
@@ -221,7 +220,17 @@ impl Range {
         self.sets.admits(version, comparisons)
     }
 
-    // The range of one set. `inline(always)`: it is built in the place of the caller's result.
+    /// Returns the range of these sets. Does not allocate.
+    // `inline(always)` here and below: the range is built in the place of the caller's result.
+    #[inline(always)]
+    pub fn of_sets(sets: Sets) -> Range
+        requires { IsRangeValue (sets_seen sets) }
+        ensures { result ≡ sets_seen sets }
+    {
+        Range { sets }
+    }
+
+    // The range of one set.
     #[inline(always)]
     fn of_set(set: Span<EndVersion>) -> Range
         requires { IsRangeSet set }
@@ -232,8 +241,7 @@ impl Range {
         }
     }
 
-    // The range of the sets, or `None` if there are none. `inline(always)`: the range is built in the place of the
-    // caller's result.
+    // The range of the sets, or `None` if there are none.
     #[inline(always)]
     pub(crate) fn of_gathered(sets: Gathered) -> Result<Option<Range>, AllocError>
         requires { AllByRecursion IsRangeSet sets }

@@ -5,11 +5,11 @@ ghost use Rattle.semver_cuts.specs.declared.cut.Cut.TheVariants.{Before};
 ghost use Rattle.semver_cuts.specs.SpanLists.{IsInSome};
 ghost use Rattle.semver_cuts.specs.CommonSpans.{common_spans};
 ghost use Rattle.semver_cuts.specs.Difference.{AreDifference};
-ghost use Rattle.semver_versions.specs.Comparison.{version_cmp};
+ghost use Rattle.semver_texts.specs.Comparison.{version_cmp};
 ghost use Rattle.semver_sets.specs.Meaning.{RangeAdmits};
 ghost use Rattle.semver_sets.specs.Merging.{AreSetsOfText};
 ghost use Rattle.semver_sets.specs.RangeSets.{IsRangeValue};
-ghost use Rattle.semver_versions.specs.Version.{IsPrerelease, VersionValue};
+ghost use Rattle.semver_texts.specs.Version.{IsPrerelease, VersionValue};
 ghost use Rattle.node_semver.specs.RangeAlgebra.{sets_of_answer};
 ghost use Rattle.node_semver.specs.SetTree.{AreSetsOfTree, InFormula, formula_of};
 

@@ -6,11 +6,11 @@ use Rattle.std.specs.Hash.FoldHasher as folding
 use Rattle.std.specs.Ordering.{eq_by_cmp}
 use Rattle.node_semver_c.specs.Compared.{range_hash, version_hash}
 use Rattle.semver_cuts.specs.Ends.{Ends}
-use Rattle.semver_versions.specs.Comparison.{version_cmp}
+use Rattle.semver_texts.specs.Comparison.{version_cmp}
 use Rattle.semver_sets.specs.Lemmas.RangeHash.{range_alike}
-use Rattle.semver_versions.specs.Lemmas.Public.{version_alike}
+use Rattle.semver_texts.specs.Lemmas.Public.{version_alike}
 use Rattle.semver_sets.specs.RangeEquality.{are_same_cuts}
-use Rattle.semver_versions.specs.Version.{VersionValue}
+use Rattle.semver_texts.specs.Version.{VersionValue}
 
 abbrev hash_of : HashWrites → ℕ
 hash_of writes = folding.finish (fold folding.write folding.initial writes)

@@ -2,7 +2,7 @@
 use Rattle.std.proofs.Common.{◌↔◌, ℕ, List, Bool}
 use Rattle.node_semver_c.specs.Pair.{IsAnswered, answered, refused}
 use Rattle.node_semver_c.specs.declared.status.Fault.{Fault}
-use Rattle.semver_versions.specs.Version.{VersionValue}
+use Rattle.semver_texts.specs.Version.{VersionValue}
 
 pub answered_as : (One Other : VersionValue → Type 0) (text : List ℕ) (status : ℕ) (answer : Bool) (fault : Fault)
     → ((v : VersionValue) → One v ↔ Other v) → IsAnswered One text status answer fault

@@ -6,15 +6,15 @@ use Rattle.node_semver_c.specs.Bumped.{IsUnknown, code_of_base}
 use Rattle.node_semver_c.specs.Bumped.{bumped, no_memory, none, raised, refused, unmade}
 use Rattle.node_semver_c.specs.Compared.{code_of_bump}
 use Rattle.node_semver_c.specs.Status.{IsKept}
-use Rattle.semver_versions.specs.Bump.{IsBumped}
-use Rattle.semver_versions.specs.IdentifierText.{IsIdentifierText}
-use Rattle.semver_versions.specs.IdentifierValue.{IdentifierValue}
-use Rattle.semver_versions.specs.Version.{VersionValue}
-use Rattle.semver_versions.specs.declared.version.bump.Bump.{Bump}
-use Rattle.semver_versions.specs.declared.version.bump.Bump.TheVariants.{Major, PreMajor, Minor, PreMinor}
-use Rattle.semver_versions.specs.declared.version.bump.Bump.TheVariants.{Patch, PrePatch, PreRelease, Pre}
-use Rattle.semver_versions.specs.declared.version.bump.IdentifierBase.{IdentifierBase}
-use Rattle.semver_versions.specs.declared.version.bump.IdentifierBase.TheVariants.{Absent, One, Zero}
+use Rattle.npm_semver.specs.Bump.{IsBumped}
+use Rattle.semver_texts.specs.IdentifierText.{IsIdentifierText}
+use Rattle.semver_texts.specs.IdentifierValue.{IdentifierValue}
+use Rattle.semver_texts.specs.Version.{VersionValue}
+use Rattle.npm_semver.specs.declared.bump.Bump.{Bump}
+use Rattle.npm_semver.specs.declared.bump.Bump.TheVariants.{Major, PreMajor, Minor, PreMinor}
+use Rattle.npm_semver.specs.declared.bump.Bump.TheVariants.{Patch, PrePatch, PreRelease, Pre}
+use Rattle.npm_semver.specs.declared.bump.IdentifierBase.{IdentifierBase}
+use Rattle.npm_semver.specs.declared.bump.IdentifierBase.TheVariants.{Absent, One, Zero}
 
 -- ---- codes
 

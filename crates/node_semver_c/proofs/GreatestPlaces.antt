@@ -2,11 +2,12 @@
 use Rattle.std.proofs.Common.{◌≡◌, suc, ◌+◌, ◌<◌, ◌∙◌, ℕ, List, [], ◌∷◌, ◌++◌, Option, Some, None, length, get_or, take}
 use Rattle.std.proofs.Common.{Bool, refl, sym, ap, subst, inl, inr, arith, Less}
 use Rattle.std.proofs.lemmas.List.{take_more, length-take-le}
-use Rattle.node_semver_c.specs.Greatest.{IsBestAt, IsBestAtOrNone, IsBetterAt, IsGreatestAt, IsLeastAt, values}
+use Rattle.node_semver_c.specs.Greatest.{IsBestAt, IsGreatestAt, IsLeastAt, values}
+use Rattle.node_semver_c.specs.Private.GreatestPlaces.{IsBestAtOrNone, IsBetterAt}
 use Rattle.node_semver_c.specs.declared.handle.version.VersionRef.{VersionRef}
 use Rattle.semver_cuts.specs.Lemmas.Lists.{all-append}
-use Rattle.semver_versions.specs.Comparison.{version_cmp}
-use Rattle.semver_versions.specs.Version.{VersionValue}
+use Rattle.semver_texts.specs.Comparison.{version_cmp}
+use Rattle.semver_texts.specs.Version.{VersionValue}
 use Rattle.node_semver.specs.Greatest.{IsNoneIn}
 use Rattle.node_semver.specs.Lemmas.GreatestViews.{Order, downward, order_of}
 use Rattle.node_semver.specs.Lemmas.GreatestLemmas.{IsOrder, as-greatest, as-least, each-order, keep-best, none-at}

@@ -12,14 +12,14 @@ use Rattle.semver_cuts.specs.CommonSpans.{common_spans}
 use Rattle.semver_cuts.specs.Ends.{Ends}
 use Rattle.semver_cuts.specs.Difference.{AreDifference}
 use Rattle.semver_cuts.specs.Sharing.{ShareCut}
-use Rattle.semver_versions.specs.Comparison.{version_cmp}
+use Rattle.semver_texts.specs.Comparison.{version_cmp}
 use Rattle.semver_sets.specs.Meaning.{RangeAdmits}
 use Rattle.semver_sets.specs.Merging.{AreSetsOfText}
 use Rattle.semver_sets.specs.RangeSets.{IsRangeValue}
 use Rattle.semver_sets.specs.Union.{AreJoinable, joined_text}
-use Rattle.semver_versions.specs.Coerce.{IsCoerced}
-use Rattle.semver_versions.specs.CoerceWithPrerelease.{IsCoercedWithPrerelease}
-use Rattle.semver_versions.specs.Version.{IsPrerelease, VersionValue}
+use Rattle.npm_semver.specs.Coerce.{IsCoerced}
+use Rattle.npm_semver.specs.CoerceWithPrerelease.{IsCoercedWithPrerelease}
+use Rattle.semver_texts.specs.Version.{IsPrerelease, VersionValue}
 use Rattle.semver_versions.specs.declared.error.SemverError.{SemverError}
 use Rattle.semver_versions.specs.Error.{IsOutOfMemory, IsReadAs, refusal_of}
 use Rattle.semver_versions.specs.StrictVersionText.{IsStrictFaultOf, IsStrictVersionText}
@@ -44,7 +44,7 @@ pub record IsSomeReported {X : Type 0} (Answers : Result X SemverError → Type 
   pub promised : Answers answer
   pub reported : IsReported answer status held fault
 
--- the result of `Version::parse_strict` for a text
+-- the result of `npm_semver::parse_version` for a text
 pub record IsStrictAnswer (text : List ℕ) (answer : Result VersionValue SemverError) : Type 0 where
   pub found : IfOk answer (λ v. IsStrictVersionText text v)
   pub only : (v : VersionValue) → IsStrictVersionText text v → IsReadAs v answer
@@ -138,12 +138,12 @@ pub record IsCommonLeast (one other : List (Ends VersionValue)) (answer : Option
   pub none : IsNone answer ↔ AdmitNoneInCommon one other
   pub build : IfSome answer (λ v. v.build ≡ [])
 
--- the result of `Version::coerce` for a text
+-- the result of `npm_semver::coerce` for a text
 pub record IsCoercion (rtl : Bool) (text : List ℕ) (answer : Option VersionValue) : Type 0 where
   pub found : IfSome answer (IsCoerced rtl text)
   pub none : IfNone answer ((v : VersionValue) → ¬ IsCoerced rtl text v)
 
--- the result of `Version::coerce_with_prerelease` for a text
+-- the result of `npm_semver::coerce_with_prerelease` for a text
 pub record IsFullCoercion (rtl : Bool) (text : List ℕ) (answer : Option VersionValue) : Type 0 where
   pub found : IfSome answer (IsCoercedWithPrerelease rtl text)
   pub none : IfNone answer ((v : VersionValue) → ¬ IsCoercedWithPrerelease rtl text v)

@@ -3,16 +3,16 @@ use Rattle.std.specs.Prelude.{◌≡◌, ◌≢◌, ◌⊎◌, ℕ, List, [], Op
 use Rattle.node_semver_c.specs.Compared.{code_of_bump}
 use Rattle.node_semver_c.specs.declared.status.TheConstants.{INVALID_BUMP, INVALID_IDENTIFIER, NO_IDENTIFIER}
 use Rattle.node_semver_c.specs.declared.status.TheConstants.{NUMBER_TOO_LARGE, OK, OUT_OF_MEMORY, SAME_IDENTIFIER}
-use Rattle.semver_versions.specs.Bump.{IsBumped}
-use Rattle.semver_versions.specs.IdentifierText.{IsIdentifierText, identifier_of}
-use Rattle.semver_versions.specs.IdentifierValue.{IdentifierValue}
-use Rattle.semver_versions.specs.Version.{VersionValue}
-use Rattle.semver_versions.specs.declared.version.bump.Bump.{Bump}
-use Rattle.semver_versions.specs.declared.version.bump.BumpError.{BumpError}
-use Rattle.semver_versions.specs.declared.version.bump.BumpError.TheVariants.{NoIdentifier, SameIdentifier}
-use Rattle.semver_versions.specs.declared.version.bump.BumpError.TheVariants.{NumberTooLarge, OutOfMemory}
-use Rattle.semver_versions.specs.declared.version.bump.IdentifierBase.{IdentifierBase}
-use Rattle.semver_versions.specs.declared.version.bump.IdentifierBase.TheVariants.{Absent, One, Zero}
+use Rattle.npm_semver.specs.Bump.{IsBumped}
+use Rattle.semver_texts.specs.IdentifierText.{IsIdentifierText, identifier_of}
+use Rattle.semver_texts.specs.IdentifierValue.{IdentifierValue}
+use Rattle.semver_texts.specs.Version.{VersionValue}
+use Rattle.npm_semver.specs.declared.bump.Bump.{Bump}
+use Rattle.npm_semver.specs.declared.bump.BumpError.{BumpError}
+use Rattle.npm_semver.specs.declared.bump.BumpError.TheVariants.{NoIdentifier, SameIdentifier}
+use Rattle.npm_semver.specs.declared.bump.BumpError.TheVariants.{NumberTooLarge, OutOfMemory}
+use Rattle.npm_semver.specs.declared.bump.IdentifierBase.{IdentifierBase}
+use Rattle.npm_semver.specs.declared.bump.IdentifierBase.TheVariants.{Absent, One, Zero}
 
 -- ---- what is asked
 
@@ -47,7 +47,7 @@ pub record IsBumpedAs (bump : ℕ) (text : List ℕ) (base : ℕ) (v w : Version
 
 -- ---- what is returned
 
--- the status of an error of `Version::bump`
+-- the status of an error of `npm_semver::inc`
 abbrev pub status_of : BumpError → ℕ
 status_of NoIdentifier = NO_IDENTIFIER
 status_of SameIdentifier = SAME_IDENTIFIER

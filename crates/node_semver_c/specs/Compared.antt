@@ -5,12 +5,12 @@ use Rattle.std.specs.declared.cmp.Ordering.{Ordering}
 use Rattle.std.specs.declared.cmp.Ordering.TheVariants.{Less, Equal, Greater}
 use Rattle.semver_cuts.specs.Ends.{Ends}
 use Rattle.semver_sets.specs.RangeHash.{range_writes}
-use Rattle.semver_versions.specs.Hash.{version_writes}
-use Rattle.semver_versions.specs.Version.{VersionValue}
-use Rattle.semver_versions.specs.declared.version.bump.Bump.{Bump}
-use Rattle.semver_versions.specs.declared.version.bump.Bump.TheVariants.{Major, PreMajor, Minor, PreMinor, Patch}
-use Rattle.semver_versions.specs.declared.version.bump.Bump.TheVariants.{PrePatch}
-use Rattle.semver_versions.specs.declared.version.bump.Bump.TheVariants.{PreRelease, Pre}
+use Rattle.semver_texts.specs.Hash.{version_writes}
+use Rattle.semver_texts.specs.Version.{VersionValue}
+use Rattle.npm_semver.specs.declared.bump.Bump.{Bump}
+use Rattle.npm_semver.specs.declared.bump.Bump.TheVariants.{Major, PreMajor, Minor, PreMinor, Patch}
+use Rattle.npm_semver.specs.declared.bump.Bump.TheVariants.{PrePatch}
+use Rattle.npm_semver.specs.declared.bump.Bump.TheVariants.{PreRelease, Pre}
 
 -- -1, 0 or 1
 abbrev pub sign_of : Ordering → ℤ

@@ -11,3 +11,5 @@ pub mod Compared
 pub mod Bumped
 pub mod Pair
 pub mod Printed
+-- ---- not part of any public contract: what private functions compute
+pub mod Private

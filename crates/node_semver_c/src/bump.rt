@@ -3,20 +3,21 @@ ghost use Rattle.std.specs.Prelude.{◌≡◌, ◌≢◌, MatchOption, None};
 ghost use Rattle.node_semver_c.specs.Bumped as Bumped;
 ghost use Rattle.node_semver_c.specs.Bumped.{IsBumpReported, IsRaised, code_of_base};
 ghost use Rattle.node_semver_c.specs.Compared.{code_of_bump};
-ghost use Rattle.semver_versions.specs.Bump.{IsBumped, identifier_seen};
-ghost use Rattle.semver_versions.specs.declared.version.bump.Bump.{Bump};
-ghost use Rattle.semver_versions.specs.declared.version.bump.IdentifierBase.{IdentifierBase};
+ghost use Rattle.npm_semver.specs.Bump.{IsBumped, identifier_seen};
+ghost use Rattle.npm_semver.specs.declared.bump.Bump.{Bump};
+ghost use Rattle.npm_semver.specs.declared.bump.IdentifierBase.{IdentifierBase};
 
 use crate::handle::version::{VersionHandle, VersionRef};
 use crate::status::{
     INVALID_BUMP, INVALID_IDENTIFIER, NO_IDENTIFIER, NUMBER_TOO_LARGE, OUT_OF_MEMORY,
     SAME_IDENTIFIER, keep_version,
 };
-use node_semver::{Bump, BumpError, Identifier, IdentifierBase, Version};
-use semver_versions::identifier::read::read_identifier;
+use node_semver::{Identifier, Version};
+use npm_semver::{Bump, BumpError, IdentifierBase};
+use semver_texts::identifier::read::read_identifier;
 use std::alloc::Global;
 
-/// `Version::bump`, by the code of the bump, the text of the identifier and the code of the base: puts the bumped version
+/// `npm_semver::inc`, by the code of the bump, the text of the identifier and the code of the base: puts the bumped version
 /// into the handle. The empty text stands for no identifier.
 #[unsafe(no_mangle)]
 pub extern "C" fn node_semver_version_bump(
@@ -98,7 +99,7 @@ fn keep_bumped(
     requires { answer.old.value ≡ None }
     ensures { IsRaised (IsBumped bump (identifier_seen identifier.entry) base version.now) result answer.new.value }
 {
-    match version.bump(alloc, bump, identifier, base) {
+    match npm_semver::inc(alloc, version, bump, identifier, base) {
         Ok(bumped) => keep_version(alloc, bumped, answer),
         Err(error) => status_of(&error),
     }

@@ -5,10 +5,11 @@ ghost use Rattle.node_semver_c.specs.declared.status.TheConstants.{NOT_UTF8};
 
 use crate::handle::version::VersionHandle;
 use crate::status::{NOT_UTF8, OUT_OF_MEMORY, keep_version_found};
-use node_semver::{CoerceOptions, Version};
+use node_semver::Version;
+use npm_semver::CoerceOptions;
 use std::alloc::Global;
 
-/// `Version::coerce`: puts the version that is found in the text into the handle.
+/// `npm_semver::coerce`: puts the version that is found in the text into the handle.
 #[unsafe(no_mangle)]
 pub extern "C" fn node_semver_version_coerce(
     alloc: Global,
@@ -32,12 +33,12 @@ fn coerce(alloc: Global, text: &str, rtl: bool, answer: &mut VersionHandle) -> u
 {
     keep_version_found(
         alloc,
-        Version::coerce(alloc, text, CoerceOptions { rtl }),
+        npm_semver::coerce(alloc, text, CoerceOptions { rtl }),
         answer,
     )
 }
 
-/// `Version::coerce_with_prerelease`: puts the version that is found in the text, with its prerelease and its build, into
+/// `npm_semver::coerce_with_prerelease`: puts the version that is found in the text, with its prerelease and its build, into
 /// the handle.
 #[unsafe(no_mangle)]
 pub extern "C" fn node_semver_version_coerce_with_prerelease(
@@ -60,7 +61,7 @@ fn coerce_with_prerelease(alloc: Global, text: &str, rtl: bool, answer: &mut Ver
     requires { answer.old.value ≡ None }
     ensures { IsFound (IsFullCoercion rtl text.now) result answer.new.value }
 {
-    match Version::coerce_with_prerelease(alloc, text, CoerceOptions { rtl }) {
+    match npm_semver::coerce_with_prerelease(alloc, text, CoerceOptions { rtl }) {
         Ok(found) => keep_version_found(alloc, found, answer),
         Err(_) => OUT_OF_MEMORY,
     }

@@ -1,17 +1,17 @@
 //! By which bump two versions differ.
 ghost use Rattle.std.specs.Prelude.{◌≡◌};
 ghost use Rattle.node_semver_c.specs.Compared.{code_of_bump, code_of_difference};
-ghost use Rattle.semver_versions.specs.BumpBetween.{bump_between};
+ghost use Rattle.npm_semver.specs.BumpBetween.{bump_between};
 
 use crate::handle::version::VersionRef;
-use node_semver::Bump;
+use npm_semver::Bump;
 
-/// `Version::diff`: returns the code of the bump, from 1 in the order of `Bump`, or 0 if there is none.
+/// `npm_semver::diff`: returns the code of the bump, from 1 in the order of `Bump`, or 0 if there is none.
 #[unsafe(no_mangle)]
 pub extern "C" fn node_semver_version_diff(one: &VersionRef, other: &VersionRef) -> u32
     ensures { result ≡ code_of_difference (bump_between one.now.value other.now.value) }
 {
-    match one.get().diff(other.get()) {
+    match npm_semver::diff(one.get(), other.get()) {
         Some(bump) => code(bump),
         None => 0,
     }

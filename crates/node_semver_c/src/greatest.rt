@@ -4,7 +4,8 @@ ghost use Rattle.std.specs.Prelude.{◌≡◌, ◌↔◌, IsTrue};
 ghost use Rattle.std.specs.declared.cmp.Ordering.TheVariants.{Less};
 ghost use Rattle.node_semver.specs.Greatest.{IsNoneIn};
 ghost use Rattle.node_semver.specs.Lemmas.GreatestViews.{order_of};
-ghost use Rattle.node_semver_c.specs.Greatest.{IsBestAt, IsBestAtOrNone, IsBetterAt, IsGreatestAt, IsLeastAt};
+ghost use Rattle.node_semver_c.specs.Greatest.{IsBestAt, IsGreatestAt, IsLeastAt};
+ghost use Rattle.node_semver_c.specs.Private.GreatestPlaces.{IsBestAtOrNone, IsBetterAt};
 ghost use Rattle.node_semver_c.specs.Greatest.{values};
 ghost use Rattle.semver_sets.specs.Meaning.{RangeAdmits, RangeContains};
 

@@ -1,9 +1,9 @@
 //! Exports on the identifiers of versions.
 ghost use Rattle.std.specs.Prelude.{◌≡◌, ◌<◌, ◌≤◌, length, slice_index_or};
 ghost use Rattle.node_semver_c.specs.Printed.{IsPrinted};
-ghost use Rattle.semver_versions.specs.Identifier.{values_of};
-ghost use Rattle.semver_versions.specs.IdentifierValue.{numeric};
-ghost use Rattle.semver_versions.specs.Print.{identifier_text};
+ghost use Rattle.semver_texts.specs.Identifier.{values_of};
+ghost use Rattle.semver_texts.specs.IdentifierValue.{numeric};
+ghost use Rattle.semver_texts.specs.Print.{identifier_text};
 
 use crate::handle::version::VersionRef;
 use crate::text::put;

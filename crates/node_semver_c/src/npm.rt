@@ -2,14 +2,15 @@
 ghost use Rattle.std.specs.Prelude.{◌≡◌, ◌≢◌, IsUtf8, None};
 ghost use Rattle.node_semver_c.specs.Answers.{IsSomeReported, options_of};
 ghost use Rattle.node_semver_c.specs.declared.status.TheConstants.{NOT_UTF8, OUT_OF_MEMORY, REFUSED};
-ghost use Rattle.node_semver.specs.NpmRangeAnswer.{IsNpmRangeAnswer};
+ghost use Rattle.npm_semver.specs.NpmRangeAnswer.{IsNpmRangeAnswer};
 
 use crate::handle::range::RangeHandle;
 use crate::status::{Fault, NOT_UTF8, keep_range, report};
-use node_semver::{NpmOptions, Range};
+use node_semver::Range;
+use npm_semver::NpmOptions;
 use std::alloc::Global;
 
-/// `Range::parse_npm`: puts the range into the handle, or reports the fault of the text.
+/// `npm_semver::parse_range`: puts the range into the handle, or reports the fault of the text.
 #[unsafe(no_mangle)]
 pub extern "C" fn node_semver_range_parse_npm(
     alloc: Global,
@@ -46,7 +47,7 @@ fn read(
     ensures parsed { IsSomeReported (IsNpmRangeAnswer options text.now) result range.new.value fault.new }
     ensures fault_kept { result ≢ REFUSED → result ≢ OUT_OF_MEMORY → fault.new ≡ fault.old }
 {
-    match Range::parse_npm(alloc, text, options) {
+    match npm_semver::parse_range(alloc, text, options) {
         Ok(read) => keep_range(alloc, read, range),
         Err(error) => report(&error, fault),
     }

@@ -7,11 +7,11 @@ ghost use Rattle.node_semver_c.specs.declared.status.TheConstants.{NOT_UTF8, OUT
 ghost use Rattle.semver_cuts.specs.CommonSpans.{common_spans};
 ghost use Rattle.semver_cuts.specs.Ends.{Ends};
 ghost use Rattle.semver_cuts.specs.Sharing.{CoversAll, ShareCut};
-ghost use Rattle.semver_versions.specs.Comparison.{version_cmp};
+ghost use Rattle.semver_texts.specs.Comparison.{version_cmp};
 ghost use Rattle.semver_sets.specs.Meaning.{RangeAdmits, RangeContains};
 ghost use Rattle.semver_sets.specs.RangeEquality.{AreSameCuts, are_same_cuts};
 ghost use Rattle.semver_sets.specs.RangePrint.{range_text};
-ghost use Rattle.semver_versions.specs.Version.{VersionValue};
+ghost use Rattle.semver_texts.specs.Version.{VersionValue};
 ghost use Rattle.node_semver.specs.RangeAnswer.{IsRangeAnswer};
 
 use crate::handle::range::{RangeHandle, RangeRef};

@@ -6,10 +6,10 @@ ghost use Rattle.node_semver_c.specs.Compared.{sign_of, version_hash};
 ghost use Rattle.node_semver_c.specs.Printed.{IsPrinted};
 ghost use Rattle.node_semver_c.specs.declared.status.TheConstants.{NOT_UTF8, OUT_OF_MEMORY, REFUSED};
 ghost use Rattle.semver_versions.specs.BuildOrder.{BuildOrderMeans, version_build_cmp};
-ghost use Rattle.semver_versions.specs.Comparison.{version_cmp};
-ghost use Rattle.semver_versions.specs.Order.{OrderMeans};
-ghost use Rattle.semver_versions.specs.Print.{version_text};
-ghost use Rattle.semver_versions.specs.Version.{IsPrerelease, VersionValue};
+ghost use Rattle.semver_texts.specs.Comparison.{version_cmp};
+ghost use Rattle.semver_texts.specs.Order.{OrderMeans};
+ghost use Rattle.semver_texts.specs.Print.{version_text};
+ghost use Rattle.semver_texts.specs.Version.{IsPrerelease, VersionValue};
 ghost use Rattle.semver_versions.specs.Json.{IsVersionAnswer};
 
 use crate::handle::version::{VersionHandle, VersionRef};
@@ -51,7 +51,7 @@ fn read(alloc: Global, text: &str, version: &mut VersionHandle, fault: &mut Faul
     }
 }
 
-/// `Version::parse_strict`: puts the version into the handle, or reports the fault of the text.
+/// `npm_semver::parse_version`: puts the version into the handle, or reports the fault of the text.
 #[unsafe(no_mangle)]
 pub extern "C" fn node_semver_version_parse_strict(
     alloc: Global,
@@ -76,7 +76,7 @@ fn read_strict(alloc: Global, text: &str, version: &mut VersionHandle, fault: &m
     ensures parsed { IsSomeReported (IsStrictAnswer text.now) result version.new.value fault.new }
     ensures fault_kept { result ≢ REFUSED → result ≢ OUT_OF_MEMORY → fault.new ≡ fault.old }
 {
-    match Version::parse_strict(alloc, text) {
+    match npm_semver::parse_version(alloc, text) {
         Ok(read) => keep_version(alloc, read, version),
         Err(error) => report(&error, fault),
     }
@@ -109,13 +109,13 @@ pub extern "C" fn node_semver_version_compare(one: &VersionRef, other: &VersionR
     sign(one.get().cmp(other.get()))
 }
 
-/// `Version::compare_build`: returns -1, 0 or 1.
+/// `npm_semver::compare_build`: returns -1, 0 or 1.
 #[unsafe(no_mangle)]
 pub extern "C" fn node_semver_version_compare_build(one: &VersionRef, other: &VersionRef) -> i32
     ensures answer { result ≡ sign_of (version_build_cmp one.now.value other.now.value) }
     ensures order { BuildOrderMeans one.now.value other.now.value (version_build_cmp one.now.value other.now.value) }
 {
-    sign(one.get().compare_build(other.get()))
+    sign(npm_semver::compare_build(one.get(), other.get()))
 }
 
 fn sign(order: Ordering) -> i32

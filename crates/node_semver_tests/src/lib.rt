@@ -1,14 +1,11 @@
-//! Tests of texts, versions, words, prints and errors of `node_semver`, through its public calls alone.
+//! Tests of texts, versions, words, prints and errors of `node_semver`, and of a caller's type that is seen as a version,
+//! through its public calls alone.
 #![tactic(auto)]
 
 #[cfg(test)]
 mod alternatives;
 #[cfg(test)]
 mod borrowed;
-#[cfg(test)]
-mod build_order;
-#[cfg(test)]
-mod bumps;
 #[cfg(test)]
 mod bytes;
 #[cfg(test)]
@@ -17,8 +14,6 @@ mod carets;
 mod checks;
 #[cfg(test)]
 mod clones;
-#[cfg(test)]
-mod coercions;
 #[cfg(test)]
 mod contained;
 #[cfg(test)]
@@ -35,6 +30,8 @@ mod long_texts;
 mod operators;
 #[cfg(test)]
 mod order;
+#[cfg(test)]
+mod own_type;
 #[cfg(test)]
 mod prerelease_tags;
 #[cfg(test)]
@@ -53,8 +50,6 @@ mod refusals;
 mod search;
 #[cfg(test)]
 mod spread;
-#[cfg(test)]
-mod strict;
 #[cfg(test)]
 mod tildes;
 #[cfg(test)]

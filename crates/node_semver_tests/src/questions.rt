@@ -1,8 +1,5 @@
-use crate::build_order::{builds_compare, is_below_by_build, is_same_build};
-use crate::bumps::{bumps, differ_by};
 use crate::checks::{NO_RANGE, admits, is_print};
 use crate::clones::copies_version;
-use crate::coercions::{coerces, coerces_fully};
 use crate::contained::contains;
 use crate::errors::{copies_error, names_compare, rows_compare};
 use crate::limits::least_print;
@@ -12,7 +9,6 @@ use crate::print_or_error::{range_print, version_print};
 use crate::prints::prints_in_one_way;
 use crate::search::counts;
 use crate::spread::spread;
-use crate::strict::{is_strict, strict_print};
 use crate::versions::{reads_back, shape_of_text};
 use std::alloc::{AllocGlobal, Global};
 use std::process::Abort;
@@ -48,24 +44,8 @@ pub(crate) enum Question {
     IsBelow,
     // A version text, and whether it is the version of `1.0.0-rc.1+7`, or else above it.
     IsSame,
-    // Two texts of versions whose five fields are equal.
-    IsSameBuild,
-    // Two version texts, the lower one first in the order with builds.
-    IsBelowByBuild,
-    // The text of a strict version, which is its print.
-    IsStrict,
-    // A text, and the print of its strict version or its error.
-    StrictPrint,
     // A range text and a version text.
     Counts,
-    // A version text, npm's name of a bump, an identifier or `-`, a base or `-`, and the print or the error.
-    Bumps,
-    // Two version texts, and npm's name of the bump between them, or `none`.
-    DifferBy,
-    // A text, and the print of the version that is found in it from the left and from the right, or `none`.
-    Coerces,
-    // The same with its prerelease and its build.
-    CoercesFully,
 }
 
 // What is tested for each two rows of a table.
@@ -77,8 +57,6 @@ pub(crate) enum PairQuestion {
     Errors,
     // Version texts: they ascend.
     Order,
-    // Version texts: they ascend in the order with builds.
-    BuildOrder,
 }
 
 fn print(alloc: Global, question: Question, text: &str) -> Option<String> {
@@ -87,7 +65,6 @@ fn print(alloc: Global, question: Question, text: &str) -> Option<String> {
         Question::VersionPrint => version_print(alloc, text),
         Question::Shape => shape_of_text(alloc, text),
         Question::LeastPrint => least_print(alloc, text),
-        Question::StrictPrint => strict_print(alloc, text),
         _ => None,
     }
 }
@@ -111,14 +88,7 @@ fn is_answered(alloc: Global, question: Question, row: &str) -> bool {
         Question::AnswersLonger => answers_longer(alloc, row),
         Question::IsBelow => is_below(alloc, row),
         Question::IsSame => is_same(alloc, row),
-        Question::IsSameBuild => is_same_build(alloc, row),
-        Question::IsBelowByBuild => is_below_by_build(alloc, row),
-        Question::IsStrict => is_strict(alloc, row),
         Question::Counts => counts(alloc, row),
-        Question::Bumps => bumps(alloc, row),
-        Question::DifferBy => differ_by(alloc, row),
-        Question::Coerces => coerces(alloc, row),
-        Question::CoercesFully => coerces_fully(alloc, row),
         _ => prints(alloc, question, row),
     }
 }
@@ -148,7 +118,6 @@ fn is_pair_so(
         PairQuestion::Kinds => names_compare(row, other, i % 9 == j % 9),
         PairQuestion::Errors => rows_compare(alloc, row, other, i == j),
         PairQuestion::Order => texts_compare(alloc, row, other, i.cmp(&j)),
-        PairQuestion::BuildOrder => builds_compare(alloc, row, other, i.cmp(&j)),
     }
 }
 

@@ -1,5 +1,5 @@
 -- An audit, one installed package after another.
-use Rattle.std.proofs.Common.{◌≡◌, ◌++◌, ◌<◌, ◌+◌, ℕ, List, [], ◌∷◌, true, false, get_or, length, map, take}
+use Rattle.std.proofs.Common.{◌≡◌, ◌++◌, ◌<◌, ◌+◌, ℕ, List, [], ◌∷◌, Option, true, false, get_or, length, map, take}
 use Rattle.std.specs.Prelude.{◌==◌, ◌≢◌}
 use Rattle.std.proofs.lemmas.Bool.{eqb-true}
 use Rattle.std.proofs.lemmas.List.{map-append, nil_from_length, take_more}
@@ -21,7 +21,7 @@ module _ (level : Severity) (values : List AdvisoryValue) (one : InstalledValue)
   one-spared _ _ (hit a v f before found here more) is =
       hit a v f (before ++ one ∷ []) found here (one-spared before found more is)
 
-  one-hit : (v : VersionValue) (new : FoundValue) (before : List InstalledValue) (found : List FoundValue)
+  one-hit : (v : Option VersionValue) (new : FoundValue) (before : List InstalledValue) (found : List FoundValue)
       → IsAudit level values before found → IsFound level (about_name one.name values) one v new
       → IsAudit level values (before ++ one ∷ []) (found ++ new ∷ [])
   one-hit v new _ _ none is = hit one v new [] [] is none
@@ -66,3 +66,7 @@ empty-of xs is = nil_from_length xs (eqb-true (length xs) 0 is)
 pub some-of : {X Y : Type 0} (f : X → Y) (xs : List X) → (length xs == 0) ≡ false → map f xs ≢ []
 some-of f [] is = absurd (cc)
 some-of f (x ∷ xs) is = λ none. absurd (cc)
+
+pub not-empty : {X : Type 0} (xs : List X) → (length xs == 0) ≡ false → xs ≢ []
+not-empty [] is = absurd (cc)
+not-empty (x ∷ xs) is = λ none. absurd (cc)

@@ -1,15 +1,15 @@
 -- Elements that are kept, one after another, and advisories that were read in place of those of a file.
 use Rattle.std.proofs.Common.{◌≡◌, ◌↔◌, ◌++◌, ◌<◌, ◌+◌, ℕ, List, [], ◌∷◌, ap, get_or, inl, inr, length, map, sym, subst}
-use Rattle.std.proofs.Common.{take, true}
+use Rattle.std.proofs.Common.{Option, Some, None, take, true}
 use Rattle.std.proofs.lemmas.List.{map-append, take_more}
 use Rattle.std.specs.List.{AllZip}
 use Rattle.node_semver.specs.Versions.{VersionValue}
 use Rattle.npm_advisories.specs.Advisories.{AboutValue, AdvisoryValue, about_value}
-use Rattle.npm_advisories.specs.Hits.{AreHits, AreKept, IsHit, kept, left, none}
+use Rattle.npm_advisories.specs.Hits.{AreHits, AreKept, IsAbout, IsHit, kept, left, none}
 use Rattle.npm_advisories.specs.Offers.{IsAdmitted, IsAffected, IsUnhit}
 use Rattle.npm_advisories.specs.Private.Offering.{IsAdmittedBy, IsUnhitBy}
 use Rattle.npm_advisories.specs.Private.Reading.{IsAdvisory}
-use Rattle.npm_advisories.specs.Private.Spans.{IsHitBy, IsInRange}
+use Rattle.npm_advisories.specs.Private.Spans.{IsHitBy, IsIn, IsInRange}
 use Rattle.npm_advisories.specs.Severities.{is_at_least}
 use Rattle.npm_advisories.specs.declared.advisory.Advisory.{Advisory}
 use Rattle.npm_advisories.specs.declared.severity.Severity.{Severity}
@@ -44,17 +44,22 @@ module _ {A B C : Type 0} (Holds : A → Type 0) (seen : A → B) (value : C →
 
 -- ---- advisories that were read
 
-module _ (level : Severity) (v : VersionValue) where
+in-about : (v : Option VersionValue) (value : AdvisoryValue) (one : Advisory) → IsAdvisory value one
+    → IsIn one v ↔ IsAbout value.affected v
+in-about (Some v) value one is = is.range.means v
+in-about None value one is = (λ any. any, λ any. any)
+
+module _ (level : Severity) (v : Option VersionValue) where
   hit-same : (value : AdvisoryValue) (one : Advisory) → IsAdvisory value one → IsHitBy level v one ↔ IsHit level v value
   hit-same value one is =
       let same = ap (λ (about : AboutValue). about.severity) is.about in (
         λ hit. record {
           severe = subst (λ s. is_at_least level s ≡ true) same hit.severe;
-          affects = (is.range.means v).0 hit.contained;
+          affects = (in-about v value one is).0 hit.contained;
         },
         λ hit. record {
           severe = subst (λ s. is_at_least level s ≡ true) (sym same) hit.severe;
-          contained = (is.range.means v).1 hit.affects;
+          contained = (in-about v value one is).1 hit.affects;
         },
       )
 

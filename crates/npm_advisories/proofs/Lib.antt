@@ -14,3 +14,7 @@ pub mod Walking
 pub mod OsvSpans
 pub mod OsvMarks
 pub mod OsvEnds
+pub mod OsvBetween
+pub mod ReadVersions
+pub mod Joining
+pub mod FolderParts

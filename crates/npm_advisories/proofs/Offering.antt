@@ -15,6 +15,24 @@ use Rattle.npm_advisories.specs.declared.advisory.Advisory.{Advisory}
 use Rattle.npm_advisories.proofs.Releases.{below-or_not}
 use Rattle.npm_advisories.proofs.SpanLists.{Had}
 
+-- joined spans have what the spans have
+pub contain-joined : (Has : VersionValue → Type 0) (spans joined : List (Ends VersionValue)) → Contain spans Has
+    → Contain joined (RangeContains spans) → Contain joined Has
+contain-joined Has spans joined first second = record {
+  holds = second.holds;
+  exact = λ v. (
+    λ contains. (first.exact v).0 ((second.exact v).0 contains),
+    λ has. (second.exact v).1 ((first.exact v).1 has),
+  );
+}
+
+pub outside-joined : (spans joined : List (Ends VersionValue)) → Contain joined (RangeContains spans)
+    → (v : VersionValue) → IsOutside joined v ↔ IsOutside spans v
+outside-joined spans joined same v = (
+  λ is. record { release = is.release; outside = λ contains. is.outside ((same.exact v).1 contains) },
+  λ is. record { release = is.release; outside = λ contains. is.outside ((same.exact v).0 contains) },
+)
+
 module _ (advisories : List Advisory) (installed : VersionValue) (spans : List (Ends VersionValue))
     (contain : Contain spans (Had installed advisories)) where
   -- a release outside the spans is above the installed version, and no advisory is about it

@@ -5,7 +5,8 @@ use Rattle.std.specs.Prelude.{◌⊎◌}
 use Rattle.semver_cuts.specs.Ends.{Ends, IsCutBelow, span_between}
 use Rattle.semver_cuts.specs.Lemmas.Lists.{all-append, any-either, any-left, any-right}
 use Rattle.semver_cuts.specs.declared.cut.Cut.TheVariants.{After, Before}
-use Rattle.semver_versions.specs.Lemmas.Public.{Equal-version, Less-version, one_reading, version-Equal, version-Less}
+use Rattle.semver_texts.specs.Lemmas.Public.{Equal-version, Less-version, version-Equal, version-Less}
+use Rattle.semver_versions.specs.Lemmas.Public.{one_reading}
 use Rattle.std.specs.declared.cmp.Ordering.TheVariants.{Less, Equal}
 use Rattle.node_semver.specs.Ranges.{AnyByRecursion, IsInside, IsRangeSet, IsRangeValue}
 use Rattle.node_semver.specs.Versions.{IsBelow, IsSame, IsVersionText, VersionValue, version_cmp}

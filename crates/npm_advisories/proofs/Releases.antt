@@ -8,9 +8,9 @@ use Rattle.std.proofs.Common.{arith}
 use Rattle.semver_cuts.specs.Ends.{Ends, span_between}
 use Rattle.semver_cuts.specs.Lemmas.InSome.{in_span-or_not}
 use Rattle.semver_cuts.specs.declared.cut.Cut.TheVariants.{After, Before, Start}
-use Rattle.semver_versions.specs.Lemmas.Public.{Equal-version, Greater-turned, Less-version}
-use Rattle.semver_versions.specs.Lemmas.Public.{version-Equal, version-Less, version_total}
-use Rattle.semver_versions.specs.Lemmas.Public.{build-read, prerelease-read}
+use Rattle.semver_texts.specs.Lemmas.Public.{Equal-version, Greater-turned, Less-version}
+use Rattle.semver_texts.specs.Lemmas.Public.{version-Equal, version-Less, version_total}
+use Rattle.semver_texts.specs.Lemmas.Public.{build-read, prerelease-read}
 use Rattle.node_semver.specs.Ranges.{IsInside, IsRangeEnd, RangeAdmits, RangeContains, all_cuts}
 use Rattle.node_semver.specs.Versions.{IsBelow, IsPrerelease, IsVersionText, OrderMeans, VersionValue, version_cmp}
 use Rattle.node_semver.specs.Least.{AdmitsBeyond}

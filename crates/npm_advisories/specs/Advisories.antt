@@ -5,7 +5,7 @@ use Rattle.std.specs.Option.{option_map_or}
 use Rattle.serde_json.specs.Data.{Data, Items, Members, item, member, no_items, no_members, null}
 use Rattle.serde_json.specs.View.{view}
 use Rattle.serde_json.specs.Find.{as_array, as_str, get}
-use Rattle.node_semver.specs.NpmRanges.{NpmOptions, NpmTextAdmits, with_plain_spaces}
+use Rattle.npm_semver.specs.NpmRanges.{NpmOptions, NpmTextAdmits, with_plain_spaces}
 use Rattle.node_semver.specs.Versions.{VersionValue}
 use Rattle.npm_advisories.specs.OsvRanges.{EventValue, IsInOsv}
 use Rattle.npm_advisories.specs.Severities.{severity_of_text}
@@ -70,16 +70,16 @@ npm_about entry = record {
   url = text_of (codes "url") entry;
 }
 
--- the range text of an advisory in npm's form
-abbrev pub npm_affected : (entry : Data) → Affected
-npm_affected entry = range_text (unwrap_or (text_of (codes "vulnerable_versions") entry) [])
+-- the range text of an advisory in npm's form: all versions if none is there, or `null`
+abbrev pub npm_range_text : (entry : Data) → List ℕ
+npm_range_text entry = unwrap_or (text_of (codes "vulnerable_versions") entry) (codes "*")
 
 -- an advisory in npm's form, about the package with this name
 abbrev pub npm_advisory : (name : List ℕ) → (entry : Data) → AdvisoryValue
 npm_advisory name entry = record {
   name = name;
   about = npm_about entry;
-  affected = npm_affected entry;
+  affected = range_text (npm_range_text entry);
 }
 
 -- ---- all of a file

@@ -1,6 +1,6 @@
 -- What an audit finds: npm's "npm audit".
-use Rattle.std.specs.Prelude.{◌≡◌, ◌≢◌, ℕ, List, [], ◌∷◌, Option, map}
-use Rattle.node_semver.specs.Versions.{IsVersionText, VersionValue}
+use Rattle.std.specs.Prelude.{◌≡◌, ◌≢◌, ℕ, List, [], ◌∷◌, Option, Some, None, map}
+use Rattle.node_semver.specs.Versions.{IsVersionText, VersionValue, least_of}
 use Rattle.npm_advisories.specs.Advisories.{AboutValue, AdvisoryValue, about_name, about_value}
 use Rattle.npm_advisories.specs.Hits.{AreHits}
 use Rattle.npm_advisories.specs.Offers.{IsAdmitted, IsLeastOrNone, IsUnhit}
@@ -45,22 +45,33 @@ found_value found = record {
 
 -- ---- one package
 
--- what is found of the package, whose version this is, among the advisories about its name
-pub record IsFound (level : Severity) (advisories : List AdvisoryValue) (installed : InstalledValue) (v : VersionValue)
-    (found : FoundValue) : Type 0 where
+-- what the text of an installed version is read as, if it is a version
+abbrev pub IsReadAs : (text : List ℕ) → Option VersionValue → Type 0
+IsReadAs text (Some v) = IsVersionText text v
+IsReadAs text None = (v : VersionValue) → ¬ IsVersionText text v
+
+-- Versions above this one are offered: above the installed version, and above 0.0.0-0, so each release, if its text is no
+-- version
+abbrev pub version_or_least : Option VersionValue → VersionValue
+version_or_least (Some v) = v
+version_or_least None = least_of 0 0 0
+
+-- what is found of the package, whose version is read as this, among the advisories about its name
+pub record IsFound (level : Severity) (advisories : List AdvisoryValue) (installed : InstalledValue)
+    (v : Option VersionValue) (found : FoundValue) : Type 0 where
   pub folder : found.folder ≡ installed.folder
   pub name : found.name ≡ installed.name
   pub version : found.version ≡ installed.version
-  pub read : IsVersionText installed.version v
+  pub read : IsReadAs installed.version v
   pub hits : AreHits level v advisories found.hits
   pub some : found.hits ≢ []
-  pub least : IsLeastOrNone (IsUnhit advisories v) found.least
-  pub admitted : IsLeastOrNone (IsAdmitted advisories installed.asked v) found.admitted
+  pub least : IsLeastOrNone (IsUnhit advisories (version_or_least v)) found.least
+  pub admitted : IsLeastOrNone (IsAdmitted advisories installed.asked (version_or_least v)) found.admitted
 
--- no advisory about its name hits the package. A text that is no version is not hit
+-- no advisory about its name hits the package
 abbrev pub IsSpared : Severity → List AdvisoryValue → InstalledValue → Type 0
 IsSpared level advisories installed =
-    (v : VersionValue) → IsVersionText installed.version v → AreHits level v advisories []
+    (v : Option VersionValue) → IsReadAs installed.version v → AreHits level v advisories []
 
 -- ---- all packages
 
@@ -71,6 +82,6 @@ pub data IsAudit (level : Severity) (advisories : List AdvisoryValue)
   spared : (one : InstalledValue) (others : List InstalledValue) (found : List FoundValue)
       → IsSpared level (about_name one.name advisories) one → IsAudit level advisories others found
       → IsAudit level advisories (one ∷ others) found
-  hit : (one : InstalledValue) (v : VersionValue) (here : FoundValue) (others : List InstalledValue)
+  hit : (one : InstalledValue) (v : Option VersionValue) (here : FoundValue) (others : List InstalledValue)
       (found : List FoundValue) → IsFound level (about_name one.name advisories) one v here
       → IsAudit level advisories others found → IsAudit level advisories (one ∷ others) (here ∷ found)

@@ -5,8 +5,8 @@ use Rattle.std.specs.Prelude.{option_and_then, option_map, codes}
 use Rattle.std.specs.Option.{option_map_or, option_or}
 use Rattle.serde_json.specs.Data.{Data, Items, Members, item, member, no_items, no_members}
 use Rattle.serde_json.specs.Find.{as_array, as_null, as_number, as_object, as_str, get}
-use Rattle.node_semver.specs.NpmRanges.{alternatives_of, with_plain_spaces}
-use Rattle.npm_advisories.specs.Advisories.{advisory_options, text_of}
+use Rattle.npm_semver.specs.NpmRanges.{alternatives_of, with_plain_spaces}
+use Rattle.npm_advisories.specs.Advisories.{advisory_options, npm_range_text, text_of}
 use Rattle.npm_advisories.specs.declared.fault.Fault.{Fault}
 use Rattle.npm_advisories.specs.declared.fault.FaultKind.{FaultKind}
 use Rattle.npm_advisories.specs.declared.fault.FaultKind.TheVariants as Faults
@@ -46,10 +46,10 @@ is_nothing (x ∷ xs) = false
 abbrev pub is_no_range : (text : List ℕ) → Bool
 is_no_range text = is_nothing (alternatives_of advisory_options (with_plain_spaces text))
 
--- `vulnerable_versions` is a string, and a range
+-- `vulnerable_versions` is a string or absent, and what stands there is a range
 abbrev pub range_fault : (entry : Data) → Option FaultKind
-range_fault entry = option_map_or (λ text. if is_no_range text then Some Faults.Range else None)
-    (text_of (codes "vulnerable_versions") entry) (Some Faults.RangeText)
+range_fault entry = option_or (text_fault (codes "vulnerable_versions") Faults.RangeText entry)
+    (if is_no_range (npm_range_text entry) then Some Faults.Range else None)
 
 -- the fault of an advisory, if it has one
 abbrev pub npm_fault : (entry : Data) → Option FaultKind

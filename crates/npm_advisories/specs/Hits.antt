@@ -1,7 +1,7 @@
 -- Which advisories hit an installed version.
-use Rattle.std.specs.Prelude.{◌≡◌, List, [], ◌∷◌, true}
+use Rattle.std.specs.Prelude.{◌≡◌, List, [], ◌∷◌, Option, Some, None, true}
 use Rattle.node_semver.specs.Versions.{VersionValue}
-use Rattle.npm_advisories.specs.Advisories.{AboutValue, AdvisoryValue, Affects}
+use Rattle.npm_advisories.specs.Advisories.{AboutValue, AdvisoryValue, Affected, Affects}
 use Rattle.npm_advisories.specs.Severities.{is_at_least}
 use Rattle.npm_advisories.specs.declared.severity.Severity.{Severity}
 
@@ -12,11 +12,17 @@ pub data AreKept {A B : Type 0} (Holds : A → Type 0) (seen : A → B) : List A
       → AreKept Holds seen (x ∷ xs) (seen x ∷ ys)
   left : (x : A) (xs : List A) (ys : List B) → ¬ Holds x → AreKept Holds seen xs ys → AreKept Holds seen (x ∷ xs) ys
 
--- the advisory is about this version, and not less severe than the level
-pub record IsHit (level : Severity) (v : VersionValue) (advisory : AdvisoryValue) : Type 0 where
-  pub severe : is_at_least level advisory.about.severity ≡ true
-  pub affects : Affects advisory.affected v
+-- The advisory is about the installed version. If its text is no version, nobody knows whether it is one of those, and so
+-- each advisory is about it
+abbrev pub IsAbout : Affected → Option VersionValue → Type 0
+IsAbout affected (Some v) = Affects affected v
+IsAbout affected None = Unit {0}
 
--- what the advisories that hit this version say of themselves, in the order of the list
-abbrev pub AreHits : (level : Severity) → VersionValue → List AdvisoryValue → List AboutValue → Type 0
-AreHits level v advisories hits = AreKept (IsHit level v) (λ advisory. advisory.about) advisories hits
+-- the advisory is about the installed version, and not less severe than the level
+pub record IsHit (level : Severity) (installed : Option VersionValue) (advisory : AdvisoryValue) : Type 0 where
+  pub severe : is_at_least level advisory.about.severity ≡ true
+  pub affects : IsAbout advisory.affected installed
+
+-- what the advisories that hit the installed version say of themselves, in the order of the list
+abbrev pub AreHits : (level : Severity) → Option VersionValue → List AdvisoryValue → List AboutValue → Type 0
+AreHits level installed advisories hits = AreKept (IsHit level installed) (λ advisory. advisory.about) advisories hits

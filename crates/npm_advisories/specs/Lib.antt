@@ -17,6 +17,7 @@ pub mod Offers  -- the versions that are offered in place of one that is hit
 pub mod Audit  -- what is found of them, in their order
 pub mod FoundJson  -- a package that is hit as a JSON object
 -- ---- a lock file
+pub mod FolderNames  -- the names of packages by their folders
 pub mod LockFile  -- its installed packages
 pub mod LockFaults  -- why there is no audit of it
 -- ---- not part of any public contract: what private functions compute

@@ -1,36 +1,34 @@
 -- The installed packages of a lock file: npm's "package-lock.json", "packages".
 use Rattle.std.specs.Prelude.{◌≡◌, ◌≢◌, ◌⊎◌, ℕ, List, [], ◌∷◌, Option, Some, None, codes, true, false}
-use Rattle.std.specs.Str.Pattern.{RFindsText, SplitsAroundMatch}
 use Rattle.serde_json.specs.Data.{Data, Members, member, no_members, object}
 use Rattle.serde_json.specs.Find.{get}
 use Rattle.npm_lock.specs.Dependents.{AreDependents}
 use Rattle.npm_lock.specs.Packages.{is_link}
 use Rattle.npm_advisories.specs.Advisories.{text_of}
 use Rattle.npm_advisories.specs.Audit.{InstalledValue}
+use Rattle.npm_advisories.specs.FolderNames.{IsFolderName}
 
--- The name of a package: its member `name`, which an alias has, or what follows the last `node_modules/` of its folder,
--- as `@s/a` in `b/node_modules/@s/a`
-pub data IsName (folder : List ℕ) (entry : Data) : Option (List ℕ) → Type 0 where
-  said : (name : List ℕ) → text_of (codes "name") entry ≡ Some name → IsName folder entry (Some name)
-  placed : (front name : List ℕ) → text_of (codes "name") entry ≡ None
-      → SplitsAroundMatch (RFindsText (codes "node_modules/")) folder front name → IsName folder entry (Some name)
-  unnamed : text_of (codes "name") entry ≡ None → RFindsText (codes "node_modules/") folder None
-      → IsName folder entry None
+-- The name of a package: its member `name`, which an alias has, or else what npm names it by its folder: `@s/a` in
+-- `b/node_modules/@s/a`, and `w` in `packages/w`, a workspace. An empty name counts as none
+pub data IsName (folder : List ℕ) (entry : Data) : List ℕ → Type 0 where
+  said : (name : List ℕ) → text_of (codes "name") entry ≡ Some name → name ≢ [] → IsName folder entry name
+  placed : (name : List ℕ) → (text_of (codes "name") entry ≡ None) ⊎ (text_of (codes "name") entry ≡ Some [])
+      → IsFolderName folder name → IsName folder entry name
 
--- the package in a folder, which is neither the root nor a link, and has a name and a version
+-- the package in a folder, which is neither the root nor a link, and has a version
 pub record IsInstalledAs (texts_at : (folder : List ℕ) → List (List ℕ)) (folder : List ℕ) (entry : Data)
     (one : InstalledValue) : Type 0 where
   pub no_root : folder ≢ []
   pub no_link : is_link entry ≡ false
-  pub name : IsName folder entry (Some one.name)
+  pub name : IsName folder entry one.name
   pub version : text_of (codes "version") entry ≡ Some one.version
   pub same : one.folder ≡ folder
   pub asked : one.asked ≡ texts_at folder
 
 -- any other member of `packages`
 abbrev pub IsOther : (folder : List ℕ) → (entry : Data) → Type 0
-IsOther folder entry = (folder ≡ []) ⊎ (is_link entry ≡ true) ⊎ IsName folder entry None
-    ⊎ (text_of (codes "version") entry ≡ None)
+IsOther folder entry =
+    (folder ≡ []) ⊎ (is_link entry ≡ true) ⊎ (text_of (codes "version") entry ≡ None)
 
 -- the packages of a lock file, in the order of their folders' bytes
 pub data AreInstalled (texts_at : (folder : List ℕ) → List (List ℕ)) : Members → List InstalledValue → Type 0 where

@@ -6,7 +6,7 @@
 use Rattle.std.specs.Prelude.{◌≡◌, ◌↔◌, ℕ, List, [], Option, IfSome, IsNone, true, false}
 use Rattle.std.specs.List.{AllByRecursion}
 use Rattle.node_semver.specs.Least.{IsLeastOf, IsNoneOf}
-use Rattle.node_semver.specs.NpmRanges.{NpmOptions, NpmTextAdmits, with_plain_spaces}
+use Rattle.npm_semver.specs.NpmRanges.{NpmOptions, NpmTextAdmits, with_plain_spaces}
 use Rattle.node_semver.specs.Ranges.{AnyByRecursion}
 use Rattle.node_semver.specs.Versions.{IsBelow, IsPrerelease, VersionValue}
 use Rattle.npm_advisories.specs.Advisories.{AdvisoryValue, Affects}

@@ -1,7 +1,7 @@
 -- Which values are no OSV advisories that are read. What says which versions are hit has to be as the OSV schema says;
 -- what only describes an advisory is passed over if it is not.
 -- See docs/DECISIONS.md, "The faults of a file are a function of a test for version texts".
-use Rattle.std.specs.Prelude.{◌≡◌, ◌||◌, ◌&&◌, ◌+◌, ℕ, List, [], Bool, true, if◌then◌else◌, Option, Some, None}
+use Rattle.std.specs.Prelude.{◌≡◌, ◌||◌, ◌&&◌, ◌+◌, ℕ, List, [], Bool, true, false, if◌then◌else◌, Option, Some, None}
 use Rattle.std.specs.Prelude.{bytes_eq, codes, is_some, option_and_then, option_map}
 use Rattle.std.specs.Option.{option_map_or, option_or}
 use Rattle.serde_json.specs.Data.{Data, Items, item, no_items}
@@ -9,8 +9,8 @@ use Rattle.serde_json.specs.Find.{as_array, as_null, as_object, get}
 use Rattle.node_semver.specs.Versions.{IsVersionText, VersionValue}
 use Rattle.npm_advisories.specs.Advisories.{text_of}
 use Rattle.npm_advisories.specs.Faults.{FaultValue, text_fault}
-use Rattle.npm_advisories.specs.OsvForm.{event_of, is_semver, is_withdrawn, items_at, npm_name}
-use Rattle.npm_advisories.specs.OsvRanges.{EventValue, fixed, introduced, last_affected}
+use Rattle.npm_advisories.specs.OsvForm.{event_of, has_versions, is_ordered, is_withdrawn, items_at, npm_name}
+use Rattle.npm_advisories.specs.OsvRanges.{EventValue, fixed, introduced, last_affected, limit}
 use Rattle.npm_advisories.specs.declared.fault.FaultKind.{FaultKind}
 use Rattle.npm_advisories.specs.declared.fault.FaultKind.TheVariants as Faults
 
@@ -39,27 +39,33 @@ package_fault one = if is_some (as_object one) then option_and_then (λ named. i
     || (is_some (text_of (codes "ecosystem") named) && is_some (text_of (codes "name") named))
     then None else Some Faults.Package) (get (codes "package") one) else Some Faults.Package
 
+-- a range has one of the three types
+abbrev pub type_fault : (range : Data) → Option FaultKind
+type_fault range = if option_map_or (λ type. is_ordered type || bytes_eq type (codes "GIT"))
+    (text_of (codes "type") range) false then None else Some Faults.Type
+
 module _ (is_version : List ℕ → Bool) where
   -- ---- the events of a range
 
-  -- the text is a version, or the `0` that introduces
+  -- the text is a version, the `0` that introduces, or the `*` that is no limit
   abbrev pub has_place : EventValue → Bool
   has_place (introduced text) = bytes_eq text (codes "0") || is_version text
   has_place (fixed text) = is_version text
   has_place (last_affected text) = is_version text
+  has_place (limit text) = bytes_eq text (codes "*") || is_version text
 
   abbrev pub event_fault : (event : Data) → Option FaultKind
   event_fault event =
       option_map_or (λ e. if has_place e then None else Some Faults.Event) (event_of event) (Some Faults.Event)
 
-  -- a range has a `type`, and one of type `SEMVER` has `events`
-  abbrev pub semver_fault : (range : Data) → Option FaultKind
-  semver_fault range = option_or (items_fault (codes "events") Faults.Events range)
+  -- a range that has versions has `events`
+  abbrev pub events_fault : (range : Data) → Option FaultKind
+  events_fault range = option_or (items_fault (codes "events") Faults.Events range)
       (first_fault event_fault (items_at (codes "events") range))
 
   abbrev pub osv_range_fault : (range : Data) → Option FaultKind
-  osv_range_fault range = if is_some (text_of (codes "type") range)
-      then (if is_semver range then semver_fault range else None) else Some Faults.Type
+  osv_range_fault range =
+      option_or (type_fault range) (if has_versions range then events_fault range else None)
 
   -- ---- an element of `affected`
 

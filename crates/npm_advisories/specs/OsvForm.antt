@@ -1,11 +1,11 @@
 -- Advisories in OSV's form: the fields of the OSV schema.
-use Rattle.std.specs.Prelude.{ℕ, List, [], ◌∷◌, ◌++◌, Bool, false, if◌then◌else◌, Option, Some, None, bytes_eq, codes}
+use Rattle.std.specs.Prelude.{ℕ, List, [], ◌∷◌, ◌++◌, ◌||◌, Bool, false, if◌then◌else◌, Option, Some, None, bytes_eq, codes}
 use Rattle.std.specs.Prelude.{is_some, option_and_then, option_map, unwrap_or}
 use Rattle.std.specs.Option.{option_map_or}
 use Rattle.serde_json.specs.Data.{Data, Items, item, no_items, null}
 use Rattle.serde_json.specs.Find.{as_array, as_str, at, get}
 use Rattle.npm_advisories.specs.Advisories.{AboutValue, Affected, AdvisoryValue, in_osv, severity_of_option, text_of}
-use Rattle.npm_advisories.specs.OsvRanges.{EventValue, fixed, introduced, last_affected}
+use Rattle.npm_advisories.specs.OsvRanges.{EventValue, fixed, introduced, last_affected, limit}
 
 -- ---- what an advisory says of itself
 
@@ -41,11 +41,12 @@ name_in named = option_and_then
 abbrev pub npm_name : (one : Data) → Option (List ℕ)
 npm_name one = option_and_then name_in (get (codes "package") one)
 
--- the only one of the four members of an event, if it is not `limit`
+-- the only one of the four members of an event
 abbrev pub only_one : (introduced fixed last_affected limit : Option Data) → Option EventValue
 only_one (Some value) None None None = option_map introduced (as_str value)
 only_one None (Some value) None None = option_map fixed (as_str value)
 only_one None None (Some value) None = option_map last_affected (as_str value)
+only_one None None None (Some value) = option_map limit (as_str value)
 only_one _ _ _ _ = None
 
 -- `fixed` 2.0.0 of `{"fixed": "2.0.0"}`
@@ -57,15 +58,19 @@ abbrev pub events_of : Items → List EventValue
 events_of no_items = []
 events_of (item event others) = option_map_or (λ e. e ∷ []) (event_of event) [] ++ events_of others
 
--- the type of a range is `SEMVER`, and not `GIT` or `ECOSYSTEM`
-abbrev pub is_semver : (range : Data) → Bool
-is_semver range = option_map_or (λ type. bytes_eq type (codes "SEMVER")) (text_of (codes "type") range) false
+-- a type of ranges: `SEMVER`, or `ECOSYSTEM`, which is the order of npm and so the same; `GIT` has commits
+abbrev pub is_ordered : (type : List ℕ) → Bool
+is_ordered type = bytes_eq type (codes "SEMVER") || bytes_eq type (codes "ECOSYSTEM")
 
--- the events of each range of that type
+-- the range has versions
+abbrev pub has_versions : (range : Data) → Bool
+has_versions range = option_map_or is_ordered (text_of (codes "type") range) false
+
+-- the events of each range that has versions
 abbrev pub ranges_of : Items → List (List EventValue)
 ranges_of no_items = []
 ranges_of (item range others) =
-    (if is_semver range then events_of (items_at (codes "events") range) ∷ [] else []) ++ ranges_of others
+    (if has_versions range then events_of (items_at (codes "events") range) ∷ [] else []) ++ ranges_of others
 
 -- the strings of a list
 abbrev pub texts_of : Items → List (List ℕ)

@@ -9,13 +9,14 @@ ghost use Rattle.node_semver.specs.RangeAlgebra.{sets_of_answer};
 ghost use Rattle.node_semver.specs.Ranges.{IsRangeSet, RangeContains};
 ghost use Rattle.npm_advisories.specs.Advisories as Advisories;
 ghost use Rattle.npm_advisories.specs.Faults as Faults;
-ghost use Rattle.npm_advisories.specs.Advisories.{about_value};
+ghost use Rattle.npm_advisories.specs.Advisories.{about_value, range_text};
 ghost use Rattle.npm_advisories.specs.Private.Reading.{IsAdvisory, IsRangeOf, IsUnreadAs};
 
 use crate::Result;
 use crate::fault::{FaultKind, Unread};
 use crate::severity::Severity;
-use node_semver::{NpmOptions, Range, Version, VersionRef};
+use node_semver::{Range, Version, VersionRef};
+use npm_semver::NpmOptions;
 use semver_cuts::Span;
 use serde_json::Value;
 use std::alloc::Global;
@@ -147,16 +148,14 @@ pub(crate) fn text_of<'v>(
     }
 }
 
-/// The range that `vulnerable_versions` writes.
+/// The range that `vulnerable_versions` writes: all versions if it is not there.
 fn range_of(alloc: Global, entry: &Value) -> Result<Range, Unread>
-    ensures range { IfOk result (λ range. IsRangeOf (Advisories.npm_affected (view entry.now)) (Some range)) }
+    ensures range { IfOk result (λ range. IsRangeOf (range_text (Advisories.npm_range_text (view entry.now))) (Some range)) }
     ensures sound { OnOk result (Faults.range_fault (view entry.now) ≡ None) }
     ensures refused { IfErr result (IsUnreadAs (Faults.range_fault (view entry.now))) }
 {
-    let Some(text) = entry.get("vulnerable_versions").and_then(Value::as_str) else {
-        return Err(Unread::Refused(FaultKind::RangeText));
-    };
-    match Range::parse_npm(alloc, text, OPTIONS) {
+    let text = text_of(entry, "vulnerable_versions", FaultKind::RangeText)?;
+    match npm_semver::parse_range(alloc, text.unwrap_or("*"), OPTIONS) {
         Ok(range) => Ok(range),
         Err(error) if error.is_out_of_memory() => Err(Unread::Memory),
         Err(_) => Err(Unread::Refused(FaultKind::Range)),

@@ -30,7 +30,7 @@ pub enum FaultKind {
     /// `url` is no string.
     #[error("`url` is no string")]
     Url,
-    /// `vulnerable_versions` is missing, or no string.
+    /// `vulnerable_versions` is no string.
     #[error("`vulnerable_versions` is no string")]
     RangeText,
     /// `vulnerable_versions` is no range.
@@ -51,14 +51,14 @@ pub enum FaultKind {
     /// OSV: `ranges` is no list.
     #[error("`ranges` is no list")]
     Ranges,
-    /// OSV: `type` of a range is missing, or no string.
-    #[error("`type` of a range is no string")]
+    /// OSV: `type` of a range is missing, or not one of the three.
+    #[error("`type` of a range is not `SEMVER`, `ECOSYSTEM` or `GIT`")]
     Type,
     /// OSV: `events` of a range is no list.
     #[error("`events` of a range is no list")]
     Events,
-    /// OSV: an event has not exactly one of `introduced`, `fixed` and `last_affected`, or its text is no version.
-    #[error("an event is no version that is `introduced`, `fixed` or `last_affected`")]
+    /// OSV: an event has not exactly one of `introduced`, `fixed`, `last_affected` and `limit`, or its text is no version.
+    #[error("an event is no version that is `introduced`, `fixed`, `last_affected` or `limit`")]
     Event,
     /// OSV: `versions` is no list.
     #[error("`versions` is no list")]

@@ -1,9 +1,12 @@
 //! The audit of installed packages.
-ghost use Rattle.std.specs.Prelude.{◌≡◌, List, IfErr, IfOk, None, OnOk, map};
+ghost use Rattle.std.specs.Prelude.{◌≡◌, List, IfErr, IfOk, None, OnOk, Option, map};
 ghost use Rattle.std.specs.Option.{MatchOption};
 ghost use Rattle.serde_json.specs.View.{view};
+ghost use Rattle.node_semver.specs.Ranges.{IsRangeEnd};
+ghost use Rattle.node_semver.specs.Versions.{VersionValue};
 ghost use Rattle.npm_advisories.specs.Advisories.{AdvisoryValue, about_name};
-ghost use Rattle.npm_advisories.specs.Audit.{IsAudit, IsSpared, found_value, installed_value};
+ghost use Rattle.npm_advisories.specs.Audit.{IsAudit, IsReadAs, IsSpared, found_value, installed_value};
+ghost use Rattle.npm_advisories.specs.Audit.{version_or_least};
 ghost use Rattle.npm_advisories.specs.Files.{IsAuditError, IsFileFault, advisories_of};
 ghost use Rattle.npm_advisories.specs.Private.Auditing.{IsFoundOf};
 ghost use Rattle.npm_advisories.specs.Private.Index.{IsIndex};
@@ -13,7 +16,7 @@ use crate::advisory::About;
 use crate::fault::AuditError;
 use crate::hits::hits_of;
 use crate::index::Index;
-use crate::offer::offer_of;
+use crate::offer::offer_above;
 use crate::read::read_file;
 use crate::severity::Severity;
 use node_semver::{Version, VersionRef};
@@ -52,7 +55,8 @@ pub struct Found<'f, 'v> {
 /// are less severe than the level are left out of the hits. An advisory whose severity is unknown is never left out. The
 /// offered versions are hit by none of them, whatever the severity.
 ///
-/// A package whose version is no version is not hit.
+/// A version that is none is hit by each advisory about the name, since nobody knows which one it is. Then the least releases of
+/// all are offered.
 ///
 /// # Errors
 ///
@@ -112,14 +116,12 @@ fn found_of<'f, 'v>(
     let Some(advisories) = index.at(installed.name) else {
         return Ok(None);
     };
-    let Ok(version) = VersionRef::parse(installed.version) else {
-        return Ok(None);
-    };
+    let version = read_version(installed.version);
     let hits = hits_of(alloc, advisories, level, &version)?;
     if hits.as_slice().is_empty() {
         return Ok(None);
     }
-    let offer = offer_of(alloc, &version, advisories, &installed.asked)?;
+    let offer = offer_above(alloc, &version, advisories, &installed.asked)?;
     Ok(Some(Found {
         folder: installed.folder,
         name: installed.name,
@@ -128,4 +130,16 @@ fn found_of<'f, 'v>(
         least: offer.least,
         admitted: offer.admitted,
     }))
+}
+
+/// What an installed version is read as, if it is a version.
+fn read_version(text: &str) -> Option<VersionRef<'_>>
+    ensures read { IsReadAs text.now result }
+    ensures only { (v : Option VersionValue) → IsReadAs text.now v → v ≡ result }
+    ensures end { IsRangeEnd (version_or_least result) }
+{
+    match VersionRef::parse(text) {
+        Ok(version) => Some(version),
+        Err(_) => None,
+    }
 }

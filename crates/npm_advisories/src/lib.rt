@@ -9,6 +9,7 @@ mod index;
 mod json;
 mod lock;
 mod member;
+mod name;
 mod offer;
 mod osv;
 mod read;

@@ -1,7 +1,6 @@
 //! The audit of a lock file.
-ghost use Rattle.std.specs.Prelude.{◌≡◌, ℕ, List, None, IfErr, IfOk, OnOk, codes, map, option_map};
+ghost use Rattle.std.specs.Prelude.{◌≡◌, ◌≢◌, ◌⊎◌, [], ℕ, List, None, IfErr, IfOk, OnOk, map};
 ghost use Rattle.std.specs.Option.{MatchOption};
-ghost use Rattle.std.specs.Str.Pattern.{RFindsText, SplitsAroundMatch};
 ghost use Rattle.serde_json.specs.Data.{Data};
 ghost use Rattle.serde_json.specs.View.{members_view, view};
 ghost use Rattle.npm_lock.specs.Dependents.{texts_at};
@@ -9,6 +8,7 @@ ghost use Rattle.npm_lock.specs.Faults.{lock_fault};
 ghost use Rattle.npm_lock.specs.Packages.{is_link};
 ghost use Rattle.npm_advisories.specs.Audit.{InstalledValue, IsAudit, found_value, installed_value};
 ghost use Rattle.npm_advisories.specs.Files.{IsFileFault, advisories_of};
+ghost use Rattle.npm_advisories.specs.FolderNames.{IsFolderName};
 ghost use Rattle.npm_advisories.specs.LockFaults.{IsLockError};
 ghost use Rattle.npm_advisories.specs.LockFile.{AreInstalled, AreInstalledOf, IsInstalledAs, IsName, IsOther};
 
@@ -16,6 +16,7 @@ use crate::Result;
 use crate::fault::{AuditError, Fault};
 use crate::found::{Found, Installed, audit};
 use crate::member::text_at;
+use crate::name::folder_name;
 use crate::severity::Severity;
 use npm_lock::{CheckError, Dependents};
 use serde_json::{Map, Value};
@@ -34,8 +35,8 @@ pub enum LockError<'f> {
 
 /// Returns the installed packages of a lock file that an advisory hits, in the order of their folders' bytes.
 ///
-/// Each member of `packages` counts that is neither the root nor a link, and has a name and a version. The name is
-/// `name`, which an alias has, or what follows the last `node_modules/` of the folder. [`audit`] says what is found.
+/// Each member of `packages` counts that is neither the root nor a link, and has a version. The name is `name`, which an
+/// alias has, or else the last part of the folder with its scope: `w` for `packages/w`. [`audit`] says what is found.
 ///
 /// # Errors
 ///
@@ -115,16 +116,13 @@ fn installed_as<'v>(
     if folder.is_empty() || is_link(entry) {
         return Ok(None);
     }
-    let Some(name) = name_of(folder, entry) else {
-        return Ok(None);
-    };
     let Some(version) = text_at(entry, "version") else {
         return Ok(None);
     };
     let asked = asked_at(alloc, dependents, folder)?;
     Ok(Some(Installed {
         folder,
-        name,
+        name: name_of(folder, entry),
         version,
         asked,
     }))
@@ -141,23 +139,24 @@ fn asked_at<'v>(alloc: Global, dependents: &Dependents<'v>, folder: &'v str) -> 
 }
 
 /// The name of a package.
-fn name_of<'v>(folder: &'v str, entry: &'v Value) -> Option<&'v str>
-    ensures { IsName folder.now (view entry.now) (option_map (λ name. name.now) result) }
+fn name_of<'v>(folder: &'v str, entry: &'v Value) -> &'v str
+    ensures { IsName folder.now (view entry.now) result.now }
 {
     match text_at(entry, "name") {
-        Some(name) => Some(name),
-        None => placed_name(folder),
+        Some(said) => said_or_placed(folder, said),
+        None => folder_name(folder),
     }
 }
 
-/// What follows the last `node_modules/` of a folder.
-fn placed_name(folder: &str) -> Option<&str>
-    ensures { MatchOption result (RFindsText (codes "node_modules/") folder.now None)
-        (λ name. (front : List ℕ) × SplitsAroundMatch (RFindsText (codes "node_modules/")) folder.now front name.now) }
+/// The name that is said, or that of the folder if it is empty.
+fn said_or_placed<'v>(folder: &'v str, said: &'v str) -> &'v str
+    ensures { ((result.now ≡ said.now) × (said.now ≢ []))
+        ⊎ ((said.now ≡ []) × IsFolderName folder.now result.now) }
 {
-    match folder.rsplit_once("node_modules/") {
-        Some((_, name)) => Some(name),
-        None => None,
+    if said.is_empty() {
+        folder_name(folder)
+    } else {
+        said
     }
 }
 

@@ -17,6 +17,7 @@ ghost use Rattle.npm_advisories.specs.declared.fault.FaultKind.TheVariants as Ki
 mod affected;
 mod between;
 mod events;
+mod marks;
 
 use crate::Result;
 use crate::advisory::{About, Advisory, severity_of, text_of};

@@ -11,7 +11,9 @@ ghost use Rattle.npm_advisories.specs.Private.Spans.{Contain, IsInRange, IsOutsi
 
 use crate::Result;
 use crate::advisory::Advisory;
-use node_semver::{NpmOptions, Range, Version, VersionRef};
+use node_semver::{Range, Version, VersionRef};
+use npm_semver::NpmOptions;
+use semver_cuts::algebra::join;
 use semver_cuts::{Cut, Span};
 use std::alloc::{AllocError, Global};
 
@@ -55,7 +57,7 @@ pub(crate) fn add_outside(alloc: Global, spans: &mut Vec<Span<Version>>, text: &
         → (¬ RangeContains spans.new.items v) ↔ ((¬ RangeContains spans.old.items v) × IsAskedFor text.now v))) }
     ensures none { IfOk result (λ is_range. OnFalse is_range ((v : VersionValue) → ¬ IsAskedFor text.now v)) }
 {
-    let range = match Range::parse_npm(alloc, text, ASKED) {
+    let range = match npm_semver::parse_range(alloc, text, ASKED) {
         Ok(range) => range,
         Err(error) if error.is_out_of_memory() => return Err(AllocError),
         Err(_) => return Ok(false),
@@ -75,6 +77,14 @@ fn sets_outside(alloc: Global, range: &Range) -> Result<Vec<Span<Version>>>
         Some(outside) => outside.sets(alloc),
         None => Ok(Vec::new(alloc)),
     }
+}
+
+/// The same versions in spans that ascend and do not touch: many spans that end at one version take long to search.
+pub(crate) fn joined(alloc: Global, spans: Vec<Span<Version>>) -> Result<Vec<Span<Version>>>
+    requires { IsRangeValue spans.items }
+    ensures { IfOk result (λ joined. Contain joined.items (RangeContains spans.items)) }
+{
+    join(alloc, spans)
 }
 
 /// The least release that lies in none of the spans.

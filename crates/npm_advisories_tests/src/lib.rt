@@ -1,4 +1,4 @@
-//! Tests of the public calls of `npm_advisories`: advisories in npm's form and in OSV's, large files, and lifetimes.
+//! Tests of the public calls of `npm_advisories`: advisories in npm's form and in OSV's, large files and lists, and lifetimes.
 #![tactic(auto)]
 
 #[cfg(test)]
@@ -7,6 +7,8 @@ mod checks;
 mod large;
 #[cfg(test)]
 mod lifetimes;
+#[cfg(test)]
+mod many;
 #[cfg(test)]
 mod npm_form;
 #[cfg(test)]

@@ -73,12 +73,30 @@ fn offers_a_release_for_a_prerelease(rt: HostRuntime) {
     );
 }
 
+const UNREAD: &str =
+    r#"{"admitted":"1.2.6","advisories":[{"id":4,"severity":"critical"}],"folder":"minimist","least":"0.2.4","name":"minimist","version":"1.2"};"#;
+
+// A version that is none is hit by each advisory of the level, and the least releases of all are offered.
+#[test]
+fn hits_a_version_that_is_none(rt: HostRuntime) {
+    let alloc = rt.alloc();
+    assert!(rt;
+        finds_of(
+            alloc,
+            Severity::Critical,
+            ("minimist", "1.2"),
+            &["^1.0.0"],
+            UNREAD
+        )
+    );
+    assert!(rt; finds_of(alloc, Severity::Info, ("minimise", "1.2"), &[], ""));
+}
+
 // A package and its version.
-const SPARED: [(&str, &str); 4] = [
+const SPARED: [(&str, &str); 3] = [
     ("lodash", "4.17.22"),
     ("minimist", "0.2.4"),
     ("Lodash", "4.17.11"),
-    ("lodash", "4.17"),
 ];
 
 #[test]
@@ -93,7 +111,7 @@ fn finds_nothing_where_nothing_hits(rt: HostRuntime) {
     }
 }
 
-const FAULTS: [(&str, &str); 13] = [
+const FAULTS: [(&str, &str); 15] = [
     ("{}", ""),
     ("1", "File  0"),
     ("[]", ""),
@@ -105,8 +123,18 @@ const FAULTS: [(&str, &str); 13] = [
         "Id a 0",
     ),
     (
-        r#"{"a": [{"id": 1, "vulnerable_versions": "*"}, {"id": 1}]}"#,
+        r#"{"a": [{"id": 1, "vulnerable_versions": "*"}, {"id": 1, "vulnerable_versions": 1}]}"#,
         "RangeText a 1",
+    ),
+    // An advisory without a range is about all versions.
+    (
+        r#"{"a": [{"id": 1}, {"id": 1, "vulnerable_versions": null}]}"#,
+        "",
+    ),
+    // Of several faults the first is told: of the names in their order, of the advisories, and of the members.
+    (
+        r#"{"b": 1, "a": [{"id": 1, "url": 1, "title": 1, "vulnerable_versions": "foo"}, 1]}"#,
+        "Title a 0",
     ),
     (
         r#"{"a": [{"id": 1, "vulnerable_versions": "foo"}]}"#,
@@ -147,8 +175,22 @@ const LOCK: &str = r#"{"lockfileVersion": 3, "packages": {
         "node_modules/b/node_modules/minimist": {"version": "1.2.5"},
         "node_modules/old": {"name": "lodash", "version": "4.17.21"}}}"#;
 
+// A workspace and another folder that a link names are called as their folders are, with the scope; a link is not audited.
+const LINKED: &str = r#"{"lockfileVersion": 3, "packages": {"": {"workspaces": ["packages/*"]},
+        "node_modules/@s/w": {"link": true, "resolved": "packages/@s/w", "version": "0.3.0"},
+        "packages/@s/w": {"version": "0.3.0"}, "packages/w": {"version": "0.3.0"}, "packages/x": {"name": "w", "version": "0.3.0"},
+        "w": {"name": "", "version": "0.3.0"}, "@s/w": {"name": null, "version": "0.3.0"}}}"#;
+
+const WORKSPACES: &str =
+    r#"{"w": [{"id": 1}], "@s/w": [{"id": 2, "vulnerable_versions": "<1"}], "x": [{"id": 3}]}"#;
+
 // Advisories, a lock file, and what is found: the folder and the name of each package that is hit, and what is offered.
-const LOCKS: [(&str, &str, &str); 3] = [
+const LOCKS: [(&str, &str, &str); 4] = [
+    (
+        WORKSPACES,
+        LINKED,
+        "@s/w @s/w 1.0.0 1.0.0;packages/@s/w @s/w 1.0.0 1.0.0;packages/w w none none;packages/x w none none;w w none none;",
+    ),
     (
         FILE,
         LOCK,

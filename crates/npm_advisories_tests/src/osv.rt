@@ -60,7 +60,7 @@ fn hits_in(alloc: Global, text: &str, hit: &str, spared: &str) -> bool {
 }
 
 // events; versions that are hit; versions that are not
-const EVENTS: [(&str, &str, &str); 8] = [
+const EVENTS: [(&str, &str, &str); 19] = [
     (
         r#"{"introduced": "1.0.0"}, {"fixed": "2.0.0"}"#,
         "1.0.0 1.0.1-a 1.5.0+b 2.0.0-rc.1",
@@ -83,7 +83,7 @@ const EVENTS: [(&str, &str, &str); 8] = [
         "1.0.0 1.9.9 3.0.0 3.9.9",
         "0.9.9 2.0.0 2.9.9 4.0.0",
     ),
-    // An end at the place where a fault is introduced lies not after it.
+    // A `fixed` version where a fault is introduced does not end it.
     (
         r#"{"introduced": "1.0.0"}, {"fixed": "2.0.0"}, {"introduced": "2.0.0"}, {"fixed": "3.0.0"}"#,
         "1.0.0 2.0.0 2.5.0",
@@ -91,6 +91,60 @@ const EVENTS: [(&str, &str, &str); 8] = [
     ),
     (r#"{"fixed": "2.0.0"}"#, "", "1.0.0 2.0.0"),
     ("", "", "1.0.0"),
+    // A version alone, in either order.
+    (
+        r#"{"introduced": "2.0.0"}, {"last_affected": "2.0.0"}"#,
+        "2.0.0 2.0.0+b",
+        "1.9.9 2.0.1-0 2.5.0",
+    ),
+    (
+        r#"{"last_affected": "2.0.0"}, {"introduced": "2.0.0"}"#,
+        "2.0.0",
+        "1.9.9 2.5.0",
+    ),
+    (
+        r#"{"introduced": "1.0.0"}, {"fixed": "1.5.0"}, {"introduced": "2.0.0"}, {"last_affected": "2.0.0"}"#,
+        "1.0.0 2.0.0",
+        "1.5.0 2.5.0",
+    ),
+    // The end may be that of the earlier fault alone, so what is introduced at it is not ended.
+    (
+        r#"{"introduced": "1.0.0"}, {"last_affected": "2.0.0"}, {"introduced": "2.0.0"}"#,
+        "1.0.0 2.0.0 2.0.1-0 2.5.0",
+        "0.9.9",
+    ),
+    (
+        r#"{"introduced": "2.0.0"}, {"introduced": "0"}, {"last_affected": "2.0.0+b"}, {"fixed": "3.0.0"}"#,
+        "0.0.1 2.0.0 2.5.0",
+        "3.0.0",
+    ),
+    (
+        r#"{"introduced": "1.0.0"}, {"fixed": "2.0.0"}, {"last_affected": "2.0.0"}, {"introduced": "2.0.0"}"#,
+        "1.0.0 2.0.0",
+        "2.0.1",
+    ),
+    // A version is before one of the limits. OSV schema, "Evaluation", `BeforeLimits`.
+    (
+        r#"{"introduced": "1.0.0"}, {"limit": "1.5.0"}"#,
+        "1.0.0 1.5.0-rc.1",
+        "0.9.9 1.5.0 2.0.0",
+    ),
+    (
+        r#"{"introduced": "1.0.0"}, {"limit": "1.5.0"}, {"limit": "3.0.0"}, {"fixed": "2.0.0"}"#,
+        "1.0.0 1.6.0",
+        "2.0.0 2.5.0",
+    ),
+    (
+        r#"{"introduced": "1.0.0"}, {"limit": "1.5.0"}, {"limit": "*"}"#,
+        "1.0.0 99.0.0",
+        "0.9.9",
+    ),
+    (
+        r#"{"introduced": "1.0.0"}, {"limit": "1.0.0"}"#,
+        "",
+        "0.9.9 1.0.0 1.0.1",
+    ),
+    (r#"{"limit": "1.5.0"}"#, "", "1.0.0 2.0.0"),
 ];
 
 // OSV schema, "affected[].ranges[].events" and "Evaluation".
@@ -113,7 +167,7 @@ fn members_of(alloc: Global, events: &str) -> Result<String, AllocError> {
 }
 
 // members; versions that are hit; versions that are not
-const MEMBERS: [(&str, &str, &str); 4] = [
+const MEMBERS: [(&str, &str, &str); 5] = [
     (
         r#""versions": ["1.2.3", "no version", 7, "v2.0.0+x"]"#,
         "1.2.3 1.2.3+b 2.0.0",
@@ -129,6 +183,12 @@ const MEMBERS: [(&str, &str, &str); 4] = [
         "",
         "1.0.0",
     ),
+    // npm's own order is SemVer's.
+    (
+        r#""ranges": [{"type": "ECOSYSTEM", "events": [{"introduced": "0"}, {"fixed": "1.2.3"}]}]"#,
+        "0.0.1 1.2.2 1.2.3-rc.1",
+        "1.2.3",
+    ),
     (r#""ranges": null"#, "", "1.0.0"),
 ];
 
@@ -140,12 +200,13 @@ fn hits_listed_versions(rt: HostRuntime) {
 }
 
 // A file, and whether 1.0.0 of `a` is hit.
-const FILES: [(&str, &str); 8] = [
+const FILES: [(&str, &str); 9] = [
     (r#"[]"#, "spared"),
     (r#"{"id": "O"}"#, "spared"),
     // In npm's form a package may be called `id`.
     (r#"{"id": []}"#, "spared"),
     (r#"{"id": "O", "affected": [{}]}"#, "spared"),
+    (r#"{"id": "O", "affected": [{"package": null}]}"#, "spared"),
     (
         r#"{"id": "O", "affected": [{"package": {"ecosystem": "PyPI", "name": "a"}, "ranges": 1}]}"#,
         "spared",

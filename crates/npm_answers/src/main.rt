@@ -5,7 +5,8 @@
 //! text is refused, and `v` if the version text is no version. It exits with status 2 if it cannot answer.
 #![tactic(auto)]
 
-use node_semver::{NpmOptions, Range, Version};
+use node_semver::{Range, Version};
+use npm_semver::NpmOptions;
 use std::alloc::{AllocError, AllocGlobal, Global};
 use std::env;
 use std::env::Env;
@@ -67,7 +68,7 @@ fn letter_of(alloc: Global, options: NpmOptions, range: &str, version: &str) -> 
     let Ok(version) = Version::parse(alloc, version) else {
         return "v";
     };
-    let Ok(range) = Range::parse_npm(alloc, range, options) else {
+    let Ok(range) = npm_semver::parse_range(alloc, range, options) else {
         return "x";
     };
     let admits = if options.include_prerelease {

@@ -16,17 +16,17 @@ use Rattle.npm_lock.specs.VersionOne as VersionOne
 use Rattle.npm_lock.specs.VersionOne.{any_fault, converted, entry_fault, file_of, has_named, is_version_one}
 use Rattle.npm_lock.specs.VersionOne.{manifest_fault, member_of, packages_below, packages_of, required_of}
 use Rattle.npm_lock.specs.VersionOne.{requires_fault}
-use Rattle.npm_lock.specs.VersionOne.{version_in, version_one_fault, with_packages, with_some}
+use Rattle.npm_lock.specs.VersionOne.{name_in, version_in, version_one_fault, with_packages, with_some}
 use Rattle.npm_lock.specs.declared.fault.Fault.{Fault}
 use Rattle.npm_lock.specs.declared.fault.Fault.TheVariants as Faults
 
 -- ---- one package
 
 -- the members of a package, whatever they are
-abbrev made_of : (version : Option (List ℕ)) (optional dev required : Option Data) → Data
-made_of version optional dev required = object (with_some (codes "version") (option_map string version)
-    (with_some (codes "optional") optional (with_some (codes "dev") dev
-    (with_some (codes "dependencies") required no_members))))
+abbrev made_of : (version name : Option (List ℕ)) (optional dev required : Option Data) → Data
+made_of version name optional dev required = object (with_some (codes "version") (option_map string version)
+    (with_some (codes "optional") optional (with_some (codes "name") (option_map string name)
+    (with_some (codes "dev") dev (with_some (codes "dependencies") required no_members)))))
 
 abbrev required_fault : (required : Option Data) → Option Fault
 required_fault required = option_and_then
@@ -36,25 +36,41 @@ or_none : {A : Type 0} (first : Option A) → option_or (option_or first None) N
 or_none None = refl
 or_none (Some x) = refl
 
-made_sound : (packages : Data) (version : Option (List ℕ)) (optional dev required : Option Data)
-    → member_fault packages (made_of version optional dev required) ≡ required_fault required
+made_sound : (packages : Data) (version name : Option (List ℕ)) (optional dev required : Option Data)
+    → member_fault packages (made_of version name optional dev required) ≡ required_fault required
 unfolding serde_json_on_literals
-made_sound packages None None None None = refl
-made_sound packages None None None (Some r) = or_none _
-made_sound packages None None (Some d) None = refl
-made_sound packages None None (Some d) (Some r) = or_none _
-made_sound packages None (Some o) None None = refl
-made_sound packages None (Some o) None (Some r) = or_none _
-made_sound packages None (Some o) (Some d) None = refl
-made_sound packages None (Some o) (Some d) (Some r) = or_none _
-made_sound packages (Some v) None None None = refl
-made_sound packages (Some v) None None (Some r) = or_none _
-made_sound packages (Some v) None (Some d) None = refl
-made_sound packages (Some v) None (Some d) (Some r) = or_none _
-made_sound packages (Some v) (Some o) None None = refl
-made_sound packages (Some v) (Some o) None (Some r) = or_none _
-made_sound packages (Some v) (Some o) (Some d) None = refl
-made_sound packages (Some v) (Some o) (Some d) (Some r) = or_none _
+made_sound packages None None None None None = refl
+made_sound packages None None None None (Some r) = or_none _
+made_sound packages None None None (Some d) None = refl
+made_sound packages None None None (Some d) (Some r) = or_none _
+made_sound packages None None (Some o) None None = refl
+made_sound packages None None (Some o) None (Some r) = or_none _
+made_sound packages None None (Some o) (Some d) None = refl
+made_sound packages None None (Some o) (Some d) (Some r) = or_none _
+made_sound packages None (Some n) None None None = refl
+made_sound packages None (Some n) None None (Some r) = or_none _
+made_sound packages None (Some n) None (Some d) None = refl
+made_sound packages None (Some n) None (Some d) (Some r) = or_none _
+made_sound packages None (Some n) (Some o) None None = refl
+made_sound packages None (Some n) (Some o) None (Some r) = or_none _
+made_sound packages None (Some n) (Some o) (Some d) None = refl
+made_sound packages None (Some n) (Some o) (Some d) (Some r) = or_none _
+made_sound packages (Some v) None None None None = refl
+made_sound packages (Some v) None None None (Some r) = or_none _
+made_sound packages (Some v) None None (Some d) None = refl
+made_sound packages (Some v) None None (Some d) (Some r) = or_none _
+made_sound packages (Some v) None (Some o) None None = refl
+made_sound packages (Some v) None (Some o) None (Some r) = or_none _
+made_sound packages (Some v) None (Some o) (Some d) None = refl
+made_sound packages (Some v) None (Some o) (Some d) (Some r) = or_none _
+made_sound packages (Some v) (Some n) None None None = refl
+made_sound packages (Some v) (Some n) None None (Some r) = or_none _
+made_sound packages (Some v) (Some n) None (Some d) None = refl
+made_sound packages (Some v) (Some n) None (Some d) (Some r) = or_none _
+made_sound packages (Some v) (Some n) (Some o) None None = refl
+made_sound packages (Some v) (Some n) (Some o) None (Some r) = or_none _
+made_sound packages (Some v) (Some n) (Some o) (Some d) None = refl
+made_sound packages (Some v) (Some n) (Some o) (Some d) (Some r) = or_none _
 
 -- the last of three tests
 last : (a b c : Bool) (x y z : Fault) (rest : Option Fault)
@@ -66,7 +82,7 @@ last true b c x y z rest is = cc is
 
 entry_sound : (packages entry : Data) → entry_fault entry ≡ None → member_fault packages (member_of entry) ≡ None
 entry_sound packages entry none =
-    made_sound packages (version_in entry) (get (codes "optional") entry) (get (codes "dev") entry) (required_of entry)
+    made_sound packages (version_in entry) (name_in entry) (get (codes "optional") entry) (get (codes "dev") entry) (required_of entry)
     ∙ last (not (is_some (as_object entry))) (not (has_text_version entry)) (not (has_named entry)) Faults.Entry
     Faults.PackageVersion Faults.Dependencies (requires_fault entry) none
 

@@ -6,3 +6,5 @@ pub mod SpecExamples
 pub mod OverrideExamples
 pub mod WorkspaceExamples
 pub mod VersionOneExamples
+pub mod InstalledExamples
+pub mod WordExamples

@@ -1,3 +1,4 @@
+pub mod BareTexts
 pub mod Candidates
 pub mod Converting
 pub mod Examples
@@ -12,6 +13,7 @@ pub mod NameLists
 pub mod OverrideNames
 pub mod OverrideRules
 pub mod PackageLists
+pub mod PatternSets
 pub mod ProblemTexts
 pub mod Nearest
 pub mod Reaching

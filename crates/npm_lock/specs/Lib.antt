@@ -11,6 +11,7 @@ pub mod Asked  -- what a package depends on
 pub mod Overrides  -- which dependencies `overrides` change
 pub mod Workspaces  -- which folders are workspaces of the root
 pub mod RangeText  -- which specs are ranges
+pub mod InstalledVersions  -- what the version of an installed package is read as
 pub mod Verdict  -- whether a version is what a spec asks for
 pub mod Outcomes  -- what is wrong with a dependency, and with the version of Node
 -- ---- the whole file

@@ -93,6 +93,21 @@ abbrev pub alias_of : List ℕ → Option (List ℕ)
 alias_of spec = option_and_then (after_either 58 58) (option_and_then (after_either 109 77)
     (option_and_then (after_either 112 80) (after_either 110 78 spec)))
 
+-- the name in `NAME@TEXT`: `a` of `a@^1` and of `a`. A text that can be no name has none: `^1`.
+abbrev pub plain_name : (alias : List ℕ) → Option (List ℕ)
+plain_name alias = if position_or_len is_at_sign alias == length alias
+    then (if is_name alias then Some alias else None) else Some (before_first is_at_sign alias)
+
+-- the same for a name that may have a scope: `@s/a` of `@s/a@^1` and of `@s/a`
+abbrev pub name_of_alias : (alias : List ℕ) → Option (List ℕ)
+name_of_alias alias = option_map_or (λ scoped. Some (64 ∷ before_first is_at_sign scoped))
+    (rest_after (codes "@") alias) (plain_name alias)
+
+-- the name of the package that a spec is an alias of: `a` of `npm:a@^1`. An alias that is refused has none.
+abbrev pub aliased_name : (spec : List ℕ) → Option (List ℕ)
+aliased_name spec = option_and_then
+    (λ alias. if is_location (range_of_alias alias) then None else name_of_alias alias) (alias_of spec)
+
 -- ---- specs
 
 -- an alias of what is in no registry is refused: `npm:a@github:b/c`

@@ -2,8 +2,9 @@
 -- "engines".
 use Rattle.std.specs.Prelude.{◌≡◌, ℕ, List, Bool, true, false, Option, Some, None, IfSome, bytes_eq, codes}
 use Rattle.std.specs.Str.{trim}
-use Rattle.node_semver.specs.NpmRanges.{IsNpmRefused, NpmOptions, NpmTextAdmits, with_plain_spaces}
-use Rattle.node_semver.specs.Versions.{IsVersionText, VersionValue}
+use Rattle.npm_semver.specs.NpmRanges.{IsNpmRefused, NpmOptions, NpmTextAdmits, with_plain_spaces}
+use Rattle.node_semver.specs.Versions.{VersionValue}
+use Rattle.npm_lock.specs.InstalledVersions.{IsInstalledVersion}
 use Rattle.npm_lock.specs.RangeText.{in_registry, is_tag, location, refused, spec_of}
 use Rattle.npm_lock.specs.declared.problem.Reason.TheVariants.{Location, Tag}
 use Rattle.npm_lock.specs.declared.verdict.Verdict.{Verdict}
@@ -32,7 +33,7 @@ abbrev pub asks_for_any : (text : List ℕ) → Bool
 asks_for_any text = bytes_eq (trim text) (codes "*")
 
 -- The verdict on a text that is a range or a tag, for the version of the package that was found, if it has one. A text
--- that is no range is a tag where it can be one. A version that is no version text does not satisfy a range.
+-- that is no range is a tag where it can be one. A text that npm reads no version in does not satisfy a range.
 pub data IsVerdictOfText (version : Option (List ℕ)) (text : List ℕ) : Verdict → Type 0 where
   any : asks_for_any text ≡ true → IsVerdictOfText version text Valid
   tag : asks_for_any text ≡ false → IsNoRange of_dependencies text → is_tag text ≡ true
@@ -40,13 +41,13 @@ pub data IsVerdictOfText (version : Option (List ℕ)) (text : List ℕ) : Verdi
   bad_range : asks_for_any text ≡ false → IsNoRange of_dependencies text → is_tag text ≡ false
       → IsVerdictOfText version text Invalid
   satisfied : (written : List ℕ) (v : VersionValue) → asks_for_any text ≡ false → ¬ IsNoRange of_dependencies text
-      → version ≡ Some written → IsVersionText written v → Admits of_dependencies text v
+      → version ≡ Some written → IsInstalledVersion written v → Admits of_dependencies text v
       → IsVerdictOfText version text Valid
   unsatisfied : (written : List ℕ) (v : VersionValue) → asks_for_any text ≡ false → ¬ IsNoRange of_dependencies text
-      → version ≡ Some written → IsVersionText written v → ¬ Admits of_dependencies text v
+      → version ≡ Some written → IsInstalledVersion written v → ¬ Admits of_dependencies text v
       → IsVerdictOfText version text Invalid
   no_version : asks_for_any text ≡ false → ¬ IsNoRange of_dependencies text
-      → IfSome version (λ written. (v : VersionValue) → ¬ IsVersionText written v)
+      → IfSome version (λ written. (v : VersionValue) → ¬ IsInstalledVersion written v)
       → IsVerdictOfText version text Invalid
 
 -- the verdict on a spec alone: a location is not checked, and what npm refuses no version satisfies

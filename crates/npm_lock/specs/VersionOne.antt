@@ -9,7 +9,7 @@ use Rattle.serde_json.specs.Find.{as_bool, as_null, as_number, as_object, as_str
 use Rattle.npm_lock.specs.Faults.{has_text_version, lock_fault, package_fault, specs_fault}
 use Rattle.npm_lock.specs.Folders.{place_in}
 use Rattle.npm_lock.specs.Packages.{Package, is_link}
-use Rattle.npm_lock.specs.RangeText.{SpecValue, in_registry, location, refused, spec_of}
+use Rattle.npm_lock.specs.RangeText.{SpecValue, aliased_name, in_registry, location, refused, spec_of}
 use Rattle.npm_lock.specs.declared.fault.Fault.{Fault}
 use Rattle.npm_lock.specs.declared.fault.Fault.TheVariants as Faults
 
@@ -67,6 +67,10 @@ unfoldable pub version_in : (entry : Data) → Option (List ℕ)
 version_in entry = option_and_then (λ version. registry_text (spec_of version))
     (option_and_then as_str (get (codes "version") entry))
 
+-- the name of the package that an alias stands for: `a` of `npm:a@1.0.0`
+unfoldable pub name_in : (entry : Data) → Option (List ℕ)
+name_in entry = option_and_then aliased_name (option_and_then as_str (get (codes "version") entry))
+
 -- what a package depends on: its `requires`, unless that is `true` or `false`
 abbrev pub required_of : (entry : Data) → Option Data
 required_of entry = option_and_then
@@ -78,12 +82,14 @@ with_some key None members = members
 with_some key (Some value) members = put key value members
 
 -- A package as a member of `packages`: `{"version": "1.0.0", "dependencies": {"b": "^1"}}` of
--- `{"version": "1.0.0", "requires": {"b": "^1"}}`, with `dev` and `optional` as they are.
+-- `{"version": "1.0.0", "requires": {"b": "^1"}}`, with `dev` and `optional` as they are. That of an alias also has the
+-- `name` of what it stands for.
 abbrev pub member_of : (entry : Data) → Data
 member_of entry = object (with_some (codes "version") (option_map string (version_in entry))
     (with_some (codes "optional") (get (codes "optional") entry)
+    (with_some (codes "name") (option_map string (name_in entry))
     (with_some (codes "dev") (get (codes "dev") entry)
-    (with_some (codes "dependencies") (required_of entry) no_members))))
+    (with_some (codes "dependencies") (required_of entry) no_members)))))
 
 -- the members, with one for each package; of two packages in one folder the later counts
 abbrev pub with_packages : List Package → Members → Members

@@ -19,6 +19,15 @@ patterns_of root = option_and_then
 
 -- ---- one pattern
 
+-- a text without each `/` at its start
+abbrev pub without_slashes : List ℕ → List ℕ
+without_slashes [] = []
+without_slashes (b ∷ text) = if b == 47 then without_slashes text else b ∷ text
+
+-- the pattern of a text, which may begin with `./` or `/`: `w` of `./w`, of `/w` and of `.//w`
+abbrev pub pattern_of : (text : List ℕ) → List ℕ
+pattern_of text = without_slashes (linked_folder text)
+
 -- the pattern without `*` or `**` at its end: `packages/` of `packages/*`
 abbrev pub stem_of : (pattern : List ℕ) → List ℕ
 stem_of pattern = without_end (codes "*") (without_end (codes "*") pattern)
@@ -66,13 +75,13 @@ is_matched folder pattern = if ends_with nat_eq pattern (codes "**")
     then is_base folder (stem_of pattern) || option_map_or are_parts (rest_after (stem_of pattern) folder) false
     else (if ends_with nat_eq pattern (codes "*")
     then option_map_or is_part (rest_after (stem_of pattern) folder) false
-    else bytes_eq folder pattern)
+    else bytes_eq pattern folder)
 
 -- ---- all patterns
 
--- a pattern that is a text, and such a one without `./` at its start
+-- a value that is a text, whose pattern is such
 abbrev pub is_such : (such : List ℕ → Bool) → Data → Bool
-is_such such pattern = option_map_or (λ text. such (linked_folder text)) (as_str pattern) false
+is_such such value = option_map_or (λ text. such (pattern_of text)) (as_str value) false
 
 -- one of them is such
 abbrev pub any_item : (such : Data → Bool) → Items → Bool

@@ -22,6 +22,7 @@ use crate::overrides::{Rules, overridden, rules_of};
 use crate::place::{Lock, Package, is_link};
 use crate::problem::Problems;
 use crate::search::outermost_of;
+use crate::workspace::Patterns;
 use node_semver::Version;
 use serde_json::Value;
 use std::alloc::Global;
@@ -89,10 +90,20 @@ fn check_package<'v>(
     problems.add_package(engine_problem(lock, asker)?)?;
     let is_installed = is_installed(asker.folder);
     let outermost = outermost_of(asker.folder);
+    let patterns = Patterns::of_asker(lock.alloc, asker)?;
     let all = asked_of(lock.alloc, asker.member, is_installed)?;
     for (name, asked) in all.iter() {
         let changed = overridden(rules, asker.folder, *name, *asked);
-        let judgement = judgement_of(lock, asker, index, outermost, is_installed, *name, changed)?;
+        let judgement = judgement_of(
+            lock,
+            asker,
+            index,
+            &patterns,
+            outermost,
+            is_installed,
+            *name,
+            changed,
+        )?;
         add_judgement(problems, lock.alloc, asker, *name, changed, judgement)?;
     }
     Ok(())

@@ -7,6 +7,7 @@ ghost use Rattle.npm_lock.specs.Outcomes.{IsOutcome, IsVerdictOn, dependency_val
 ghost use Rattle.npm_lock.specs.Private.Adding.{Adds};
 ghost use Rattle.npm_lock.specs.Private.PackageValue.{asked_value, judgement_value, package_value, packages_data};
 ghost use Rattle.npm_lock.specs.Private.Index.{IsIndexOf};
+ghost use Rattle.npm_lock.specs.Private.Patterns.{ArePatternsOf};
 ghost use Rattle.npm_lock.specs.Private.Search.{IsOutermostFrom};
 
 use crate::Result;
@@ -15,7 +16,7 @@ use crate::index::Index;
 use crate::place::{Lock, Package};
 use crate::problem::{Dependency, Kind, Problem, Problems, Reason, Unchecked};
 use crate::verdict::{Verdict, is_contained, verdict_of_both};
-use crate::workspace::{Workspace, workspace_of};
+use crate::workspace::{Patterns, Workspace, workspace_of};
 use node_semver::Version;
 use serde_json::Value;
 use std::alloc::Global;
@@ -35,12 +36,14 @@ pub(crate) fn judgement_of<'v>(
     lock: Lock<'v>,
     asker: Package<'v>,
     index: &Index<'v>,
+    patterns: &Patterns<'v>,
     outermost: &str,
     is_installed: bool,
     name: &'v str,
     asked: Asked<'v>,
 ) -> Result<Judgement<'v>>
     requires index { IsIndexOf (packages_data lock) index.now }
+    requires patterns { ArePatternsOf asker.folder.now (view asker.member.now) patterns.now }
     requires outermost { IsOutermostFrom asker.folder.now outermost.now }
     ensures { IfOk result (λ judgement. IsOutcome (packages_data lock.entry) asker.entry.folder.now
         (view asker.entry.member.now) is_installed name.now (asked_value asked.entry) (judgement_value judgement)) }
@@ -55,7 +58,7 @@ pub(crate) fn judgement_of<'v>(
     if is_local_peer(asked, is_installed, is_own) {
         return Ok(Judgement::Wrong(Kind::PeerLocal, Some(found)));
     }
-    match verdict_on(lock, asker, name, asked, found)? {
+    match verdict_on(lock, asker, patterns, name, asked, found)? {
         Verdict::Valid => Ok(Judgement::Fine),
         Verdict::Unchecked(reason) => Ok(Judgement::Unknown(reason, found)),
         Verdict::Invalid => Ok(Judgement::Wrong(Kind::Invalid, Some(found))),
@@ -124,17 +127,19 @@ fn dependency_of(
 }
 
 /// The verdict on a package that was found. A workspace of the root is valid whatever the spec.
-fn verdict_on(
+fn verdict_on<'v>(
     lock: Lock<'_>,
     asker: Package<'_>,
+    patterns: &Patterns<'v>,
     name: &str,
     asked: Asked<'_>,
-    found: Package<'_>,
+    found: Package<'v>,
 ) -> Result<Verdict>
+    requires { ArePatternsOf asker.folder.now (view asker.member.now) patterns.now }
     ensures { IfOk result (IsVerdictOn asker.entry.folder.now
         (view asker.entry.member.now) name.now (asked_value asked.entry) (package_value found.entry)) }
 {
-    match workspace_of(asker, found.folder) {
+    match workspace_of(asker, patterns, found.folder) {
         Workspace::Is => Ok(Verdict::Valid),
         Workspace::Unread => Ok(Verdict::Unchecked(Reason::Workspace)),
         Workspace::IsNot if asked.is_overridden => Ok(Verdict::Unchecked(Reason::Override)),

@@ -1,7 +1,7 @@
 //! What npm reads a spec as.
-ghost use Rattle.std.specs.Prelude.{◌≡◌, ◌<◌, option_map};
+ghost use Rattle.std.specs.Prelude.{◌≡◌, ◌<◌, ◌∷◌, option_map};
 ghost use Rattle.std.specs.Char.{is_ascii_alphabetic};
-ghost use Rattle.std.specs.List.{list_all, list_any};
+ghost use Rattle.std.specs.List.{before_first, list_all, list_any};
 ghost use Rattle.npm_lock.specs.RangeText as RangeText;
 ghost use Rattle.npm_lock.specs.RangeText.{range_of_alias};
 ghost use Rattle.npm_lock.specs.Private.PackageValue.{spec_value};
@@ -104,6 +104,49 @@ fn range_of_name<'t>(name: &'t str, other: &'t str) -> &'t str
     match name.split_once('@') {
         Some((_, range)) => filled(range),
         None => other,
+    }
+}
+
+/// Returns the name of the package that a spec is an alias of: `a` of `npm:a@^1`. An alias that npm refuses has none.
+pub(crate) fn aliased_name(spec: &str) -> Option<&str>
+    ensures { option_map (λ name. name.now) result ≡ RangeText.aliased_name spec.now }
+{
+    let alias = alias_of(spec)?;
+    if is_location(alias_range(alias)) {
+        return None;
+    }
+    name_of_alias(alias)
+}
+
+/// Returns the name of an alias, with its scope.
+fn name_of_alias(alias: &str) -> Option<&str>
+    ensures { option_map (λ name. name.now) result ≡ RangeText.name_of_alias alias.now }
+{
+    match rest_after(alias, "@") {
+        Some(scoped) => Some(scoped_name(alias, scoped)),
+        None => plain_name(alias),
+    }
+}
+
+/// Returns the name of an alias, given what follows the `@` of its scope.
+fn scoped_name<'t>(alias: &'t str, scoped: &str) -> &'t str
+    requires { alias.now ≡ 64 ∷ scoped.now }
+    ensures { result.now ≡ 64 ∷ before_first RangeText.is_at_sign scoped.now }
+{
+    match scoped.split_once('@') {
+        Some((name, _)) => &alias[..name.len() + 1],
+        None => alias,
+    }
+}
+
+/// Returns the name of an alias that has no scope.
+fn plain_name(alias: &str) -> Option<&str>
+    ensures { option_map (λ name. name.now) result ≡ RangeText.plain_name alias.now }
+{
+    match alias.split_once('@') {
+        Some((name, _)) => Some(name),
+        None if is_name(alias) => Some(alias),
+        None => None,
     }
 }
 

@@ -1,6 +1,6 @@
 //! Whether a version satisfies a dependency's spec.
 ghost use Rattle.std.specs.Prelude.{◌≡◌, ◌↔◌, List, ℕ, IfOk, IfNone, IfSome, IsTrue, false, if◌then◌else◌, option_map};
-ghost use Rattle.node_semver.specs.NpmRanges.{NpmSetsAdmit};
+ghost use Rattle.npm_semver.specs.NpmRanges.{NpmSetsAdmit};
 ghost use Rattle.node_semver.specs.Ranges.{RangeAdmits};
 ghost use Rattle.node_semver.specs.Versions.{VersionValue};
 ghost use Rattle.serde_json.specs.View.{view};
@@ -10,9 +10,11 @@ ghost use Rattle.npm_lock.specs.Verdict.{Admits, IsContained, IsNoRange, IsVerdi
 
 use crate::Result;
 use crate::asked::accepted_of;
+use crate::installed::installed_version;
 use crate::problem::Reason;
 use crate::range_text::{Spec, is_tag, spec_of};
-use node_semver::{NpmOptions, Range, Version, VersionRef};
+use node_semver::{Range, Version};
+use npm_semver::NpmOptions;
 use serde_json::Value;
 use std::alloc::{AllocError, Global};
 
@@ -92,7 +94,8 @@ fn asks_for_any(text: &str) -> bool
     text.trim() == "*"
 }
 
-/// Returns `true` if a version text satisfies a range. One that is no version does not, and neither does none.
+/// Returns `true` if the version of a package satisfies a range. A text that npm reads no version in does not, and neither does
+/// none.
 fn is_satisfied(range: &Range, version: Option<&str>) -> bool
     ensures { (text : List ℕ) → Verdicts.asks_for_any text ≡ false → ¬ IsNoRange Verdicts.of_dependencies text
         → ((v : VersionValue) → RangeAdmits range.now v ↔ Admits Verdicts.of_dependencies text v)
@@ -102,7 +105,10 @@ fn is_satisfied(range: &Range, version: Option<&str>) -> bool
     let Some(text) = version else {
         return false;
     };
-    VersionRef::parse(text).is_ok_and(|version| range.satisfies(&version))
+    match installed_version(text) {
+        Some(version) => range.satisfies(&version),
+        None => false,
+    }
 }
 
 /// Returns `true` if a version lies inside a range for Node, whatever prerelease it is. It lies in no text that is no
@@ -135,7 +141,7 @@ fn range_of(alloc: Global, text: &str, options: NpmOptions) -> Result<Option<Ran
     ensures means { IfOk result (λ range. IfSome range (λ range.
         (v : VersionValue) → NpmSetsAdmit options.include_prerelease range v ↔ Admits options text.now v)) }
 {
-    match Range::parse_npm(alloc, text, options) {
+    match npm_semver::parse_range(alloc, text, options) {
         Ok(range) => Ok(Some(range)),
         Err(error) if error.is_out_of_memory() => Err(AllocError),
         Err(_) => Ok(None),

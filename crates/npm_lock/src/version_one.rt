@@ -1,13 +1,13 @@
 //! Lock files of version 1, which npm 5 and 6 wrote: the `packages` that they stand for.
 ghost use Rattle.std.specs.Prelude.{◌≡◌, IfOk, OnOk, option_map};
-ghost use Rattle.serde_json.specs.Data.{object};
+ghost use Rattle.serde_json.specs.Data.{object, string};
 ghost use Rattle.serde_json.specs.View.{members_view, view};
 ghost use Rattle.npm_lock.specs.VersionOne as VersionOne;
 ghost use Rattle.npm_lock.specs.VersionOne.{packages_below, packages_named, with_packages, with_some};
 
 use crate::Result;
 use crate::place::place_text;
-use crate::range_text::{Spec, spec_of};
+use crate::range_text::{Spec, aliased_name, spec_of};
 use serde_json::{Map, Value, put};
 use std::alloc::Global;
 
@@ -98,15 +98,9 @@ fn member_of(alloc: Global, entry: &Value) -> Result<Value>
     let mut members = Map::new(alloc);
     put_copy(&mut members, alloc, "dependencies", required_of(entry))?;
     put_copy(&mut members, alloc, "dev", entry.get("dev"))?;
+    put_text(&mut members, alloc, "name", name_in(entry))?;
     put_copy(&mut members, alloc, "optional", entry.get("optional"))?;
-    if let Some(version) = version_in(entry) {
-        put(
-            &mut members,
-            alloc,
-            "version",
-            Value::try_from_str(alloc, version)?,
-        )?;
-    }
+    put_text(&mut members, alloc, "version", version_in(entry))?;
     Ok(Value::Object(members))
 }
 
@@ -124,6 +118,30 @@ fn put_copy(
         Some(value) => put(members, alloc, key, value.clone()?),
         None => Ok(()),
     }
+}
+
+/// Adds a text, if there is one.
+fn put_text(
+    members: &mut Map<String, Value>,
+    alloc: Global,
+    key: &str,
+    text: Option<&str>,
+) -> Result<()>
+    ensures { OnOk result (members_view members.new.entries
+        ≡ with_some key.now (option_map (λ text. string text.now) text.entry) (members_view members.old.entries)) }
+{
+    match text {
+        Some(text) => put(members, alloc, key, Value::try_from_str(alloc, text)?),
+        None => Ok(()),
+    }
+}
+
+/// Returns the name of the package that an alias stands for: `a` of `npm:a@1.0.0`.
+#[tactic(auto, unfolding(crate::specs::VersionOne::name_in))]
+fn name_in(entry: &Value) -> Option<&str>
+    ensures { option_map (λ name. name.now) result ≡ VersionOne.name_in (view entry.now) }
+{
+    aliased_name(entry.get("version")?.as_str()?)
 }
 
 /// Returns the version of a package: that of `npm:NAME@VERSION`, and none of a URL, a repository, a file or a folder.

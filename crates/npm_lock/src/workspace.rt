@@ -1,13 +1,18 @@
 //! Which folders are workspaces of the root.
-ghost use Rattle.std.specs.Prelude.{◌≡◌, option_map, true};
+ghost use Rattle.std.specs.Prelude.{◌≡◌, ◌||◌, ℕ, IfOk, List, OnOk, false, option_map, true};
+ghost use Rattle.std.specs.List.{list_any};
 ghost use Rattle.serde_json.specs.View.{items_view, view};
 ghost use Rattle.npm_lock.specs.Workspaces as Workspaces;
 ghost use Rattle.npm_lock.specs.Workspaces.{IsWorkspace};
+ghost use Rattle.npm_lock.specs.Private.Patterns.{ArePatternsOf, by_index, has_matched, has_star};
 
+use crate::Result;
 use crate::folder::is_installed;
 use crate::place::{Package, linked_folder};
 use crate::text::{ends_with, rest_after, without_end};
 use serde_json::Value;
+use std::alloc::Global;
+use std::collections::BTreeMap;
 
 /// Whether a folder is a workspace.
 #[derive(Clone, Copy, Debug, PartialEq, Eq, Drop)]
@@ -18,21 +23,128 @@ pub(crate) enum Workspace {
     Unread,
 }
 
-/// Returns whether the folder of a package that was found for another is a workspace of it. Only the root has workspaces.
-pub(crate) fn workspace_of(asker: Package<'_>, folder: &str) -> Workspace
+/// The patterns of a package, with those of one folder each in a map.
+#[derive(Drop)]
+pub(crate) struct Patterns<'v> {
+    has_unread: bool,
+    /// Folders that are patterns themselves.
+    folders: BTreeMap<&'v str, ()>,
+    /// Patterns with `*` at their end.
+    stars: Vec<&'v str>,
+}
+
+impl<'v> Patterns<'v> {
+    /// The patterns of a package. Only the root has workspaces.
+    pub(crate) fn of_asker(alloc: Global, asker: Package<'v>) -> Result<Patterns<'v>>
+        ensures { IfOk result (ArePatternsOf asker.entry.folder.now (view asker.entry.member.now)) }
+    {
+        if !asker.folder.is_empty() {
+            return Ok(Patterns::none(alloc));
+        }
+        match patterns_of(asker.member) {
+            Some(patterns) => Patterns::of_list(alloc, patterns),
+            None => Ok(Patterns::none(alloc)),
+        }
+    }
+
+    /// No patterns.
+    fn none(alloc: Global) -> Patterns<'v>
+        ensures unread { result.has_unread ≡ false }
+        ensures matched { (folder : List ℕ) → has_matched result folder ≡ false }
+    {
+        Patterns {
+            has_unread: false,
+            folders: BTreeMap::new(alloc),
+            stars: Vec::new(alloc),
+        }
+    }
+
+    /// The patterns of a list.
+    fn of_list(alloc: Global, patterns: &'v [Value]) -> Result<Patterns<'v>>
+        ensures { IfOk result (λ made. (folder : List ℕ)
+            → by_index made folder ≡ Workspaces.by_patterns folder (items_view patterns.now)) }
+    {
+        let mut made = Patterns::none(alloc);
+        for pattern in patterns {
+            made.add(pattern)?;
+        }
+        made.has_unread = has_unread(patterns);
+        Ok(made)
+    }
+
+    /// Adds a pattern.
+    fn add(&mut self, pattern: &'v Value) -> Result<()>
+        ensures { OnOk result ((folder : List ℕ) → has_matched self.new folder
+            ≡ (has_matched self.old folder || Workspaces.is_such (Workspaces.is_matched folder) (view pattern.now))) }
+    {
+        match pattern.as_str() {
+            Some(text) => self.add_pattern(pattern_of(text)),
+            None => Ok(()),
+        }
+    }
+
+    /// Adds the text of a pattern.
+    fn add_pattern(&mut self, pattern: &'v str) -> Result<()>
+        ensures { OnOk result ((folder : List ℕ) → has_matched self.new folder
+            ≡ (has_matched self.old folder || Workspaces.is_matched folder pattern.now)) }
+    {
+        if has_star(pattern) {
+            self.stars.push(pattern)?;
+        } else {
+            self.folders.insert(pattern, ())?;
+        }
+        Ok(())
+    }
+
+    /// Returns `true` if a pattern is that of the folder.
+    fn has_matched(&self, folder: &'v str) -> bool
+        ensures { result ≡ has_matched self.now folder.now }
+    {
+        self.folders.contains_key(&folder) || has_any_matched(folder, &self.stars)
+    }
+}
+
+/// Returns `true` for a pattern with `*` at its end.
+fn has_star(pattern: &str) -> bool
+    ensures { result ≡ has_star pattern.now }
+{
+    ends_with(pattern, "**") || ends_with(pattern, "*")
+}
+
+/// Returns `true` if one of these patterns is that of the folder.
+fn has_any_matched(folder: &str, patterns: &[&str]) -> bool
+    ensures { result ≡ list_any (λ pattern. Workspaces.is_matched folder.now pattern.now) patterns.now }
+{
+    for pattern in patterns {
+        if is_matched(folder, *pattern) {
+            return true;
+        }
+    }
+    false
+}
+
+/// Returns whether the folder of a package that was found for another is a workspace of it, which has these patterns.
+pub(crate) fn workspace_of<'v>(
+    asker: Package<'_>,
+    patterns: &Patterns<'v>,
+    folder: &'v str,
+) -> Workspace
+    requires { ArePatternsOf asker.folder.now (view asker.member.now) patterns.now }
     ensures { IsWorkspace asker.entry.folder.now (view asker.entry.member.now) folder.now result }
 {
-    if !asker.folder.is_empty() || is_installed(folder) {
-        return Workspace::IsNot;
-    }
-    match patterns_of(asker.member) {
-        Some(patterns) => by_patterns(folder, patterns),
-        None => Workspace::IsNot,
+    if is_installed(folder) {
+        Workspace::IsNot
+    } else if patterns.has_unread {
+        Workspace::Unread
+    } else if patterns.has_matched(folder) {
+        Workspace::Is
+    } else {
+        Workspace::IsNot
     }
 }
 
 /// The patterns of the root: a list, or the list `packages` of an object.
-fn patterns_of(root: &Value) -> Option<&Vec<Value>>
+pub(crate) fn patterns_of(root: &Value) -> Option<&Vec<Value>>
     ensures { option_map (λ list. items_view list.now.items) result ≡ Workspaces.patterns_of (view root.now) }
 {
     let said = root.get("workspaces")?;
@@ -42,37 +154,12 @@ fn patterns_of(root: &Value) -> Option<&Vec<Value>>
     }
 }
 
-/// Returns whether a folder is a workspace, by these patterns.
-fn by_patterns(folder: &str, patterns: &[Value]) -> Workspace
-    ensures { result ≡ Workspaces.by_patterns folder.now (items_view patterns.now) }
-{
-    if has_unread(patterns) {
-        Workspace::Unread
-    } else if has_matched(folder, patterns) {
-        Workspace::Is
-    } else {
-        Workspace::IsNot
-    }
-}
-
 /// Returns `true` if a pattern is not read here.
-fn has_unread(patterns: &[Value]) -> bool
+pub(crate) fn has_unread(patterns: &[Value]) -> bool
     ensures { result ≡ Workspaces.has_unread (items_view patterns.now) }
 {
     for pattern in patterns {
         if !is_read(pattern) {
-            return true;
-        }
-    }
-    false
-}
-
-/// Returns `true` if a pattern is that of a folder.
-fn has_matched(folder: &str, patterns: &[Value]) -> bool
-    ensures { result ≡ Workspaces.has_matched folder.now (items_view patterns.now) }
-{
-    for pattern in patterns {
-        if is_matched(folder, pattern) {
             return true;
         }
     }
@@ -85,16 +172,25 @@ fn is_read(pattern: &Value) -> bool
 {
     pattern
         .as_str()
-        .is_some_and(|text| is_read_text(linked_folder(text)))
+        .is_some_and(|text| is_read_text(pattern_of(text)))
 }
 
-/// Returns `true` if the pattern is that of a folder.
-fn is_matched(folder: &str, pattern: &Value) -> bool
-    ensures { result ≡ Workspaces.is_such (Workspaces.is_matched folder.now) (view pattern.now) }
+/// The pattern of a text, which may begin with `./` or `/`.
+pub(crate) fn pattern_of(text: &str) -> &str
+    ensures { result.now ≡ Workspaces.pattern_of text.now }
 {
-    pattern
-        .as_str()
-        .is_some_and(|text| is_matched_text(folder, linked_folder(text)))
+    without_slashes(linked_folder(text))
+}
+
+/// The text without each `/` at its start.
+fn without_slashes(text: &str) -> &str
+    ensures { result.now ≡ Workspaces.without_slashes text.now }
+{
+    let mut left = text;
+    'slashes: while let Some(rest) = rest_after(left, "/") {
+        left = rest;
+    }
+    left
 }
 
 fn is_read_text(pattern: &str) -> bool
@@ -116,7 +212,8 @@ fn is_whole(stem: &str) -> bool
     stem.is_empty() || ends_with(stem, "/")
 }
 
-fn is_matched_text(folder: &str, pattern: &str) -> bool
+/// Returns `true` if the pattern is that of the folder.
+fn is_matched(folder: &str, pattern: &str) -> bool
     ensures { result ≡ Workspaces.is_matched folder.now pattern.now }
 {
     if ends_with(pattern, "**") {
@@ -125,7 +222,7 @@ fn is_matched_text(folder: &str, pattern: &str) -> bool
     } else if ends_with(pattern, "*") {
         rest_after(folder, stem_of(pattern)).is_some_and(is_part)
     } else {
-        folder == pattern
+        pattern == folder
     }
 }
 
@@ -137,7 +234,7 @@ fn is_base(folder: &str, stem: &str) -> bool
 }
 
 /// The pattern without `*` or `**` at its end.
-fn stem_of(pattern: &str) -> &str
+pub(crate) fn stem_of(pattern: &str) -> &str
     ensures { result.now ≡ Workspaces.stem_of pattern.now }
 {
     without_end(without_end(pattern, "*"), "*")

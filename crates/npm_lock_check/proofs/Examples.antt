@@ -5,3 +5,4 @@ pub mod LinkedExamples
 pub mod MismatchExamples
 pub mod NodeExamples
 pub mod SentenceExamples
+pub mod SubjectExamples

@@ -1,4 +1,3 @@
-pub mod ArgumentLists
 pub mod Auditing
 pub mod Examples
 pub mod FileFolders

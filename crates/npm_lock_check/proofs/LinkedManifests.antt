@@ -4,7 +4,6 @@ use Rattle.std.proofs.Common.{Bool, append_assoc, drop, get_or, if◌then◌else
 use Rattle.std.proofs.Common.{IfErr, IfOk}
 use denote.Ref.{Bor}
 use Rattle.std.proofs.lemmas.List.{drop_more, map-append}
-use Rattle.std.specs.Global.{Vec}
 use Rattle.serde_json.specs.Data.{Data}
 use Rattle.serde_json.specs.View.{view}
 use Rattle.serde_json.specs.declared.value.Value.{Value}
@@ -13,12 +12,15 @@ use Rattle.npm_lock.specs.declared.fault.CheckError.{CheckError}
 use Rattle.npm_lock.specs.declared.fault.CheckError.TheVariants.{Refused}
 use Rattle.npm_lock.specs.declared.fault.Fault.{Fault}
 use Rattle.npm_lock.specs.declared.mismatch.Mismatch.{Mismatch}
-use Rattle.npm_lock_check.specs.Linked.{AreRead, LinkedValue, absent, linked_value, present}
+use Rattle.npm_lock_check.specs.Linked.{AreRead, AreReadAfter, LinkedValue, LoadedValue, linked_value, loaded_value}
+use Rattle.npm_lock_check.specs.Linked.{one_more, with_found}
 use Rattle.npm_lock_check.specs.Output.{linked_fault}
 use Rattle.npm_lock_check.specs.Private.Refusals.{AreLinkedRefused, IsOneRefused}
 use Rattle.npm_lock_check.specs.Report.{AreAllMismatches, AreLeftMismatches, AreLoaded, IsNotLoaded, has_packages}
 use Rattle.npm_lock_check.specs.Report.{is_compared}
+use Rattle.npm_lock_check.specs.declared.linked.Found.{Found}
 use Rattle.npm_lock_check.specs.declared.linked.Linked.{Linked}
+use Rattle.npm_lock_check.specs.declared.linked.Loaded.{Loaded}
 use Rattle.npm_lock_check.specs.declared.run_error.LoadError.{LoadError}
 use Rattle.npm_lock_check.specs.declared.run_error.RunError.{RunError}
 
@@ -78,54 +80,36 @@ left_of lock manifests is_ignored all list has are is = rw has (all, are, is)
 
 -- ---- manifests that are read
 
-module _ (Gives : (folder : List ℕ) → Result (Option Value) LoadError → Type 0) (all : List (Bor (List ℕ))) (i : ℕ)
-    (none : Bor (List ℕ)) (small : i < length all) (done : List LinkedValue)
-    (held : (rest : List LinkedValue) → AreRead Gives (map (λ folder. folder.now) (drop i all)) rest
-    → AreRead Gives (map (λ folder. folder.now) all) (done ++ rest)) where
+module _ (Gives : (folder : List ℕ) → Result Found LoadError → Type 0) (all : List (Bor (List ℕ))) (i : ℕ)
+    (none : Bor (List ℕ)) (small : i < length all) (before : LoadedValue)
+    (held : (after : LoadedValue) → AreReadAfter Gives before (map (λ folder. folder.now) (drop i all)) after
+    → AreRead Gives (map (λ folder. folder.now) all) after) where
   abbrev one : Bor (List ℕ)
   one = get_or all i none
 
   first_left : drop i all ≡ one ∷ drop (i + 1) all
   first_left = drop_more all i none small
 
-  -- the manifest is not there
-  pub absent_read : Gives one.now (Ok None) → (rest : List LinkedValue)
-      → AreRead Gives (map (λ folder. folder.now) (drop (i + 1) all)) rest
-      → AreRead Gives (map (λ folder. folder.now) all) (done ++ rest)
-  absent_read gives rest later =
-      let whole : AreRead Gives (map (λ folder. folder.now) (drop i all)) rest =
-      rw first_left (absent one.now (map (λ folder. folder.now) (drop (i + 1) all)) rest gives later) in
-      held rest whole
-
-  -- the manifest is there
-  pub present_read : (manifest : Value) (added : LinkedValue) (more : List LinkedValue)
-      → Gives one.now (Ok (Some manifest)) → added ≡ record { folder = one.now; manifest = view manifest }
-      → more ≡ done ++ (added ∷ []) → (rest : List LinkedValue)
-      → AreRead Gives (map (λ folder. folder.now) (drop (i + 1) all)) rest
-      → AreRead Gives (map (λ folder. folder.now) all) (more ++ rest)
-  present_read manifest added more gives same is_more rest later =
-      let whole : AreRead Gives (map (λ folder. folder.now) (drop i all)) (added ∷ rest) =
-      rw (first_left, same)
-      (present one.now (map (λ folder. folder.now) (drop (i + 1) all)) rest manifest gives later) in
-      let list : more ++ rest ≡ done ++ (added ∷ rest) =
-      ap (λ list. list ++ rest) is_more ∙ append_assoc done (added ∷ []) rest in
-      rw list (held (added ∷ rest) whole)
+  -- what was found in one folder more
+  pub found_more : (found : Found) (more : LoadedValue) → Gives one.now (Ok found) → more ≡ with_found one.now found before
+      → (after : LoadedValue) → AreReadAfter Gives more (map (λ folder. folder.now) (drop (i + 1) all)) after
+      → AreRead Gives (map (λ folder. folder.now) all) after
+  found_more found more gives is after later =
+      let left : AreReadAfter Gives before (map (λ folder. folder.now) (drop i all)) after =
+      rw first_left
+      (one_more before one.now (map (λ folder. folder.now) (drop (i + 1) all)) found after gives (rw (← is) later)) in
+      held after left
 
 -- ---- manifests that are loaded
 
-module _ (Gives : Value → Result (Vec Linked) LoadError → Type 0) (lock : Value) (manifest : Option Data)
+module _ (Gives : Value → Result Loaded LoadError → Type 0) (lock : Value) (manifest : Option Data)
     (is : is_compared (view lock) manifest ≡ true) where
-  pub are_loaded : (result : Result (Vec Linked) LoadError) → Gives lock result
-      → IfOk result (λ list. AreLoaded Gives lock manifest (map linked_value list.items))
-  are_loaded (Ok list) gives = rw is (list, gives, refl)
+  pub are_loaded : (result : Result Loaded LoadError) → Gives lock result
+      → IfOk result (λ made. AreLoaded Gives lock manifest (loaded_value made))
+  are_loaded (Ok made) gives = rw is (made, gives, refl)
   are_loaded (Err error) gives = tt
 
-  pub are_not_loaded : (result : Result (Vec Linked) LoadError) → Gives lock result
+  pub are_not_loaded : (result : Result Loaded LoadError) → Gives lock result
       → IfErr result (λ error. IsNotLoaded Gives lock manifest error)
-  are_not_loaded (Ok list) gives = tt
+  are_not_loaded (Ok made) gives = tt
   are_not_loaded (Err error) gives = (is, gives)
-
--- one more manifest in the list
-pub pushed : (items more : List Linked) (added : Linked) → more ≡ items ++ (added ∷ [])
-    → map linked_value more ≡ map linked_value items ++ (linked_value added ∷ [])
-pushed items more added is = rw is (map-append linked_value items (added ∷ []))

@@ -10,6 +10,7 @@ use Rattle.npm_lock.specs.Mismatches.{MismatchValue}
 use Rattle.npm_lock.specs.Outcomes.{ProblemValue, UncheckedValue}
 use Rattle.npm_lock.specs.ProblemJson.{problem_data, reason_text, unchecked_data, with_text}
 use Rattle.npm_lock_check.specs.Report.{AreLines, lines, one_more}
+use Rattle.npm_lock_check.specs.Unread.{unread_data}
 
 last_members : (to version : Option (List ℕ))
     → members_have_float (with_text (codes "to") to (with_text (codes "version") version no_members)) ≡ false
@@ -84,3 +85,9 @@ locked_members (Some locked) spec name = spec_members spec
 pub no_float_mismatch : (mismatch : MismatchValue) → has_float (mismatch_data mismatch) ≡ false
 unfolding serde_json_on_literals
 no_float_mismatch mismatch = locked_members mismatch.locked mismatch.spec mismatch.name
+
+-- ---- manifests that were not read
+
+pub no_float_unread : (folder : List ℕ) → has_float (unread_data folder) ≡ false
+unfolding serde_json_on_literals
+no_float_unread folder = refl

@@ -1,19 +1,18 @@
 -- Why a lock file was not checked.
 use Rattle.std.proofs.Common.{◌≡◌, ◌∙◌, ℕ, List, [], Option, Some, Result, Ok, Err, inl, inr, refl, sym}
 use Rattle.std.proofs.Common.{IfErr}
-use Rattle.std.specs.Global.{Vec}
 use Rattle.std.specs.Result.{IsErrAnd, MatchResult}
 use Rattle.serde_json.proofs.OnLiterals.{serde_json_on_literals}
 use Rattle.serde_json.specs.Data.{Data}
 use Rattle.serde_json.specs.Read.{read}
 use Rattle.serde_json.specs.View.{view}
 use Rattle.serde_json.specs.declared.value.Value.{Value}
-use Rattle.npm_lock_check.specs.Linked.{LinkedValue}
+use Rattle.npm_lock_check.specs.Linked.{LinkedValue, LoadedValue}
 use Rattle.npm_lock_check.specs.WatchedValue.{WatchedValue}
 use Rattle.npm_lock_check.specs.Output.{IsInput, IsRefusedAs, IsStopped, IsUnread}
 use Rattle.npm_lock_check.specs.Private.Refusals.{IsRefused}
 use Rattle.npm_lock_check.specs.Report.{AreLoaded, WantedValue, manifests_of, placed}
-use Rattle.npm_lock_check.specs.declared.linked.Linked.{Linked}
+use Rattle.npm_lock_check.specs.declared.linked.Loaded.{Loaded}
 use Rattle.npm_lock_check.specs.declared.run_error.LoadError.{LoadError}
 use Rattle.npm_lock_check.specs.declared.run_error.RunError.{RunError}
 use Rattle.npm_lock_check.specs.declared.run_error.RunError.TheVariants.{Memory, NoAdvisories, NoLinked, NoLockFile}
@@ -36,17 +35,17 @@ later remaining old new lock input = inr (record {
 })
 
 module _ {R : Type 0} (remaining : R → Option (List ℕ)) (old new : WatchedValue R)
-    (Gives : Value → Result (Vec Linked) LoadError → Type 0) (wanted : WantedValue) (lock : Value)
-    (linked : List LinkedValue) (input : IsInput remaining old new (view lock))
-    (loaded : AreLoaded Gives lock wanted.manifest linked) where
+    (Gives : Value → Result Loaded LoadError → Type 0) (wanted : WantedValue) (lock : Value)
+    (loaded : LoadedValue) (input : IsInput remaining old new (view lock))
+    (given : AreLoaded Gives lock wanted.manifest loaded) where
   -- a value has a fault
-  faulty : (error : RunError) → IsRefusedAs (view lock) linked wanted error
+  faulty : (error : RunError) → IsRefusedAs (view lock) loaded.linked wanted error
       → IsStopped remaining Gives wanted old new (Check error)
   faulty error told = inr (record {
     lock = lock;
-    linked = linked;
-    input = input;
     loaded = loaded;
+    input = input;
+    given = given;
     refused = told;
   })
 
@@ -56,7 +55,8 @@ module _ {R : Type 0} (remaining : R → Option (List ℕ)) (old new : WatchedVa
 
   -- a value was refused, or memory ran out in the check
   pub refused : (error : RunError)
-      → IsRefused (view lock) (placed (view lock) (manifests_of wanted.manifest linked)) linked wanted error
+      → IsRefused (view lock) (placed (view lock) (manifests_of wanted.manifest loaded.linked)) loaded.linked wanted
+      error
       → IsStopped remaining Gives wanted old new (Check error)
   refused error (inl (inl (fault, is, told))) = rw is (faulty (NoManifest fault) told)
   refused error (inl (inr (inl (name, fault, is, told)))) = rw is (faulty (NoLinked name fault) told)

@@ -1,15 +1,18 @@
 -- What the arguments of the program ask for.
-use Rattle.std.specs.Prelude.{◌&&◌, ◌||◌, ℕ, List, [], ◌∷◌, Bool, true, false, not, if◌then◌else◌, length, nat_eq}
+use Rattle.std.specs.Prelude.{◌&&◌, ◌||◌, ◌==◌, ℕ, List, [], ◌∷◌, Bool, true, false, not, if◌then◌else◌, length, nat_eq}
 use Rattle.std.specs.Prelude.{nat_lt}
 use Rattle.std.specs.Prelude.{Option, Some, None, is_some, option_map, Result, Ok, Err, codes}
-use Rattle.std.specs.List.{starts_with}
+use Rattle.std.specs.List.{after_first, before_first, position_or_len, starts_with}
 use Rattle.std.specs.Result.{result_map_both}
 use Rattle.std.specs.Str.{bytes_eq}
+use denote.Ref.{Bor}
 use Rattle.npm_advisories.specs.Severities.{severity_of_text}
 use Rattle.npm_advisories.specs.declared.severity.Severity.{Severity}
 use Rattle.npm_advisories.specs.declared.severity.Severity.TheVariants.{Critical, High, Info, Low, Moderate, Unknown}
 use Rattle.npm_lock_check.specs.Kinds.{named_by, no_kinds, with_named}
 use Rattle.npm_lock_check.specs.declared.arguments.TheConstants.{MAX_WORDS}
+use Rattle.npm_lock_check.specs.declared.argument_error.ArgumentError.{ArgumentError}
+use Rattle.npm_lock_check.specs.declared.argument_error.ArgumentError.TheVariants as Errors
 use Rattle.npm_lock_check.specs.declared.arguments.Argument.{Argument}
 use Rattle.npm_lock_check.specs.declared.arguments.Arguments.{Arguments}
 use Rattle.npm_lock_check.specs.declared.arguments.Format.{Format}
@@ -22,12 +25,10 @@ use Rattle.npm_lock_check.specs.declared.arguments.Shown.{Shown}
 use Rattle.npm_lock_check.specs.declared.arguments.Shown.TheVariants as Shows
 use Rattle.npm_lock_check.specs.declared.kinds.Ignorable.{Ignorable}
 use Rattle.npm_lock_check.specs.declared.kinds.Kinds.{Kinds}
-use Rattle.npm_lock_check.specs.declared.run_error.RunError.{RunError}
-use Rattle.npm_lock_check.specs.declared.run_error.RunError.TheVariants as Errors
 
 -- ---- the arguments of a list of words
 
--- an argument: a word, and the word after it if that is its value
+-- an argument: a word, and its value if it has one
 pub record ArgumentValue : Type 0 where
   pub word : List ℕ
   pub value : Option (List ℕ)
@@ -35,6 +36,8 @@ pub record ArgumentValue : Type 0 where
 -- the option that a word names, of those that add to a check
 abbrev pub input_name_of : (word : List ℕ) → Option Name
 input_name_of word = if bytes_eq word (codes "--unchecked") then Some Names.Unchecked
+    else if bytes_eq word (codes "--exact") then Some Names.Exact
+    else if bytes_eq word (codes "--outside") then Some Names.Outside
     else if bytes_eq word (codes "--manifest") then Some (Names.Valued Settings.Manifest)
     else if bytes_eq word (codes "--advisories") then Some (Names.Valued Settings.Advisories)
     else if bytes_eq word (codes "--severity") then Some (Names.Valued Settings.Severity)
@@ -54,25 +57,67 @@ abbrev pub has_value : Option Name → Bool
 has_value None = false
 has_value (Some (Names.Alone shown)) = false
 has_value (Some Names.Unchecked) = false
+has_value (Some Names.Exact) = false
+has_value (Some Names.Outside) = false
 has_value (Some (Names.Valued setting)) = true
 
 -- the word is an option that has a value
 abbrev pub takes_value : (word : List ℕ) → Bool
 takes_value word = has_value (name_of word)
 
+-- what stands before the first `=` of a word, and after it
+pub record Parts : Type 0 where
+  pub name : List ℕ
+  pub text : List ℕ
+
+-- the parts of a word that has a `=`: `a` and `b=c` of `a=b=c`
+abbrev pub is_equals : (byte : ℕ) → Bool
+is_equals byte = byte == 61
+
+abbrev pub parts_of : (word : List ℕ) → Option Parts
+parts_of word = if nat_lt (position_or_len is_equals word) (length word)
+    then Some (record { name = before_first is_equals word; text = after_first is_equals word })
+    else None
+
+-- the argument of a word with these parts: they are an option that has a value and that value, or else nothing
+abbrev pub parts_argument : (word : List ℕ) → Option Parts → ArgumentValue
+parts_argument word None = record { word = word; value = None }
+parts_argument word (Some parts) = if takes_value parts.name
+    then record { word = parts.name; value = Some parts.text }
+    else record { word = word; value = None }
+
+-- the argument that one word is: `--node=20` has its value in the word
+abbrev pub one_word : (word : List ℕ) → ArgumentValue
+one_word word = parts_argument word (parts_of word)
+
 -- the arguments of the words: an option that has a value takes the word after it, whatever that is
 abbrev pub arguments_of : (words : List (List ℕ)) → List ArgumentValue
 arguments_of [] = []
-arguments_of (word ∷ []) = record { word = word; value = None } ∷ []
+arguments_of (word ∷ []) = one_word word ∷ []
 arguments_of (word ∷ text ∷ rest) = if takes_value word
     then record { word = word; value = Some text } ∷ arguments_of rest
-    else record { word = word; value = None } ∷ arguments_of (text ∷ rest)
+    else one_word word ∷ arguments_of (text ∷ rest)
+
+-- ---- what is wrong with them
+
+-- what is wrong, and the word or the value that it is about
+pub data ArgumentErrorValue : Type 0 where
+  too_many : ArgumentErrorValue
+  unknown_option : (word : List ℕ) → ArgumentErrorValue
+  second_file : (word : List ℕ) → ArgumentErrorValue
+  no_value : (word : List ℕ) → ArgumentErrorValue
+  no_format : (text : List ℕ) → ArgumentErrorValue
+  no_kind : (text : List ℕ) → ArgumentErrorValue
+  no_severity : (text : List ℕ) → ArgumentErrorValue
+  -- that a text is no version of Node is said by `NodeVersion`, and not here
+  no_node_version : (text : List ℕ) → ArgumentErrorValue
 
 -- ---- what they ask for
 
 -- What is shown in place of a check, the text after `--node`, the format, the kinds after `--ignore`, whether
--- dependencies that are not checked are listed, the texts after `--manifest` and `--advisories`, the least severity of
--- advisories, and the file.
+-- dependencies that are not checked are listed, the text after `--manifest`, whether mismatches count for the status,
+-- whether manifests outside its folder are read, the text after `--advisories`, the least severity of advisories, and
+-- the file.
 pub record ArgumentsValue : Type 0 where
   pub shown : Option Shown
   pub node : Option (List ℕ)
@@ -80,6 +125,8 @@ pub record ArgumentsValue : Type 0 where
   pub ignored : Kinds
   pub unchecked : Bool
   pub manifest : Option (List ℕ)
+  pub exact : Bool
+  pub outside : Bool
   pub advisories : Option (List ℕ)
   pub level : Severity
   pub file : Option (List ℕ)
@@ -93,6 +140,8 @@ nothing_asked = record {
   ignored = no_kinds;
   unchecked = false;
   manifest = None;
+  exact = false;
+  outside = false;
   advisories = None;
   level = Info;
   file = None;
@@ -104,61 +153,74 @@ format_of text = if bytes_eq text (codes "text") then Some Formats.Text
     else if bytes_eq text (codes "json") then Some Formats.Json
     else None
 
--- with one more format, with one more kind that is left out, and with another least severity
-abbrev pub with_format : ArgumentsValue → Option Format → Result ArgumentsValue RunError
-with_format asked None = Err Errors.Format
-with_format asked (Some format) = Ok (record asked { format = Some format })
+-- with one more format, with one more kind that is left out, and with another least severity, each by its text
+abbrev pub with_named_format : ArgumentsValue → (text : List ℕ) → Option Format
+    → Result ArgumentsValue ArgumentErrorValue
+with_named_format asked text None = Err (no_format text)
+with_named_format asked text (Some format) = Ok (record asked { format = Some format })
 
-abbrev pub with_ignored : ArgumentsValue → Option Ignorable → Result ArgumentsValue RunError
-with_ignored asked None = Err Errors.Kind
-with_ignored asked (Some named) = Ok (record asked { ignored = with_named asked.ignored named })
+abbrev pub with_format : ArgumentsValue → (text : List ℕ) → Result ArgumentsValue ArgumentErrorValue
+with_format asked text = with_named_format asked text (format_of text)
 
-abbrev pub with_level : ArgumentsValue → Severity → Result ArgumentsValue RunError
-with_level asked Unknown = Err Errors.Severity
-with_level asked Info = Ok (record asked { level = Info })
-with_level asked Low = Ok (record asked { level = Low })
-with_level asked Moderate = Ok (record asked { level = Moderate })
-with_level asked High = Ok (record asked { level = High })
-with_level asked Critical = Ok (record asked { level = Critical })
+abbrev pub with_named_kind : ArgumentsValue → (text : List ℕ) → Option Ignorable
+    → Result ArgumentsValue ArgumentErrorValue
+with_named_kind asked text None = Err (no_kind text)
+with_named_kind asked text (Some named) = Ok (record asked { ignored = with_named asked.ignored named })
+
+abbrev pub with_ignored : ArgumentsValue → (text : List ℕ) → Result ArgumentsValue ArgumentErrorValue
+with_ignored asked text = with_named_kind asked text (named_by text)
+
+abbrev pub with_named_level : ArgumentsValue → (text : List ℕ) → Severity → Result ArgumentsValue ArgumentErrorValue
+with_named_level asked text Unknown = Err (no_severity text)
+with_named_level asked text Info = Ok (record asked { level = Info })
+with_named_level asked text Low = Ok (record asked { level = Low })
+with_named_level asked text Moderate = Ok (record asked { level = Moderate })
+with_named_level asked text High = Ok (record asked { level = High })
+with_named_level asked text Critical = Ok (record asked { level = Critical })
+
+abbrev pub with_level : ArgumentsValue → (text : List ℕ) → Result ArgumentsValue ArgumentErrorValue
+with_level asked text = with_named_level asked text (severity_of_text text)
 
 -- with one more option that has a value
-abbrev pub with_value : ArgumentsValue → Setting → (text : List ℕ) → Result ArgumentsValue RunError
+abbrev pub with_value : ArgumentsValue → Setting → (text : List ℕ) → Result ArgumentsValue ArgumentErrorValue
 with_value asked Settings.Node text = Ok (record asked { node = Some text })
-with_value asked Settings.Format text = with_format asked (format_of text)
-with_value asked Settings.Ignore text = with_ignored asked (named_by text)
+with_value asked Settings.Format text = with_format asked text
+with_value asked Settings.Ignore text = with_ignored asked text
 with_value asked Settings.Manifest text = Ok (record asked { manifest = Some text })
 with_value asked Settings.Advisories text = Ok (record asked { advisories = Some text })
-with_value asked Settings.Severity text = with_level asked (severity_of_text text)
+with_value asked Settings.Severity text = with_level asked text
 
 -- with one more word that is no option, which is the file; `-` is one too
-abbrev pub with_file : ArgumentsValue → (word : List ℕ) → Result ArgumentsValue RunError
+abbrev pub with_file : ArgumentsValue → (word : List ℕ) → Result ArgumentsValue ArgumentErrorValue
 with_file asked word = if starts_with nat_eq word (codes "-") && not (bytes_eq word (codes "-"))
-    then Err Errors.UnknownOption
-    else if is_some asked.file then Err Errors.SecondFile
+    then Err (unknown_option word)
+    else if is_some asked.file then Err (second_file word)
     else Ok (record asked { file = Some word })
 
 -- with one more argument, of this name and value
 abbrev pub with_argument : ArgumentsValue → (word : List ℕ) → Option Name → Option (List ℕ) → Result ArgumentsValue
-    RunError
+    ArgumentErrorValue
 with_argument asked word None value = with_file asked word
 with_argument asked word (Some (Names.Alone shown)) value = Ok (record asked { shown = Some shown })
 with_argument asked word (Some Names.Unchecked) value = Ok (record asked { unchecked = true })
-with_argument asked word (Some (Names.Valued setting)) None = Err Errors.NoValue
+with_argument asked word (Some Names.Exact) value = Ok (record asked { exact = true })
+with_argument asked word (Some Names.Outside) value = Ok (record asked { outside = true })
+with_argument asked word (Some (Names.Valued setting)) None = Err (no_value word)
 with_argument asked word (Some (Names.Valued setting)) (Some text) = with_value asked setting text
 
 -- with one more argument
-abbrev pub asked_with : ArgumentsValue → ArgumentValue → Result ArgumentsValue RunError
+abbrev pub asked_with : ArgumentsValue → ArgumentValue → Result ArgumentsValue ArgumentErrorValue
 asked_with asked argument = with_argument asked argument.word (name_of argument.word) argument.value
 
 -- what all these arguments ask for, after others: the first error counts
-abbrev pub asked_by : Result ArgumentsValue RunError → List ArgumentValue → Result ArgumentsValue RunError
+abbrev pub asked_by : Result ArgumentsValue ArgumentErrorValue → List ArgumentValue → Result ArgumentsValue ArgumentErrorValue
 asked_by asked [] = asked
 asked_by (Err error) (argument ∷ rest) = Err error
 asked_by (Ok asked) (argument ∷ rest) = asked_by (asked_with asked argument) rest
 
 -- what the words after the program's name ask for, of which there are at most 1,000
-abbrev pub read_arguments : (words : List (List ℕ)) → Result ArgumentsValue RunError
-read_arguments words = if nat_lt MAX_WORDS (length words) then Err Errors.TooManyWords
+abbrev pub read_arguments : (words : List (List ℕ)) → Result ArgumentsValue ArgumentErrorValue
+read_arguments words = if nat_lt MAX_WORDS (length words) then Err too_many
     else asked_by (Ok nothing_asked) (arguments_of words)
 
 -- ---- what contracts see
@@ -174,10 +236,26 @@ arguments_value asked = record {
   ignored = asked.ignored;
   unchecked = asked.unchecked;
   manifest = option_map (λ text. text.now) asked.manifest;
+  exact = asked.exact;
+  outside = asked.outside;
   advisories = option_map (λ text. text.now) asked.advisories;
   level = asked.level;
   file = option_map (λ word. word.now) asked.file;
 }
 
-abbrev pub arguments_result : Result Arguments RunError → Result ArgumentsValue RunError
-arguments_result = result_map_both arguments_value (λ error. error)
+-- the parts of a word
+abbrev pub part_values : Bor (List ℕ) × Bor (List ℕ) → Parts
+part_values parts = record { name = parts.0.now; text = parts.1.now }
+
+abbrev pub argument_error_value : ArgumentError → ArgumentErrorValue
+argument_error_value Errors.TooMany = too_many
+argument_error_value (Errors.UnknownOption quoted) = unknown_option quoted.text.now
+argument_error_value (Errors.SecondFile quoted) = second_file quoted.text.now
+argument_error_value (Errors.NoValue quoted) = no_value quoted.text.now
+argument_error_value (Errors.Format quoted) = no_format quoted.text.now
+argument_error_value (Errors.Kind quoted) = no_kind quoted.text.now
+argument_error_value (Errors.Severity quoted) = no_severity quoted.text.now
+argument_error_value (Errors.NodeVersion quoted) = no_node_version quoted.text.now
+
+abbrev pub arguments_result : Result Arguments ArgumentError → Result ArgumentsValue ArgumentErrorValue
+arguments_result = result_map_both arguments_value argument_error_value

@@ -5,7 +5,8 @@ use Rattle.node_semver.specs.Versions.{VersionValue, version_text}
 use Rattle.npm_advisories.specs.Advisories.{AboutValue}
 use Rattle.npm_advisories.specs.Audit.{FoundValue}
 use Rattle.npm_advisories.specs.Severities.{word_of}
-use Rattle.npm_lock_check.specs.Sentence.{after, shown}
+use Rattle.npm_lock_check.specs.Sentence.{after}
+use Rattle.npm_lock_check.specs.Shown.{shown}
 
 -- which advisory it is: its `id`, if that is a text or a number without sign and fraction
 abbrev pub id_words : (id : Data) → List ℕ

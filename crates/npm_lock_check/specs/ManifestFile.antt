@@ -1,9 +1,10 @@
 -- Where the manifest of a workspace is, beside that of the root, and why it was not read.
-use Rattle.std.specs.Prelude.{◌≡◌, ◌≢◌, ◌⊎◌, ◌++◌, ℕ, List, None, Option, Result, Ok, Err, codes, string_bytes}
+use Rattle.std.specs.Prelude.{◌≡◌, ◌≢◌, ◌⊎◌, ◌++◌, ℕ, List, Result, Ok, Err, codes, string_bytes}
 use Rattle.std.specs.declared.io.ErrorKind.{ErrorKind}
 use Rattle.std.specs.declared.io.ErrorKind.TheVariants.{NotFound}
-use Rattle.serde_json.specs.declared.value.Value.{Value}
 use Rattle.npm_lock_check.specs.declared.folder_name.FolderName.{FolderName}
+use Rattle.npm_lock_check.specs.declared.linked.Found.{Found}
+use Rattle.npm_lock_check.specs.declared.linked.Found.TheVariants.{Nothing}
 use Rattle.npm_lock_check.specs.declared.run_error.LoadError.{LoadError}
 use Rattle.npm_lock_check.specs.declared.run_error.LoadError.TheVariants.{Memory, Open, Read}
 use Rattle.npm_lock_check.specs.declared.run_error.RunError.{RunError}
@@ -27,8 +28,8 @@ IsNotOpened folder result =
     ((name : FolderName) × (string_bytes name.text ≡ folder) × (result ≡ Open name)) ⊎ (result ≡ Memory)
 
 -- what is returned for a file that was not opened for this reason: nothing if it is not there
-abbrev pub IsNoFile : (folder : List ℕ) → ErrorKind → Result (Option Value) LoadError → Type 0
-IsNoFile folder kind result = ((kind ≡ NotFound) × (result ≡ Ok None))
+abbrev pub IsNoFile : (folder : List ℕ) → ErrorKind → Result Found LoadError → Type 0
+IsNoFile folder kind result = ((kind ≡ NotFound) × (result ≡ Ok Nothing))
     ⊎ ((kind ≢ NotFound) × (error : LoadError) × IsNotOpened folder error × (result ≡ Err error))
 
 -- the error of a file in this folder that was not read

@@ -1,7 +1,6 @@
 -- What the program reads, and what it writes for it.
 use Rattle.std.specs.Prelude.{◌≡◌, ◌≢◌, ◌⊎◌, ℕ, List, [], ◌∷◌, Bool, true, false, IsSome, IsUtf8, Option, None, Some}
 use Rattle.std.specs.Prelude.{Result, nat_eq, option_and_then, option_map, string_bytes}
-use Rattle.std.specs.Global.{Vec}
 use Rattle.std.specs.List.{starts_with}
 use Rattle.std.specs.Option.{option_or}
 use Rattle.std.specs.Io.KnownBytes.{Consumes, IsAtEnd}
@@ -16,12 +15,12 @@ use Rattle.npm_lock.specs.declared.fault.Fault.{Fault}
 use Rattle.npm_advisories.specs.Audit.{FoundValue}
 use Rattle.npm_advisories.specs.Files.{IsFileFault}
 use Rattle.npm_advisories.specs.declared.fault.FaultKind.{FaultKind}
-use Rattle.npm_lock_check.specs.Linked.{LinkedValue}
+use Rattle.npm_lock_check.specs.Linked.{LinkedValue, LoadedValue}
 use Rattle.npm_lock_check.specs.WatchedValue.{WatchedValue}
 use Rattle.npm_lock_check.specs.Report.{AreLoaded, IsNotLoaded, IsReportOf, WantedValue, has_packages, manifests_of}
 use Rattle.npm_lock_check.specs.Report.{placed}
 use Rattle.npm_lock_check.specs.declared.folder_name.FolderName.{FolderName}
-use Rattle.npm_lock_check.specs.declared.linked.Linked.{Linked}
+use Rattle.npm_lock_check.specs.declared.linked.Loaded.{Loaded}
 use Rattle.npm_lock_check.specs.declared.list_name.ListName.{ListName}
 use Rattle.npm_lock_check.specs.declared.report.Report.{Report}
 use Rattle.npm_lock_check.specs.declared.run_error.LoadError.{LoadError}
@@ -55,13 +54,13 @@ IsInput remaining old new value = IsWholeInput remaining old new (λ bytes. IsTe
 
 -- a lock file was read, and the manifests of linked folders were loaded, and this is the report of all
 pub record IsReported {R : Type 0} (remaining : R → Option (List ℕ)) (old new : WatchedValue R)
-    (Gives : Value → Result (Vec Linked) LoadError → Type 0) (wanted : WantedValue) (report : Report)
+    (Gives : Value → Result Loaded LoadError → Type 0) (wanted : WantedValue) (report : Report)
     (found : List FoundValue) : Type 0 where
   pub lock : Value
-  pub linked : List LinkedValue
+  pub loaded : LoadedValue
   pub input : IsInput remaining old new (view lock)
-  pub loaded : AreLoaded Gives lock wanted.manifest linked
-  pub report_of : IsReportOf (view lock) linked wanted report found
+  pub given : AreLoaded Gives lock wanted.manifest loaded
+  pub report_of : IsReportOf (view lock) loaded wanted report found
 
 -- ---- why nothing was written
 
@@ -120,23 +119,23 @@ IsRefusedAs lock linked wanted _ = ⊥
 
 -- a lock file was read, and the manifests of linked folders were loaded, and one of these values has a fault
 pub record IsFaulty {R : Type 0} (remaining : R → Option (List ℕ)) (old new : WatchedValue R)
-    (Gives : Value → Result (Vec Linked) LoadError → Type 0) (wanted : WantedValue) (error : RunError) : Type 0 where
+    (Gives : Value → Result Loaded LoadError → Type 0) (wanted : WantedValue) (error : RunError) : Type 0 where
   pub lock : Value
-  pub linked : List LinkedValue
+  pub loaded : LoadedValue
   pub input : IsInput remaining old new (view lock)
-  pub loaded : AreLoaded Gives lock wanted.manifest linked
-  pub refused : IsRefusedAs (view lock) linked wanted error
+  pub given : AreLoaded Gives lock wanted.manifest loaded
+  pub refused : IsRefusedAs (view lock) loaded.linked wanted error
 
 -- a lock file was read, and the manifests of linked folders were not loaded
 pub record IsUnloaded {R : Type 0} (remaining : R → Option (List ℕ)) (old new : WatchedValue R)
-    (Gives : Value → Result (Vec Linked) LoadError → Type 0) (wanted : WantedValue) (error : LoadError) : Type 0 where
+    (Gives : Value → Result Loaded LoadError → Type 0) (wanted : WantedValue) (error : LoadError) : Type 0 where
   pub lock : Value
   pub input : IsInput remaining old new (view lock)
   pub failed : IsNotLoaded Gives lock wanted.manifest error
 
 -- why a lock file was not checked
 abbrev pub IsStopped : {R : Type 0} → (remaining : R → Option (List ℕ))
-    → (Gives : Value → Result (Vec Linked) LoadError → Type 0) → (wanted : WantedValue) → (old new : WatchedValue R)
+    → (Gives : Value → Result Loaded LoadError → Type 0) → (wanted : WantedValue) → (old new : WatchedValue R)
     → StopError → Type 0
 IsStopped remaining Gives wanted old new (Check error) =
     IsUnread remaining old new error ⊎ IsFaulty remaining old new Gives wanted error

@@ -4,7 +4,6 @@ use Rattle.std.specs.Prelude.{if◌then◌else◌}
 use Rattle.std.specs.Prelude.{codes, is_some, length, map, not, option_map}
 use Rattle.std.specs.Prelude.{true, Result, Ok, Err}
 use Rattle.std.specs.Bool.{MatchBool}
-use Rattle.std.specs.Global.{Vec}
 use Rattle.serde_json.specs.Data.{Data, depth}
 use Rattle.serde_json.specs.Find.{get}
 use Rattle.serde_json.specs.Read.{max_depth, read}
@@ -28,21 +27,23 @@ use Rattle.npm_advisories.specs.LockFile.{AreInstalledOf}
 use Rattle.npm_advisories.specs.declared.severity.Severity.{Severity}
 use Rattle.npm_lock_check.specs.HitSentence.{hit_sentence}
 use Rattle.npm_lock_check.specs.Kinds.{has}
-use Rattle.npm_lock_check.specs.Linked.{LinkedValue, linked_value}
+use Rattle.npm_lock_check.specs.Linked.{LinkedValue, LoadedValue, folder_text, loaded_value, nothing_loaded}
 use Rattle.npm_lock_check.specs.Sentence.{mismatch_sentence, sentence, unchecked_sentence}
+use Rattle.npm_lock_check.specs.Unread.{unread_data, unread_sentence}
 use Rattle.npm_lock_check.specs.declared.arguments.Format.{Format}
 use Rattle.npm_lock_check.specs.declared.arguments.Format.TheVariants.{Json, Text}
 use Rattle.npm_lock_check.specs.declared.kinds.Kinds.{Kinds}
-use Rattle.npm_lock_check.specs.declared.linked.Linked.{Linked}
+use Rattle.npm_lock_check.specs.declared.linked.Loaded.{Loaded}
 use Rattle.npm_lock_check.specs.declared.report.Report.{Report}
 use Rattle.npm_lock_check.specs.declared.run_error.LoadError.{LoadError}
 use Rattle.npm_lock_check.specs.declared.wanted.Wanted.{Wanted}
 
--- what a check is asked for: the manifest of the root, the advisories, and the least severity of those that count; the
--- version of Node that each package is checked with, the kinds of problems that are left out, whether dependencies that
--- are not checked are listed, and the format
+-- what a check is asked for: the manifest of the root, whether mismatches count for the status, the advisories, and the
+-- least severity of those that count; the version of Node that each package is checked with, the kinds of problems that
+-- are left out, whether dependencies that are not checked are listed, and the format
 pub record WantedValue : Type 0 where
   pub manifest : Option Data
+  pub exact : Bool
   pub advisories : Option Data
   pub level : Severity
   pub node : Option VersionValue
@@ -54,6 +55,7 @@ pub record WantedValue : Type 0 where
 abbrev pub wanted_value : Wanted → WantedValue
 wanted_value wanted = record {
   manifest = option_map (λ manifest. view manifest.now) wanted.manifest;
+  exact = wanted.exact;
   advisories = option_map (λ file. view file.now) wanted.advisories;
   level = wanted.level;
   node = option_map (λ version. version.now) wanted.node;
@@ -74,13 +76,13 @@ abbrev pub is_compared : (lock : Data) → (manifest : Option Data) → Bool
 is_compared lock manifest = is_some manifest && has_packages lock
 
 -- What loading the manifests of linked folders gave for the lock file, if it is compared. Otherwise there are none.
-abbrev pub AreLoaded : (Gives : Value → Result (Vec Linked) LoadError → Type 0) → (lock : Value)
-    → (manifest : Option Data) → List LinkedValue → Type 0
-AreLoaded Gives lock manifest linked = MatchBool (is_compared (view lock) manifest)
-    ((list : Vec Linked) × Gives lock (Ok list) × (linked ≡ map linked_value list.items)) (linked ≡ [])
+abbrev pub AreLoaded : (Gives : Value → Result Loaded LoadError → Type 0) → (lock : Value)
+    → (manifest : Option Data) → LoadedValue → Type 0
+AreLoaded Gives lock manifest loaded = MatchBool (is_compared (view lock) manifest)
+    ((made : Loaded) × Gives lock (Ok made) × (loaded ≡ loaded_value made)) (loaded ≡ nothing_loaded)
 
 -- loading them failed
-abbrev pub IsNotLoaded : (Gives : Value → Result (Vec Linked) LoadError → Type 0) → (lock : Value)
+abbrev pub IsNotLoaded : (Gives : Value → Result Loaded LoadError → Type 0) → (lock : Value)
     → (manifest : Option Data) → LoadError → Type 0
 IsNotLoaded Gives lock manifest error = (is_compared (view lock) manifest ≡ true) × Gives lock (Err error)
 
@@ -130,21 +132,25 @@ AreHit lock (Some file) level found = (installed : List InstalledValue) × AreIn
 
 -- ---- all of it
 
--- the mismatches of the manifests, the problems of the lock file that is checked, and the packages of it that are hit
-pub record IsReportOf (lock : Data) (linked : List LinkedValue) (wanted : WantedValue) (report : Report)
+-- the mismatches of the manifests, the folders of those that were not read, the problems of the lock file that is
+-- checked, and the packages of it that are hit
+pub record IsReportOf (lock : Data) (loaded : LoadedValue) (wanted : WantedValue) (report : Report)
     (found : List FoundValue) : Type 0 where
   pub compared : report.compared ≡ is_compared lock wanted.manifest
-  pub mismatches : AreLeftMismatches lock (manifests_of wanted.manifest linked) wanted.ignored.group
+  pub mismatches : AreLeftMismatches lock (manifests_of wanted.manifest loaded.linked) wanted.ignored.group
       report.mismatches.items
-  pub problems : AreLeft (checked_lock lock wanted.manifest linked) wanted report.problems
-  pub hit : AreHit (checked_lock lock wanted.manifest linked) wanted.advisories wanted.level found
+  pub exact : report.exact ≡ wanted.exact
+  pub unread : map folder_text report.unread.items ≡ loaded.unread
+  pub problems : AreLeft (checked_lock lock wanted.manifest loaded.linked) wanted report.problems
+  pub hit : AreHit (checked_lock lock wanted.manifest loaded.linked) wanted.advisories wanted.level found
   pub audited : report.audited ≡ is_some wanted.advisories
   pub hits : report.hits ≡ length found
   pub listed : report.listed ≡ wanted.unchecked
 
--- a report of nothing
+-- A report of nothing that counts for the status. `npm ci` installs a lock file that does not ask for the same as the
+-- manifest, if it has what the manifest asks for. So mismatches count only if that is asked for.
 pub record IsClean (report : Report) : Type 0 where
-  pub mismatches : report.mismatches.items ≡ []
+  pub mismatches : report.exact ≡ true → report.mismatches.items ≡ []
   pub problems : report.problems.list.items ≡ []
   pub hits : report.hits ≡ 0
 
@@ -164,6 +170,11 @@ line_text Json problem = compact_text (problem_data problem)
 abbrev pub unchecked_text : Format → UncheckedValue → List ℕ
 unchecked_text Text unchecked = unchecked_sentence unchecked
 unchecked_text Json unchecked = compact_text (unchecked_data unchecked)
+
+-- the line of a manifest that was not read
+abbrev pub unread_text : Format → (folder : List ℕ) → List ℕ
+unread_text Text folder = unread_sentence folder
+unread_text Json folder = compact_text (unread_data folder)
 
 -- The line of a package that is hit. An advisory may have a number with a fraction as its `id`: then the JSON text is
 -- not fixed here, but it reads back as the object.
@@ -187,12 +198,13 @@ pub data AreLines {V : Type 0} (IsLine : V → List ℕ → Type 0) : List V →
       → AreLines IsLine (one ∷ others) (line ++ (10 ∷ text))
 
 -- All that is written: a line for each mismatch, for each problem, for each package that is hit and, if that is asked
--- for, for each dependency that is not checked.
+-- for, for each dependency that is not checked, and for each manifest that was not read.
 abbrev pub report_text : WantedValue → Report → (hit_lines : List ℕ) → List ℕ
 report_text wanted report hit_lines = lines (mismatch_text wanted.format) (map mismatch_value report.mismatches.items)
     ++ (lines (line_text wanted.format) (map problem_value report.problems.list.items)
     ++ (hit_lines ++ (if wanted.unchecked
-    then lines (unchecked_text wanted.format) (map unchecked_value report.problems.unchecked.items) else [])))
+    then lines (unchecked_text wanted.format) (map unchecked_value report.problems.unchecked.items)
+    ++ lines (unread_text wanted.format) (map folder_text report.unread.items) else [])))
 
 -- the text of a report, with the lines of what is hit
 abbrev pub IsReportText : WantedValue → Report → List FoundValue → (text : List ℕ) → Type 0

@@ -1,7 +1,5 @@
 -- A problem, or a dependency that is not checked, as a sentence for a person.
-use Rattle.std.specs.Prelude.{◌||◌, ◌==◌, ◌+◌, ◌-◌, ◌/◌, ◌%◌, ℕ, List, [], ◌∷◌, ◌++◌, if◌then◌else◌, nat_lt}
-use Rattle.std.specs.Prelude.{Option, Some, None, codes}
-use Rattle.std.specs.List.{flat_map}
+use Rattle.std.specs.Prelude.{ℕ, List, [], ◌∷◌, ◌++◌, Option, Some, None, codes}
 use Rattle.std.specs.Option.{option_or}
 use Rattle.npm_lock.specs.Mismatches.{MismatchValue, group_text}
 use Rattle.npm_lock.specs.Outcomes.{DependencyValue, ProblemValue, UncheckedValue}
@@ -10,30 +8,14 @@ use Rattle.npm_lock.specs.declared.problem.Kind.{Kind}
 use Rattle.npm_lock.specs.declared.problem.Kind.TheVariants.{Engine, Invalid, Missing, PeerLocal}
 use Rattle.npm_lock.specs.declared.problem.Reason.{Reason}
 use Rattle.npm_lock.specs.declared.problem.Reason.TheVariants.{Location, Override, Tag, Workspace}
+use Rattle.npm_lock_check.specs.Shown.{shown}
 
--- ---- texts of the file: a terminal gets printable ASCII alone
-
--- the hexadecimal digit of a number below 16
-abbrev pub digit : ℕ → ℕ
-digit number = if nat_lt number 10 then 48 + number else 97 + (number - 10)
-
--- A byte of a text. A quotation mark and a backslash have a backslash in front, and a byte that is no printable ASCII
--- is written by its number: `\x1b`.
-abbrev pub shown_byte : ℕ → List ℕ
-shown_byte byte = if byte == 34 || byte == 92 then 92 ∷ byte ∷ []
-    else if nat_lt byte 32 || nat_lt 126 byte then 92 ∷ 120 ∷ digit (byte / 16) ∷ digit (byte % 16) ∷ []
-    else byte ∷ []
-
--- a text of the file
-abbrev pub shown : (text : List ℕ) → List ℕ
-shown text = flat_map shown_byte text
+-- ---- the sentences
 
 -- a spec, which is written `""` if it is empty
 abbrev pub shown_spec : (spec : List ℕ) → List ℕ
 shown_spec [] = codes "\"\""
 shown_spec (byte ∷ spec) = shown (byte ∷ spec)
-
--- ---- the sentences
 
 -- what is wrong
 abbrev pub verdict : Kind → List ℕ

@@ -2,12 +2,13 @@
 //!
 //! See docs/DECISIONS.md, "The arguments of `npm_lock_check` are read by hand".
 ghost use Rattle.std.specs.Prelude.{◌≡◌, ◌<◌, [], ◌∷◌, length, map, option_map, string_bytes, MatchOption};
-ghost use Rattle.npm_lock_check.specs.Kinds as KindSets;
 ghost use Rattle.npm_lock_check.specs.Arguments as ArgumentRules;
 ghost use Rattle.npm_lock_check.specs.Arguments.{argument_value, arguments_of, asked_by, arguments_result, arguments_value};
+ghost use Rattle.npm_lock_check.specs.Arguments.{part_values};
 
+use crate::argument_error::ArgumentError;
 use crate::kinds::{Kinds, named_by};
-use crate::run_error::RunError;
+use crate::shown::Quoted;
 use npm_advisories::Severity;
 
 /// How problems are written.
@@ -39,6 +40,10 @@ pub struct Arguments<'a> {
     pub unchecked: bool,
     /// The text after `--manifest`.
     pub manifest: Option<&'a str>,
+    /// Mismatches count for the status.
+    pub exact: bool,
+    /// Manifests outside the folder of the root's are read too.
+    pub outside: bool,
     /// The text after `--advisories`.
     pub advisories: Option<&'a str>,
     /// Advisories that are less severe are left out.
@@ -46,7 +51,7 @@ pub struct Arguments<'a> {
     pub file: Option<&'a str>,
 }
 
-/// One argument: a word, and the word after it if that is its value.
+/// One argument: a word, and its value if it has one.
 #[derive(Clone, Copy, Drop)]
 struct Argument<'a> {
     word: &'a str,
@@ -69,6 +74,8 @@ enum Setting {
 enum Name {
     Alone(Shown),
     Unchecked,
+    Exact,
+    Outside,
     Valued(Setting),
 }
 
@@ -76,17 +83,20 @@ enum Name {
 const MAX_WORDS: usize = 1000;
 
 /// Returns what the words after the program's name ask for. Of two values of an option the last one counts.
-pub fn read_arguments<'a>(words: &'a [String]) -> Result<Arguments<'a>, RunError>
+pub fn read_arguments<'a>(words: &'a [String]) -> Result<Arguments<'a>, ArgumentError<'a>>
     ensures { arguments_result result ≡ ArgumentRules.read_arguments (map string_bytes words.now) }
 {
     if MAX_WORDS < words.len() {
-        return Err(RunError::TooManyWords);
+        return Err(ArgumentError::TooMany);
     }
     asked_from(nothing_asked(), words)
 }
 
 /// What these words ask for, after others.
-fn asked_from<'a>(asked: Arguments<'a>, words: &'a [String]) -> Result<Arguments<'a>, RunError>
+fn asked_from<'a>(
+    asked: Arguments<'a>,
+    words: &'a [String],
+) -> Result<Arguments<'a>, ArgumentError<'a>>
     ensures { arguments_result result
         ≡ asked_by (Ok (arguments_value asked.entry)) (arguments_of (map string_bytes words.now)) }
 {
@@ -107,6 +117,8 @@ fn nothing_asked<'a>() -> Arguments<'a>
         ignored: Kinds::none(),
         unchecked: false,
         manifest: None,
+        exact: false,
+        outside: false,
         advisories: None,
         level: Severity::Info,
         file: None,
@@ -121,13 +133,34 @@ fn first_argument<'a>(words: &'a [String]) -> Option<(Argument<'a>, &'a [String]
 {
     let (first, rest) = words.split_first()?;
     let word = first.as_str();
-    if takes_value(word)
-        && let Some((text, others)) = rest.split_first()
-    {
+    let Some((text, others)) = rest.split_first() else {
+        return Some((one_word(word), rest));
+    };
+    if takes_value(word) {
         let value = Some(text.as_str());
         return Some((Argument { word, value }, others));
     }
-    Some((Argument { word, value: None }, rest))
+    Some((one_word(word), rest))
+}
+
+/// The argument that one word is. `--node=20` has its value in the word.
+fn one_word<'a>(word: &'a str) -> Argument<'a>
+    ensures { argument_value result ≡ ArgumentRules.one_word word.now }
+{
+    match parts_of(word) {
+        Some((name, text)) if takes_value(name) => Argument {
+            word: name,
+            value: Some(text),
+        },
+        _ => Argument { word, value: None },
+    }
+}
+
+/// The word before its first `=`, and after it.
+fn parts_of(word: &str) -> Option<(&str, &str)>
+    ensures { option_map (λ parts. part_values parts) result ≡ ArgumentRules.parts_of word.now }
+{
+    word.split_once('=')
 }
 
 /// Returns `true` if the word is an option with a value.
@@ -162,6 +195,10 @@ fn input_name_of(word: &str) -> Option<Name>
 {
     if word == "--unchecked" {
         Some(Name::Unchecked)
+    } else if word == "--exact" {
+        Some(Name::Exact)
+    } else if word == "--outside" {
+        Some(Name::Outside)
     } else if word == "--manifest" {
         Some(Name::Valued(Setting::Manifest))
     } else if word == "--advisories" {
@@ -174,7 +211,10 @@ fn input_name_of(word: &str) -> Option<Name>
 }
 
 /// What is asked for with one more argument.
-fn asked_with<'a>(asked: Arguments<'a>, argument: Argument<'a>) -> Result<Arguments<'a>, RunError>
+fn asked_with<'a>(
+    asked: Arguments<'a>,
+    argument: Argument<'a>,
+) -> Result<Arguments<'a>, ArgumentError<'a>>
     ensures { arguments_result result
         ≡ ArgumentRules.asked_with (arguments_value asked.entry) (argument_value argument.entry) }
 {
@@ -188,9 +228,19 @@ fn asked_with<'a>(asked: Arguments<'a>, argument: Argument<'a>) -> Result<Argume
             unchecked: true,
             ..asked
         }),
+        Some(Name::Exact) => Ok(Arguments {
+            exact: true,
+            ..asked
+        }),
+        Some(Name::Outside) => Ok(Arguments {
+            outside: true,
+            ..asked
+        }),
         Some(Name::Valued(setting)) => match argument.value {
             Some(text) => with_value(asked, setting, text),
-            None => Err(RunError::NoValue),
+            None => Err(ArgumentError::NoValue(Quoted {
+                text: argument.word,
+            })),
         },
     }
 }
@@ -200,7 +250,7 @@ fn with_value<'a>(
     asked: Arguments<'a>,
     setting: Setting,
     text: &'a str,
-) -> Result<Arguments<'a>, RunError>
+) -> Result<Arguments<'a>, ArgumentError<'a>>
     ensures { arguments_result result ≡ ArgumentRules.with_value (arguments_value asked.entry) setting text.now }
 {
     match setting {
@@ -216,45 +266,45 @@ fn with_value<'a>(
             advisories: Some(text),
             ..asked
         }),
-        Setting::Format => with_format(asked, format_of(text)),
+        Setting::Format => with_format(asked, text),
         Setting::Ignore => with_ignored(asked, text),
-        Setting::Severity => with_level(asked, Severity::of_text(text)),
+        Setting::Severity => with_level(asked, text),
     }
 }
 
 /// What is asked for with one more format.
-fn with_format<'a>(asked: Arguments<'a>, format: Option<Format>) -> Result<Arguments<'a>, RunError>
-    ensures { arguments_result result ≡ ArgumentRules.with_format (arguments_value asked.entry) format }
+fn with_format<'a>(asked: Arguments<'a>, text: &'a str) -> Result<Arguments<'a>, ArgumentError<'a>>
+    ensures { arguments_result result ≡ ArgumentRules.with_format (arguments_value asked.entry) text.now }
 {
-    match format {
+    match format_of(text) {
         Some(format) => Ok(Arguments {
             format: Some(format),
             ..asked
         }),
-        None => Err(RunError::Format),
+        None => Err(ArgumentError::Format(Quoted { text })),
     }
 }
 
 /// What is asked for with one more kind that is left out.
-fn with_ignored<'a>(asked: Arguments<'a>, text: &str) -> Result<Arguments<'a>, RunError>
-    ensures { arguments_result result ≡ ArgumentRules.with_ignored (arguments_value asked.entry) (KindSets.named_by text.now) }
+fn with_ignored<'a>(asked: Arguments<'a>, text: &'a str) -> Result<Arguments<'a>, ArgumentError<'a>>
+    ensures { arguments_result result ≡ ArgumentRules.with_ignored (arguments_value asked.entry) text.now }
 {
     match named_by(text) {
         Some(named) => Ok(Arguments {
             ignored: asked.ignored.with(named),
             ..asked
         }),
-        None => Err(RunError::Kind),
+        None => Err(ArgumentError::Kind(Quoted { text })),
     }
 }
 
 /// What is asked for with another least severity.
-fn with_level<'a>(asked: Arguments<'a>, level: Severity) -> Result<Arguments<'a>, RunError>
-    ensures { arguments_result result ≡ ArgumentRules.with_level (arguments_value asked.entry) level }
+fn with_level<'a>(asked: Arguments<'a>, text: &'a str) -> Result<Arguments<'a>, ArgumentError<'a>>
+    ensures { arguments_result result ≡ ArgumentRules.with_level (arguments_value asked.entry) text.now }
 {
-    match level {
-        Severity::Unknown => Err(RunError::Severity),
-        _ => Ok(Arguments { level, ..asked }),
+    match Severity::of_text(text) {
+        Severity::Unknown => Err(ArgumentError::Severity(Quoted { text })),
+        level => Ok(Arguments { level, ..asked }),
     }
 }
 
@@ -272,13 +322,13 @@ fn format_of(text: &str) -> Option<Format>
 }
 
 /// What is asked for with one more word that is no option: the file, of which there is one.
-fn with_file<'a>(asked: Arguments<'a>, word: &'a str) -> Result<Arguments<'a>, RunError>
+fn with_file<'a>(asked: Arguments<'a>, word: &'a str) -> Result<Arguments<'a>, ArgumentError<'a>>
     ensures { arguments_result result ≡ ArgumentRules.with_file (arguments_value asked.entry) word.now }
 {
     if word.starts_with("-") && word != "-" {
-        Err(RunError::UnknownOption)
+        Err(ArgumentError::UnknownOption(Quoted { text: word }))
     } else if asked.file.is_some() {
-        Err(RunError::SecondFile)
+        Err(ArgumentError::SecondFile(Quoted { text: word }))
     } else {
         Ok(Arguments {
             file: Some(word),

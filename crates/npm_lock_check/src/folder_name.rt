@@ -1,5 +1,8 @@
 //! The folder of a manifest, in the line of an error.
-use crate::list_name::write_shown;
+ghost use Rattle.std.specs.Prelude.{Some, string_bytes};
+ghost use Rattle.npm_lock_check.specs.Shown as Shown;
+
+use crate::shown::write_shown;
 use std::fmt;
 
 /// The folder of a workspace, or of another package that a link names.
@@ -10,7 +13,9 @@ pub struct FolderName {
 
 /// Prints the folder in printable ASCII alone, as sentences do. Format options such as a width are ignored.
 impl fmt::Display for FolderName {
+    ghost output = { λ name. Some (Shown.shown (string_bytes name.text)) };
+
     fn fmt<W: fmt::Write>(&self, f: &mut fmt::Formatter<W>) -> fmt::Result {
-        write_shown(f, self.text.as_str())
+        write_shown(f, self.text.as_bytes())
     }
 }

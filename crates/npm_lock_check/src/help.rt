@@ -11,7 +11,7 @@ Usage: npm_lock_check [OPTIONS] [FILE]
 
 FILE is a package-lock.json. With no FILE, and if FILE is -, standard input is read.
 
-Options:
+Options, of which the value may also be in the same word, as in --node=20:
   --node VERSION     Also check engines.node of each package against this version of Node.
                      20 means 20.0.0, and v20.11 means 20.11.0.
                      Example: npm_lock_check --node 20 package-lock.json
@@ -19,6 +19,11 @@ Options:
                      same, and check the lock file for what the package.json asks for. The package.json
                      of each workspace, below the folder of FILE, is checked alike if it is there.
                      Example: npm_lock_check --manifest package.json package-lock.json
+  --exact            The exit status is also 1 if FILE and the lock file do not ask for the same. npm ci
+                     installs such a lock file, if it has what FILE asks for.
+                     Example: npm_lock_check --manifest package.json --exact package-lock.json
+  --outside          Also read a package.json that is not below the folder of FILE, or is no regular file.
+                     Example: npm_lock_check --manifest package.json --outside package-lock.json
   --advisories FILE  Also write each installed package that a security advisory of this file hits, and
                      a version that none hits. The file is in OSV's form, or in that of npm's bulk endpoint.
                      Example: npm_lock_check --advisories advisories.json package-lock.json

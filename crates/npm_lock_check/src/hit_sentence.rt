@@ -6,7 +6,7 @@ ghost use Rattle.npm_advisories.specs.Advisories.{about_value};
 ghost use Rattle.npm_advisories.specs.Audit.{found_value};
 ghost use Rattle.npm_lock_check.specs.HitSentence as HitSentence;
 
-use crate::sentence::push_shown;
+use crate::shown::push_shown;
 use node_semver::Version;
 use npm_advisories::{About, Found};
 use serde_json::Value;

@@ -4,12 +4,16 @@ ghost use Rattle.npm_advisories.specs.Audit.{found_value};
 ghost use Rattle.npm_lock.specs.Mismatches.{mismatch_value};
 ghost use Rattle.npm_lock.specs.Outcomes.{problem_value, unchecked_value};
 ghost use Rattle.npm_lock_check.specs.Report as Reports;
-ghost use Rattle.npm_lock_check.specs.Report.{AreLines, IsHitLine, IsReportText, line_text, mismatch_text, unchecked_text, wanted_value};
+ghost use Rattle.npm_lock_check.specs.Linked.{folder_text};
+ghost use Rattle.npm_lock_check.specs.Report.{AreLines, IsHitLine, IsReportText, line_text, mismatch_text, unchecked_text};
+ghost use Rattle.npm_lock_check.specs.Report.{unread_text, wanted_value};
 
 use crate::arguments::Format;
+use crate::folder_name::FolderName;
 use crate::hit_sentence::push_hit_sentence;
 use crate::report::Report;
 use crate::sentence::{push_mismatch_sentence, push_sentence, push_unchecked_sentence};
+use crate::unread::{push_unread_sentence, unread_json};
 use crate::wanted::Wanted;
 use npm_advisories::Found;
 use npm_lock::{Mismatch, Problem, Unchecked};
@@ -32,6 +36,7 @@ pub fn lines_of(
     push_hits(alloc, &mut lines, found, wanted.format)?;
     if wanted.unchecked {
         push_all_unchecked(alloc, &mut lines, &report.problems.unchecked, wanted.format)?;
+        push_all_unread(alloc, &mut lines, &report.unread, wanted.format)?;
     }
     Ok(lines)
 }
@@ -99,6 +104,23 @@ fn push_all_unchecked(
 {
     for unchecked in all {
         push_unchecked(alloc, lines, unchecked, format)?;
+        lines.extend_from_slice(b"\n")?;
+    }
+    Ok(())
+}
+
+/// Adds a line for each manifest that was not read.
+fn push_all_unread(
+    alloc: Global,
+    lines: &mut Vec<u8>,
+    all: &[FolderName],
+    format: Format,
+) -> Result<(), AllocError>
+    ensures { OnOk result (lines.new.items
+        ≡ lines.old.items ++ Reports.lines (unread_text format) (map folder_text all.now)) }
+{
+    for folder in all {
+        push_unread(alloc, lines, folder, format)?;
         lines.extend_from_slice(b"\n")?;
     }
     Ok(())
@@ -173,6 +195,24 @@ fn push_unchecked(
         Format::Text => push_unchecked_sentence(line, unchecked),
         Format::Json => {
             let text = unchecked.to_json(alloc)?.to_string(alloc)?;
+            line.extend_from_slice(text.as_bytes())
+        }
+    }
+}
+
+/// Adds a manifest that was not read.
+fn push_unread(
+    alloc: Global,
+    line: &mut Vec<u8>,
+    folder: &FolderName,
+    format: Format,
+) -> Result<(), AllocError>
+    ensures { OnOk result (line.new.items ≡ line.old.items ++ unread_text format (folder_text folder.now)) }
+{
+    match format {
+        Format::Text => push_unread_sentence(line, folder),
+        Format::Json => {
+            let text = unread_json(alloc, folder)?.to_string(alloc)?;
             line.extend_from_slice(text.as_bytes())
         }
     }

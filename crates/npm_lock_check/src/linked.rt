@@ -1,18 +1,19 @@
 //! The manifests of workspaces, and of other packages that links of a lock file name.
 //!
 //! See docs/DECISIONS.md, "The manifests of workspaces are read where npm reads them".
-ghost use Rattle.std.specs.Prelude.{◌≡◌, ◌⊎◌, ℕ, List, IfErr, IfOk, Err, map, option_map};
+ghost use Rattle.std.specs.Prelude.{◌≡◌, ◌⊎◌, ℕ, List, IfErr, IfOk, OnOk, Err, option_map};
 ghost use Rattle.std.specs.Fn.{FnOnceReturnsAt, FnReturnsAt};
 ghost use Rattle.serde_json.specs.View.{view};
 ghost use Rattle.npm_lock.specs.LinkedFolders.{AreLinkedFolders};
-ghost use Rattle.npm_lock_check.specs.Linked.{AreRead, linked_value};
+ghost use Rattle.npm_lock_check.specs.Linked.{AreRead, loaded_value, nothing_loaded, with_found};
 ghost use Rattle.npm_lock_check.specs.Report.{AreLoaded, IsNotLoaded};
 
+use crate::folder_name::FolderName;
 use crate::run_error::LoadError;
 use crate::sync::is_compared;
 use npm_lock::linked_folders;
 use serde_json::Value;
-use std::alloc::Global;
+use std::alloc::{AllocError, Global};
 
 /// A manifest, and the folder of its package.
 #[derive(Drop)]
@@ -21,21 +22,50 @@ pub struct Linked {
     pub manifest: Value,
 }
 
+/// What was found in the folder of a package.
+#[derive(Drop)]
+pub enum Found {
+    /// No manifest.
+    Nothing,
+    /// A manifest that is not read.
+    Unread,
+    Manifest(Value),
+}
+
+/// The manifests that were read, and the folders of those that were not.
+#[derive(Drop)]
+pub struct Loaded {
+    pub linked: Vec<Linked>,
+    pub unread: Vec<FolderName>,
+}
+
+impl Loaded {
+    /// Nothing was loaded.
+    pub fn nothing(alloc: Global) -> Loaded
+        ensures { loaded_value result ≡ nothing_loaded }
+    {
+        Loaded {
+            linked: Vec::new(alloc),
+            unread: Vec::new(alloc),
+        }
+    }
+}
+
 /// Returns the manifests of the folders that links of the lock file name, in the order of the folders. `read` reads the
-/// manifest of a folder, and returns `None` if it is not there.
+/// manifest of a folder.
 ///
 /// # Errors
 ///
 /// - What `read` returned.
 /// - `Memory`: an allocation failed.
-pub fn manifests_of<F: Fn(&str) -> Result<Option<Value>, LoadError>>(
+pub fn manifests_of<F: Fn(&str) -> Result<Found, LoadError>>(
     alloc: Global,
     lock: &Value,
     read: F,
-) -> Result<Vec<Linked>, LoadError>
+) -> Result<Loaded, LoadError>
     requires { F.IsAlwaysCallable read }
-    ensures found { IfOk result (λ list. (folders : List (List ℕ)) × AreLinkedFolders (view lock.now) folders
-        × AreRead (FnReturnsAt F.Fn read) folders (map linked_value list.items)) }
+    ensures found { IfOk result (λ made. (folders : List (List ℕ)) × AreLinkedFolders (view lock.now) folders
+        × AreRead (FnReturnsAt F.Fn read) folders (loaded_value made)) }
     ensures failed { IfErr result (λ error. (error ≡ LoadError.Memory)
         ⊎ ((folder : List ℕ) × FnReturnsAt F.Fn read folder (Err error))) }
 {
@@ -43,36 +73,51 @@ pub fn manifests_of<F: Fn(&str) -> Result<Option<Value>, LoadError>>(
         Ok(folders) => folders,
         Err(_) => return Err(LoadError::Memory),
     };
-    let mut list = Vec::new(alloc);
+    let mut made = Loaded::nothing(alloc);
     for folder in &folders {
-        let manifest = match read(folder) {
-            Ok(Some(manifest)) => manifest,
-            Ok(None) => continue,
+        let found = match read(folder) {
+            Ok(found) => found,
             Err(error) => return Err(error),
         };
-        let folder = String::from_str(alloc, *folder).map_err(|_| LoadError::Memory)?;
-        list.push(Linked { folder, manifest })
-            .map_err(|_| LoadError::Memory)?;
+        add(alloc, &mut made, *folder, found).map_err(|_| LoadError::Memory)?;
     }
-    Ok(list)
+    Ok(made)
 }
 
-/// Returns what `load` returns for a lock file that is compared with a manifest, and an empty list for any other.
-pub fn loaded<F: FnOnce(&Value) -> Result<Vec<Linked>, LoadError>>(
+/// Adds what was found in a folder.
+fn add(alloc: Global, made: &mut Loaded, folder: &str, found: Found) -> Result<(), AllocError>
+    ensures { OnOk result (loaded_value made.new ≡ with_found folder.now found (loaded_value made.old)) }
+{
+    match found {
+        Found::Nothing => {}
+        Found::Unread => {
+            let text = String::from_str(alloc, folder)?;
+            made.unread.push(FolderName { text })?;
+        }
+        Found::Manifest(manifest) => {
+            let folder = String::from_str(alloc, folder)?;
+            made.linked.push(Linked { folder, manifest })?;
+        }
+    }
+    Ok(())
+}
+
+/// Returns what `load` returns for a lock file that is compared with a manifest, and nothing for any other.
+pub fn load_compared<F: FnOnce(&Value) -> Result<Loaded, LoadError>>(
     alloc: Global,
     lock: &Value,
     manifest: Option<&Value>,
     load: F,
-) -> Result<Vec<Linked>, LoadError>
+) -> Result<Loaded, LoadError>
     requires { F.IsAlwaysCallable load }
-    ensures found { IfOk result (λ list. AreLoaded (FnOnceReturnsAt F.FnOnce load) lock.now
-        (option_map (λ manifest. view manifest.now) manifest.entry) (map linked_value list.items)) }
+    ensures found { IfOk result (λ made. AreLoaded (FnOnceReturnsAt F.FnOnce load) lock.now
+        (option_map (λ manifest. view manifest.now) manifest.entry) (loaded_value made)) }
     ensures failed { IfErr result (λ error. IsNotLoaded (FnOnceReturnsAt F.FnOnce load) lock.now
         (option_map (λ manifest. view manifest.now) manifest.entry) error) }
 {
     if is_compared(lock, manifest) {
         load(lock)
     } else {
-        Ok(Vec::new(alloc))
+        Ok(Loaded::nothing(alloc))
     }
 }

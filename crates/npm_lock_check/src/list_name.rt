@@ -1,7 +1,10 @@
-//! The name of a list of advisories, in the line of an error.
-//!
-//! See docs/DECISIONS.md, "A sentence has printable ASCII alone".
-use crate::sentence::digit;
+//! The name of a list of advisories, and where in a file a fault is, in the line of an error.
+ghost use Rattle.std.specs.Prelude.{Some, string_bytes};
+ghost use Rattle.std.specs.Fmt.{WritesOnOk};
+ghost use Rattle.npm_lock_check.specs.Subjects as Subjects;
+
+use crate::shown::write_quoted;
+use npm_advisories::FaultKind;
 use std::fmt;
 
 /// The name that a list of advisories stands under. It is empty for a list in OSV's form.
@@ -10,33 +13,53 @@ pub struct ListName {
     pub text: String,
 }
 
-/// Prints `, of "lodash"`, or nothing for the empty name. Of the name printable ASCII alone is printed, as in sentences.
-/// Format options such as a width are ignored.
+/// Prints `, of "lodash"`, or nothing for the empty name. Format options such as a width are ignored.
 impl fmt::Display for ListName {
+    ghost output = { λ name. Some (Subjects.list_words (string_bytes name.text)) };
+
     fn fmt<W: fmt::Write>(&self, f: &mut fmt::Formatter<W>) -> fmt::Result {
         if self.text.is_empty() {
             return Ok(());
         }
-        f.write_str(", of \"")?;
-        write_shown(f, self.text.as_str())?;
-        f.write_char('"')
+        f.write_str(", of ")?;
+        write_quoted(f, self.text.as_bytes())
     }
 }
 
-/// Prints a text in printable ASCII alone: `"` and `\` have a `\` in front, and another byte is written by its number.
-pub(crate) fn write_shown<W: fmt::Write>(f: &mut fmt::Formatter<W>, text: &str) -> fmt::Result {
-    for byte in text.as_bytes() {
-        let byte = *byte;
-        if byte == b'"' || byte == b'\\' {
-            f.write_char('\\')?;
-            f.write_char(char::from(byte))?;
-        } else if byte < 32 || 126 < byte {
-            f.write_str("\\x")?;
-            f.write_char(char::from(digit(byte / 16)))?;
-            f.write_char(char::from(digit(byte % 16)))?;
-        } else {
-            f.write_char(char::from(byte))?;
-        }
+/// A fault of advisories, and where in the file it is.
+#[derive(Clone, Copy, Drop)]
+pub struct PlacedFault<'a> {
+    pub kind: FaultKind,
+    pub name: &'a ListName,
+    /// The place of the advisory in its list.
+    pub place: usize,
+}
+
+/// Prints the fault, and where it is: `; advisory 1, counted from 0, of "lodash"`. Of a list that is none it prints the name, and of
+/// a file that is none no more. Format options such as a width are ignored.
+impl<'a> fmt::Display for PlacedFault<'a> {
+    fn fmt<W: fmt::Write>(&self, f: &mut fmt::Formatter<W>) -> fmt::Result {
+        let kind = self.kind;
+        write!(f, "{kind}")?;
+        write_place(f, kind, self.name, self.place)
     }
-    Ok(())
+}
+
+/// Prints where a fault of this kind is.
+fn write_place<W: fmt::Write>(
+    f: &mut fmt::Formatter<W>,
+    kind: FaultKind,
+    name: &ListName,
+    place: usize,
+) -> fmt::Result
+    ensures { WritesOnOk W.write_str_gives f.old result (Subjects.place_words kind (string_bytes name.now.text) place) f.new }
+{
+    match kind {
+        FaultKind::File => Ok(()),
+        FaultKind::List => {
+            f.write_str("; the name is ")?;
+            write_quoted(f, name.text.as_bytes())
+        }
+        _ => write!(f, "; advisory {place}, counted from 0{name}"),
+    }
 }

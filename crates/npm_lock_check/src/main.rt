@@ -3,12 +3,13 @@
 //! manifest and the lock file do not ask for the same, and with `--advisories FILE` each package that an advisory hits.
 //!
 //! The exit status is 0 if nothing was found, 1 if something was, and 2 if the file was not checked. Nothing is then
-//! written but one line on standard error, which says why.
+//! written but one line on standard error, which says why. It is also 2 if that line, or the one that counts, is not written.
 #![tactic(auto)]
 
-ghost use Rattle.std.specs.Prelude.{◌≡◌, ◌↔◌, IfErr, None, Some};
+ghost use Rattle.std.specs.Prelude.{◌≡◌, ◌↔◌, IfErr, None, Some, false, true};
 ghost use Rattle.npm_lock_check.specs.Report.{IsClean};
 
+mod argument_error;
 mod arguments;
 mod folder_name;
 mod help;
@@ -21,60 +22,73 @@ mod list_name;
 mod manifest_file;
 mod node;
 mod output;
+mod program_error;
 mod report;
 mod run_error;
 mod sentence;
+mod shown;
+mod subject;
 mod sync;
+mod unread;
 mod wanted;
 mod watched;
+mod words;
 
+use argument_error::ArgumentError;
 use arguments::{Arguments, Format, Shown, read_arguments};
 use help::{HELP, VERSION};
 use linked::manifests_of;
-use manifest_file::{folder_of, no_file, not_read, path_of};
+use manifest_file::{folder_of, manifest_in};
 use node::node_of;
+use node_semver::Version;
 use output::{read_json, run};
+use program_error::ProgramError;
 use report::Report;
-use run_error::{LoadError, RunError, StopError, open_error, read_error};
+use run_error::{RunError, StopError, open_error};
 use serde_json::Value;
-use std::env;
+use shown::Quoted;
 use std::fs::File;
 use std::io::{IsTerminal, Read};
 use std::process::ExitCode;
+use subject::subject_of;
 use wanted::Wanted;
 use watched::Watched;
+use words::words_of;
 
-/// Ends with the status of `status_of`. A line on standard error that cannot be written is dropped.
+/// Ends with the status of `status_of`.
 fn main(rt: HostRuntime) -> ExitCode {
-    let outcome = answered(&rt);
-    let _ = match &outcome {
+    let words = words_of(rt.alloc(), &rt);
+    let outcome = match &words {
+        Ok(words) => answered(&rt, words),
+        Err(error) => Err(ProgramError::Words(error)),
+    };
+    let said = match &outcome {
         Ok(Some(report)) => eprintln!(rt; "{report}"),
         Ok(None) => Ok(()),
         Err(error) => eprintln!(rt; "npm_lock_check: {error}"),
     };
-    ExitCode::from(status_of(&outcome))
+    ExitCode::from(status_of(&outcome, said.is_ok()))
 }
 
 /// Does what the arguments ask for. Returns what was written, or `None` if a text was shown in place of a check.
-fn answered(rt: &HostRuntime) -> Result<Option<Report>, StopError> {
-    // The first word is the program's name.
-    let words = env::args(rt).map_err(|error| StopError::Check(read_error(error)))?;
-    let words: Vec<String> = words
-        .skip(1)
-        .collect(rt.alloc())
-        .map_err(|_| StopError::Check(RunError::Memory))?;
-    let asked = read_arguments(&words).map_err(StopError::Check)?;
+fn answered<'a>(rt: &HostRuntime, words: &'a [String]) -> Result<Option<Report>, ProgramError<'a>> {
+    let asked = read_arguments(words).map_err(ProgramError::Argument)?;
     if let Some(shown) = asked.shown {
-        show(rt, shown).map_err(StopError::Check)?;
-        return Ok(None);
+        return match show(rt, shown) {
+            Ok(()) => Ok(None),
+            Err(error) => Err(stopped(asked, StopError::Check(error))),
+        };
     }
-    match asked.file {
-        None | Some("-") => checked(rt, rt.stdin(), asked).map(Some),
-        Some(path) => {
-            let file = File::open(rt, path).map_err(|error| StopError::Check(open_error(error)))?;
-            checked(rt, file, asked).map(Some)
-        }
+    let node = node_asked(rt, asked)?;
+    match opened(rt, asked, node.as_ref()) {
+        Ok(report) => Ok(Some(report)),
+        Err(error) => Err(stopped(asked, error)),
     }
+}
+
+/// The error of a run that stopped.
+fn stopped<'a>(asked: Arguments<'a>, error: StopError) -> ProgramError<'a> {
+    ProgramError::Stopped(subject_of(asked, &error), error)
 }
 
 /// Writes a text about the program.
@@ -86,16 +100,43 @@ fn show(rt: &HostRuntime, shown: Shown) -> Result<(), RunError> {
     print!(rt; "{text}").map_err(|_| RunError::Write)
 }
 
+/// The version of Node that the arguments name.
+fn node_asked<'a>(
+    rt: &HostRuntime,
+    asked: Arguments<'a>,
+) -> Result<Option<Version>, ProgramError<'a>> {
+    let Some(text) = asked.node else {
+        return Ok(None);
+    };
+    match node_of(rt.alloc(), text) {
+        Ok(Some(version)) => Ok(Some(version)),
+        Ok(None) => Err(ProgramError::Argument(ArgumentError::NodeVersion(Quoted { text }))),
+        Err(_) => Err(stopped(asked, StopError::Check(RunError::Memory))),
+    }
+}
+
+/// Opens the lock file and checks it.
+fn opened(
+    rt: &HostRuntime,
+    asked: Arguments<'_>,
+    node: Option<&Version>,
+) -> Result<Report, StopError> {
+    match asked.file {
+        None | Some("-") => checked(rt, rt.stdin(), asked, node),
+        Some(path) => {
+            let file = File::open(rt, path).map_err(|error| StopError::Check(open_error(error)))?;
+            checked(rt, file, asked, node)
+        }
+    }
+}
+
 /// Checks what is read.
 fn checked<R: Read + Drop>(
     rt: &HostRuntime,
     reader: R,
     asked: Arguments<'_>,
+    node: Option<&Version>,
 ) -> Result<Report, StopError> {
-    let node = match asked.node {
-        Some(text) => Some(node_of(rt.alloc(), text).map_err(StopError::Check)?),
-        None => None,
-    };
     let manifest = value_at(rt, asked.manifest).map_err(StopError::Manifest)?;
     let advisories = value_at(rt, asked.advisories).map_err(StopError::Advisories)?;
     let stdout = rt.stdout();
@@ -108,30 +149,20 @@ fn checked<R: Read + Drop>(
     let mut writer = Watched::new(stdout);
     let wanted = Wanted {
         manifest: manifest.as_ref(),
+        exact: asked.exact,
         advisories: advisories.as_ref(),
         level: asked.level,
-        node: node.as_ref(),
+        node,
         ignored: asked.ignored,
         unchecked: asked.unchecked,
         format,
     };
     let folder = asked.manifest.map_or(".", folder_of);
     run(rt.alloc(), &mut reader, &mut writer, wanted, |lock| {
-        manifests_of(rt.alloc(), lock, |linked| manifest_in(rt, folder, linked))
+        manifests_of(rt.alloc(), lock, |linked| {
+            manifest_in(rt, folder, linked, asked.outside)
+        })
     })
-}
-
-/// Reads the manifest of the package in a folder, which is inside another. Returns `None` if it is not there.
-fn manifest_in(rt: &HostRuntime, outer: &str, folder: &str) -> Result<Option<Value>, LoadError> {
-    let path = path_of(rt.alloc(), outer, folder).map_err(|_| LoadError::Memory)?;
-    let file = match File::open(rt, path.as_str()) {
-        Ok(file) => file,
-        Err(error) => return no_file(rt.alloc(), folder, error.kind()),
-    };
-    match read_json(rt.alloc(), &mut Watched::new(file)) {
-        Ok(manifest) => Ok(Some(manifest)),
-        Err(error) => Err(not_read(rt.alloc(), folder, error)),
-    }
 }
 
 /// Reads the JSON value of a file, if there is one.
@@ -143,16 +174,19 @@ fn value_at(rt: &HostRuntime, path: Option<&str>) -> Result<Option<Value>, RunEr
     read_json(rt.alloc(), &mut Watched::new(file)).map(Some)
 }
 
-/// Returns the exit status: 0 if nothing was found, 1 if something was, and 2 if the file was not checked.
-fn status_of(outcome: &Result<Option<Report>, StopError>) -> u8
-    ensures shown { outcome.now ≡ Ok None → result ≡ 0 }
-    ensures checked { (report : Report) → outcome.now ≡ Ok (Some report)
+/// Returns the exit status: 0 if nothing was found, 1 if something was, and 2 if the file was not checked, or if the line on
+/// standard error was not written.
+fn status_of(outcome: &Result<Option<Report>, ProgramError<'_>>, is_said: bool) -> u8
+    ensures shown { outcome.now ≡ Ok None → is_said ≡ true → result ≡ 0 }
+    ensures checked { (report : Report) → outcome.now ≡ Ok (Some report) → is_said ≡ true
         → (result ≡ 0 ↔ IsClean report) × (result ≡ 1 ↔ ¬ IsClean report) }
     ensures stopped { IfErr outcome.now (λ _. result ≡ 2) }
+    ensures unsaid { is_said ≡ false → result ≡ 2 }
 {
     match outcome {
+        Err(_) => 2,
+        Ok(_) if !is_said => 2,
         Ok(Some(report)) if !report.is_clean() => 1,
         Ok(_) => 0,
-        Err(_) => 2,
     }
 }

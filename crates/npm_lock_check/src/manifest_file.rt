@@ -1,12 +1,16 @@
-//! Where the manifest of a workspace is, and why it was not read.
+//! Reads the manifest of a workspace.
 ghost use Rattle.std.specs.Prelude.{◌≡◌, IfOk, string_bytes};
 ghost use Rattle.npm_lock_check.specs.ManifestFile.{IsFolderOf, IsNoFile, IsNotOpened, IsNotRead, path_of};
 
 use crate::folder_name::FolderName;
+use crate::linked::Found;
+use crate::output::read_json;
 use crate::run_error::{LoadError, RunError};
-use serde_json::Value;
+use crate::watched::Watched;
 use std::alloc::{AllocError, Global};
+use std::fs::File;
 use std::io::ErrorKind;
+use std::{fs, io};
 
 /// Returns the folder of a file: `a` of `a/package.json`, and `.` of `package.json`.
 pub fn folder_of(path: &str) -> &str
@@ -18,8 +22,48 @@ pub fn folder_of(path: &str) -> &str
     }
 }
 
-/// Returns the path of the manifest in a folder, which is inside another.
-pub fn path_of(alloc: Global, outer: &str, folder: &str) -> Result<String, AllocError>
+/// Reads the manifest of the package in a folder, which is inside another.
+pub fn manifest_in(
+    rt: &HostRuntime,
+    outer: &str,
+    folder: &str,
+    outside: bool,
+) -> Result<Found, LoadError> {
+    let path = path_of(rt.alloc(), outer, folder).map_err(|_| LoadError::Memory)?;
+    let file = match opened(rt, outer, path.as_str(), outside) {
+        Ok(Some(file)) => file,
+        Ok(None) => return Ok(Found::Unread),
+        Err(error) => return no_file(rt.alloc(), folder, error.kind()),
+    };
+    match read_json(rt.alloc(), &mut Watched::new(file)) {
+        Ok(manifest) => Ok(Found::Manifest(manifest)),
+        Err(error) => Err(not_read(rt.alloc(), folder, error)),
+    }
+}
+
+/// Opens a manifest. Returns `None` for one that is not inside this folder, unless those are read too.
+fn opened(rt: &HostRuntime, outer: &str, path: &str, outside: bool) -> io::Result<Option<File>> {
+    if outside || is_inside(rt, outer, path)? {
+        File::open(rt, path).map(Some)
+    } else {
+        Ok(None)
+    }
+}
+
+/// Returns `true` for a regular file below a folder. Of a symbolic link the file that it leads to counts. A pipe is no regular
+/// file, and is not opened: that could wait for ever.
+fn is_inside(rt: &HostRuntime, outer: &str, path: &str) -> io::Result<bool> {
+    if !fs::metadata(rt, path)?.is_file() {
+        return Ok(false);
+    }
+    let outer = if outer.is_empty() { "/" } else { outer };
+    let above = fs::canonicalize(rt, outer)?;
+    let real = fs::canonicalize(rt, path)?;
+    Ok(real.as_path().starts_with(above.as_path()))
+}
+
+/// The path of the manifest in a folder, which is inside another.
+fn path_of(alloc: Global, outer: &str, folder: &str) -> Result<String, AllocError>
     ensures { IfOk result (λ path. string_bytes path ≡ path_of outer.now folder.now) }
 {
     let mut path = String::from_str(alloc, outer)?;
@@ -30,11 +74,11 @@ pub fn path_of(alloc: Global, outer: &str, folder: &str) -> Result<String, Alloc
 }
 
 /// What is returned for a file that was not opened: nothing if it is not there.
-pub fn no_file(alloc: Global, folder: &str, kind: ErrorKind) -> Result<Option<Value>, LoadError>
+fn no_file(alloc: Global, folder: &str, kind: ErrorKind) -> Result<Found, LoadError>
     ensures { IsNoFile folder.now kind result }
 {
     match kind {
-        ErrorKind::NotFound => Ok(None),
+        ErrorKind::NotFound => Ok(Found::Nothing),
         _ => Err(not_opened(alloc, folder)),
     }
 }
@@ -50,7 +94,7 @@ fn not_opened(alloc: Global, folder: &str) -> LoadError
 }
 
 /// The error of a file that was not read.
-pub fn not_read(alloc: Global, folder: &str, error: RunError) -> LoadError
+fn not_read(alloc: Global, folder: &str, error: RunError) -> LoadError
     ensures { IsNotRead folder.now error result }
 {
     match String::from_str(alloc, folder) {

@@ -1,5 +1,5 @@
 //! What the program reads, and what it writes for it.
-ghost use Rattle.std.specs.Prelude.{◌≡◌, ◌≢◌, List, ℕ, IfErr, IfOk, IsErrOf, IsSome, OnOk, filter, map, not, option_map};
+ghost use Rattle.std.specs.Prelude.{◌≡◌, ◌≢◌, List, ℕ, IfErr, IfOk, IsErrOf, IsSome, OnOk, filter, not, option_map};
 ghost use Rattle.std.specs.Fn.{FnOnceReturnsAt};
 ghost use Rattle.std.specs.Io.KnownBytes.{Appends};
 ghost use Rattle.serde_json.specs.View.{view};
@@ -7,7 +7,7 @@ ghost use Rattle.npm_lock.specs.Faults.{lock_fault};
 ghost use Rattle.npm_lock.specs.VersionOne.{any_fault, converted};
 ghost use Rattle.npm_advisories.specs.Audit.{FoundValue};
 ghost use Rattle.npm_lock_check.specs.Kinds.{has};
-ghost use Rattle.npm_lock_check.specs.Linked.{linked_value};
+ghost use Rattle.npm_lock_check.specs.Linked.{loaded_value};
 ghost use Rattle.npm_lock_check.specs.Output.{IsInput, IsReported, IsStopped, IsUnread};
 ghost use Rattle.npm_lock_check.specs.Private.Refusals.{IsCheckRefused, IsLockRefused, IsRefused};
 ghost use Rattle.npm_lock_check.specs.Report.{AreLeft, IsReportOf, IsReportText, manifests_of, placed};
@@ -17,7 +17,7 @@ ghost use Rattle.npm_lock_check.specs.declared.report.Report.{Report};
 use crate::hits::hits_of;
 use crate::kinds::Kinds;
 use crate::lines::lines_of;
-use crate::linked::{Linked, loaded};
+use crate::linked::{Loaded, load_compared};
 use crate::report::Report;
 use crate::run_error::{LoadError, RunError, StopError, failure_error, json_error, read_error};
 use crate::sync::{compare, is_compared};
@@ -34,12 +34,12 @@ use std::str;
 /// are asked for. Returns what was written, with the counts of all.
 ///
 /// `load` is called with the lock file if that is compared with a manifest, and not otherwise. It returns the manifests of
-/// workspaces and of other packages that links name.
+/// workspaces and of other packages that links name, and the folders of those that are not read.
 ///
 /// # Errors
 ///
 /// Nothing was written, but after `Write`: then a beginning of the lines was.
-pub fn run<R: Read, W: Write, F: FnOnce(&Value) -> Result<Vec<Linked>, LoadError>>(
+pub fn run<R: Read, W: Write, F: FnOnce(&Value) -> Result<Loaded, LoadError>>(
     alloc: Global,
     reader: &mut Watched<R>,
     writer: &mut Watched<W>,
@@ -65,11 +65,11 @@ pub fn run<R: Read, W: Write, F: FnOnce(&Value) -> Result<Vec<Linked>, LoadError
         Ok(lock) => lock,
         Err(error) => return Err(StopError::Check(error)),
     };
-    let linked = match loaded(alloc, &lock, wanted.manifest, load) {
-        Ok(linked) => linked,
+    let loaded = match load_compared(alloc, &lock, wanted.manifest, load) {
+        Ok(loaded) => loaded,
         Err(error) => return Err(StopError::Load(error)),
     };
-    let (report, lines) = match report_of(alloc, lock, linked, wanted) {
+    let (report, lines) = match report_of(alloc, lock, loaded, wanted) {
         Ok(made) => made,
         Err(error) => return Err(StopError::Check(error)),
     };
@@ -83,16 +83,17 @@ pub fn run<R: Read, W: Write, F: FnOnce(&Value) -> Result<Vec<Linked>, LoadError
 fn report_of(
     alloc: Global,
     lock: Value,
-    linked: Vec<Linked>,
+    loaded: Loaded,
     wanted: Wanted<'_>,
 ) -> Result<(Report, Vec<u8>), RunError>
     ensures found { IfOk result (λ made. (found : List FoundValue)
-        × IsReportOf (view lock) (map linked_value linked.items) (wanted_value wanted.entry) made.0 found
+        × IsReportOf (view lock) (loaded_value loaded) (wanted_value wanted.entry) made.0 found
         × IsReportText (wanted_value wanted.entry) made.0 found made.1.items) }
     ensures refused { IfErr result (IsRefused (view lock) (placed (view lock)
-        (manifests_of (wanted_value wanted.entry).manifest (map linked_value linked.items)))
-        (map linked_value linked.items) (wanted_value wanted.entry)) }
+        (manifests_of (wanted_value wanted.entry).manifest (loaded_value loaded).linked))
+        (loaded_value loaded).linked (wanted_value wanted.entry)) }
 {
+    let Loaded { linked, unread } = loaded;
     let compared = is_compared(&lock, wanted.manifest);
     let mut lock = lock;
     let mismatches = compare(alloc, &mut lock, linked, wanted)?;
@@ -105,6 +106,8 @@ fn report_of(
     let report = Report {
         compared,
         mismatches,
+        exact: wanted.exact,
+        unread,
         problems,
         audited: wanted.advisories.is_some(),
         hits: found.len(),

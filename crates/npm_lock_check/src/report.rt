@@ -2,6 +2,7 @@
 ghost use Rattle.std.specs.Prelude.{◌≡◌, ◌↔◌, IsTrue};
 ghost use Rattle.npm_lock_check.specs.Report.{IsClean};
 
+use crate::folder_name::FolderName;
 use npm_lock::{Mismatch, Problems};
 use std::fmt;
 
@@ -12,6 +13,10 @@ pub struct Report {
     pub compared: bool,
     /// The mismatches of the manifest, but not if their kind is left out.
     pub mismatches: Vec<Mismatch>,
+    /// Mismatches count for the status.
+    pub exact: bool,
+    /// The folders of linked packages whose manifest was not read.
+    pub unread: Vec<FolderName>,
     /// The problems of the lock file but those of kinds that are left out, with the counts of all.
     pub problems: Problems,
     /// Advisories were looked up.
@@ -23,11 +28,12 @@ pub struct Report {
 }
 
 impl Report {
-    /// Returns `true` if there is nothing to report.
+    /// Returns `true` if nothing was found that counts for the status.
     pub fn is_clean(&self) -> bool
         ensures { IsTrue result ↔ IsClean self.now }
     {
-        self.mismatches.is_empty() && self.problems.list.is_empty() && self.hits == 0
+        let is_same = !self.exact || self.mismatches.is_empty();
+        is_same && self.problems.list.is_empty() && self.hits == 0
     }
 }
 
@@ -49,6 +55,13 @@ impl fmt::Display for Report {
         }
         if self.compared {
             write!(f, ", {} mismatches", self.mismatches.len())?;
+        }
+        if !self.unread.is_empty() {
+            write!(
+                f,
+                ", {} manifests not read (see --outside)",
+                self.unread.len()
+            )?;
         }
         if self.audited {
             write!(f, ", {} hit", self.hits)?;

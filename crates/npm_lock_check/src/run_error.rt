@@ -1,11 +1,11 @@
-//! Why a lock file was not checked.
+//! Why a lock file was not checked. In front of each text the program writes what `subject` says.
 ghost use Rattle.std.specs.Prelude.{◌≡◌, ◌↔◌, ◌⊎◌, ℕ};
 ghost use Rattle.std.specs.IoError.{error_kind};
 ghost use Rattle.std.specs.declared.io.ErrorKind.{ErrorKind};
 ghost use Rattle.serde_json.specs.Errors.{IsMemory};
 
 use crate::folder_name::FolderName;
-use crate::list_name::ListName;
+use crate::list_name::{ListName, PlacedFault};
 use npm_advisories::FaultKind;
 use npm_lock::Fault;
 use std::io;
@@ -15,35 +15,11 @@ use thiserror::Error;
 /// Why a lock file was not checked.
 #[derive(Debug, PartialEq, Eq, Drop, Error)]
 pub enum RunError {
-    /// More words than are read.
-    #[error("more than 1000 arguments; --help lists the options")]
-    TooManyWords,
-    /// An option that is not known.
-    #[error("no such option; --help lists the options")]
-    UnknownOption,
-    /// A second word that is no option.
-    #[error("more than one FILE; --help shows what is read")]
-    SecondFile,
-    /// An option that has a value is the last word.
-    #[error("the last option has no value; --help lists the options")]
-    NoValue,
-    /// What follows `--format` is no format.
-    #[error("--format takes text or json; --help lists the options")]
-    Format,
-    /// What follows `--ignore` is no kind of problem.
-    #[error("--ignore takes group, missing, invalid, peer-local or engine; --help lists the options")]
-    Kind,
-    /// What follows `--severity` is no severity.
-    #[error("--severity takes info, low, moderate, high or critical; --help lists the options")]
-    Severity,
-    /// What follows `--node` is no version.
-    #[error("--node takes a version, as 20 or 20.11.1; --help lists the options")]
-    NodeVersion,
     /// The file is not there.
-    #[error("FILE is not there")]
+    #[error("no such file")]
     NoFile,
     /// The file cannot be opened.
-    #[error("FILE cannot be opened")]
+    #[error("the file cannot be opened")]
     Open,
     /// A read failed.
     #[error("read failed")]
@@ -73,7 +49,7 @@ pub enum RunError {
     #[error("{0}/package.json is not read: {1}")]
     NoLinked(FolderName, Fault),
     /// The advisories have a fault: its kind, the name that the advisory stands under, and its place in the list there.
-    #[error("the advisories are not read: {0}; advisory {2}, counted from 0{1}")]
+    #[error("the advisories are not read: {}", PlacedFault {kind: *.0, name: .1, place: *.2})]
     NoAdvisories(FaultKind, ListName, usize),
 }
 
@@ -98,10 +74,10 @@ pub enum StopError {
     #[error("{0}")]
     Check(RunError),
     /// The file after `--manifest` was not read.
-    #[error("--manifest: {0}")]
+    #[error("{0}")]
     Manifest(RunError),
     /// The file after `--advisories` was not read.
-    #[error("--advisories: {0}")]
+    #[error("{0}")]
     Advisories(RunError),
     /// The manifest of a workspace, or of another package that a link names, was not read.
     #[error("{0}")]

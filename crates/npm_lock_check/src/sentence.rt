@@ -1,14 +1,14 @@
 //! A problem, a dependency that is not checked, or a mismatch, as a sentence for a person.
 //!
 //! See docs/DECISIONS.md, "A sentence has printable ASCII alone".
-ghost use Rattle.std.specs.Prelude.{◌≡◌, ◌<◌, ◌++◌, ℕ, List, None, Some, codes, OnOk, option_map, string_bytes};
-ghost use Rattle.std.specs.List.{flat_map};
+ghost use Rattle.std.specs.Prelude.{◌≡◌, ◌++◌, ℕ, List, None, Some, codes, OnOk, option_map, string_bytes};
 ghost use Rattle.std.specs.Option.{MatchOption};
 ghost use Rattle.std.specs.Str.Pattern.{RFindsText, SplitsAroundMatch};
 ghost use Rattle.npm_lock.specs.Mismatches.{mismatch_value};
 ghost use Rattle.npm_lock.specs.Outcomes.{dependency_value, problem_value, unchecked_value};
 ghost use Rattle.npm_lock_check.specs.Sentence as Sentence;
 
+use crate::shown::push_shown;
 use npm_lock::{Dependency, Kind, Mismatch, Problem, Reason, Unchecked};
 use std::alloc::AllocError;
 
@@ -198,40 +198,5 @@ fn push_after(line: &mut Vec<u8>, start: &[u8], text: Option<&String>) -> Result
             push_shown(line, text.as_str())
         }
         None => Ok(()),
-    }
-}
-
-/// Adds a text of the file, in printable ASCII alone.
-pub fn push_shown(line: &mut Vec<u8>, text: &str) -> Result<(), AllocError>
-    ensures { OnOk result (line.new.items ≡ line.old.items ++ flat_map Sentence.shown_byte text.now) }
-{
-    for byte in text.as_bytes() {
-        push_byte(line, *byte)?;
-    }
-    Ok(())
-}
-
-/// Adds a byte: a printable one as it is, and another by its number, as `\x1b`.
-fn push_byte(line: &mut Vec<u8>, byte: u8) -> Result<(), AllocError>
-    ensures { OnOk result (line.new.items ≡ line.old.items ++ Sentence.shown_byte byte) }
-{
-    if byte == b'"' || byte == b'\\' {
-        line.extend_from_slice(&[b'\\', byte])
-    } else if byte < 32 || 126 < byte {
-        line.extend_from_slice(&[b'\\', b'x', digit(byte / 16), digit(byte % 16)])
-    } else {
-        line.extend_from_slice(&[byte])
-    }
-}
-
-/// The hexadecimal digit of a number.
-pub fn digit(number: u8) -> u8
-    requires { number < 16 }
-    ensures { result ≡ Sentence.digit number }
-{
-    if number < 10 {
-        b'0' + number
-    } else {
-        b'a' + (number - 10)
     }
 }

@@ -10,6 +10,8 @@ use serde_json::Value;
 pub struct Wanted<'a> {
     /// The manifest of the root.
     pub manifest: Option<&'a Value>,
+    /// Mismatches count for the status.
+    pub exact: bool,
     /// Security advisories, as `npm_advisories` reads them.
     pub advisories: Option<&'a Value>,
     /// Advisories that are less severe are left out.

@@ -7,6 +7,8 @@ mod check;
 #[cfg(test)]
 mod checks;
 #[cfg(test)]
+mod installed;
+#[cfg(test)]
 mod linked;
 #[cfg(test)]
 mod manifest;

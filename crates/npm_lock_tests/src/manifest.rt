@@ -5,7 +5,7 @@ use serde_json::Value;
 use std::alloc::{AllocError, Global};
 
 // A manifest, the package of the lock file in the same folder, and each mismatch in a line: its group and its JSON text.
-const ROWS: [(&str, &str, &str); 15] = [
+const ROWS: [(&str, &str, &str); 16] = [
     ("{}", "{}", ""),
     (
         r#"{"dependencies": {"a": "^1"}}"#,
@@ -56,6 +56,17 @@ dependencies {"from":"w","group":"dependencies","name":"ab","problem":"group","s
         r#"
 dependencies {"from":"w","group":"dependencies","locked":"1","name":"a","problem":"group"}
 devDependencies {"from":"w","group":"devDependencies","name":"a","problem":"group","spec":"1"}"#,
+    ),
+    // One group after another, and each with its names.
+    (
+        r#"{"peerDependencies": {"a": "1"}, "optionalDependencies": {"b": "1"}, "devDependencies": {"c": "1"},
+            "dependencies": {"d": "1"}}"#,
+        "{}",
+        r#"
+dependencies {"from":"w","group":"dependencies","name":"d","problem":"group","spec":"1"}
+devDependencies {"from":"w","group":"devDependencies","name":"c","problem":"group","spec":"1"}
+optionalDependencies {"from":"w","group":"optionalDependencies","name":"b","problem":"group","spec":"1"}
+peerDependencies {"from":"w","group":"peerDependencies","name":"a","problem":"group","spec":"1"}"#,
     ),
     // What is optional is not compared in `dependencies`.
     (

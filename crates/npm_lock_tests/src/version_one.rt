@@ -280,11 +280,19 @@ const OLD: &str =
 const MANIFEST: &str = r#"{"dependencies": {"a": "^1"}}"#;
 
 const CONVERTED: &str =
-    r#"{"lockfileVersion":3,"packages":{"":{"dependencies":{"a":"^1"}},"node_modules/a":{"dependencies":{"b":"^2"},"dev":true,"version":"1.0.0"},"node_modules/a/node_modules/b":{"version":"1.0.0"}}}"#;
+    r#"{"lockfileVersion":3,"packages":{"":{"dependencies":{"a":"^1"}},"node_modules/a":{"dependencies":{"b":"^2"},"dev":true,"version":"1.0.0"},"node_modules/a/node_modules/b":{"name":"c","version":"1.0.0"}}}"#;
 
 // A lock file, its manifest, the file that it becomes or the fault, and what a check of that file finds.
-const CONVERSIONS: [(&str, &str, &str, &str); 3] = [
+const CONVERSIONS: [(&str, &str, &str, &str); 4] = [
     (OLD, MANIFEST, CONVERTED, "invalid b of node_modules/a"),
+    // Aliases: with a scope, of a name alone, of no name, and of what is in no registry.
+    (
+        r#"{"dependencies": {"a": {"version": "npm:@s/c@1.0.0"}, "b": {"version": "npm:c"}, "c": {"version": "npm:^1"},
+            "d": {"version": "npm:@s/c"}, "e": {"version": "NPM:c@"}, "f": {"version": "npm:c@github:b/c"}}}"#,
+        "",
+        r#"{"lockfileVersion":3,"packages":{"":{},"node_modules/a":{"name":"@s/c","version":"1.0.0"},"node_modules/b":{"name":"c","version":"*"},"node_modules/c":{"version":"^1"},"node_modules/d":{"name":"@s/c","version":"*"},"node_modules/e":{"name":"c","version":"*"},"node_modules/f":{}}}"#,
+        "",
+    ),
     (
         r#"{"lockfileVersion": 4}"#,
         "",

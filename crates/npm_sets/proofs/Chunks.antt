@@ -1,4 +1,5 @@
 pub mod ChunkLemmas
 pub mod SideLemmas
 pub mod Borders
+pub mod Joins
 pub mod WordParts

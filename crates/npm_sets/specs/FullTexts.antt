@@ -1,6 +1,6 @@
 -- Range texts that are a full version, with `^`, `~` or nothing before it: most are. Such a text has one set.
 use Rattle.std.specs.Prelude.{◌≡◌, ◌↔◌, ℕ, IsTrue, List, [], ◌∷◌}
-use Rattle.semver_versions.specs.Version.{VersionValue}
+use Rattle.semver_texts.specs.Version.{VersionValue}
 use Rattle.semver_sets.specs.FullTexts.{AreInLimit, full_set, is_full_form}
 use Rattle.semver_sets.specs.RangeSets.{IsRangeSet}
 use Rattle.semver_sets.specs.declared.word.form.Form.{Form}

@@ -12,10 +12,10 @@ use Rattle.std.specs.Prelude.{Err}
 use Rattle.std.specs.Prelude.{if◌then◌else◌}
 use Rattle.std.specs.List.{AllByRecursion}
 use Rattle.semver_cuts.specs.Ends.{Ends}
-use Rattle.semver_versions.specs.Reading.{◌>>=◌}
-use Rattle.semver_versions.specs.Version.{IsPrerelease, VersionValue}
-use Rattle.semver_versions.specs.declared.parse.fault.Fault.{Fault}
-use Rattle.semver_versions.specs.declared.parse.fault.Fault.TheVariants.{LeftOver, Missing, TooLarge, TooLong}
+use Rattle.semver_texts.specs.Reading.{◌>>=◌}
+use Rattle.semver_texts.specs.Version.{IsPrerelease, VersionValue}
+use Rattle.semver_texts.specs.declared.parse.fault.Fault.{Fault}
+use Rattle.semver_texts.specs.declared.parse.fault.Fault.TheVariants.{LeftOver, Missing, TooLarge, TooLong}
 use Rattle.semver_sets.specs.Comparator.{Comparator}
 use Rattle.semver_sets.specs.Meaning.{AnyByRecursion, HasOpenEnd, IsInside, SetAdmits}
 use Rattle.semver_sets.specs.Merging.{AreSetsOf, all_cuts}

@@ -1,17 +1,13 @@
 -- How npm reads a partial, in strict and in loose form: npm's "Range Grammar", and SemVer 2.0.0, sections 2, 9 and 10.
 use Rattle.std.specs.Prelude.{ℕ, ◌==◌, ◌&&◌, ◌||◌, Bool, true, false, not, nat_le, if◌then◌else◌, length}
 use Rattle.std.specs.Prelude.{List, [], ◌∷◌, Option, Some, None, Result, Ok, Err}
-use Rattle.semver_versions.specs.Characters.{dot, hyphen, is_digit, is_identifier_character, is_x, plus}
-use Rattle.semver_versions.specs.Reading.{Read, ◌>>=◌, begins, missing, read_extras, read_number, rest_of}
-use Rattle.semver_versions.specs.declared.TheConstants.{MAX_LENGTH}
-use Rattle.semver_versions.specs.declared.parse.fault.Fault.{Fault}
-use Rattle.semver_versions.specs.declared.parse.fault.Fault.TheVariants.{TooLong}
+use Rattle.semver_texts.specs.Characters.{dot, hyphen, is_digit, is_identifier_character, is_x, plus}
+use Rattle.semver_texts.specs.Reading.{Read, ◌>>=◌, begins, missing, read_extras, read_number, rest_of}
+use Rattle.semver_texts.specs.declared.TheConstants.{MAX_LENGTH}
+use Rattle.semver_texts.specs.declared.parse.fault.Fault.{Fault}
+use Rattle.semver_texts.specs.declared.parse.fault.Fault.TheVariants.{TooLong}
 use Rattle.semver_sets.specs.PartialText.{Partial}
-use Rattle.npm_sets.specs.WordTexts.{is_empty}
-
--- `v` or `=`, any number of which can come before a partial
-abbrev pub is_mark : ℕ → Bool
-is_mark b = (b == 118) || (b == 61)
+use Rattle.npm_sets.specs.WordTexts.{is_empty, is_mark}
 
 -- ---- strict form
 

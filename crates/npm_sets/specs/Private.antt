@@ -1,3 +1,4 @@
 -- What private functions compute.
 pub mod ReadViews
 pub mod RefusedViews
+pub mod WordViews

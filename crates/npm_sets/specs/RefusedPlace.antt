@@ -8,7 +8,7 @@ use Rattle.std.specs.Prelude.{◌≡◌, ℕ, Bool, true, false, List, [], ◌�
 use Rattle.std.specs.Prelude.{encode_utf8_all}
 use Rattle.std.specs.Prelude.{length}
 use Rattle.std.specs.List.{AllByRecursion}
-use Rattle.semver_versions.specs.Characters.{BeginsWith}
+use Rattle.semver_texts.specs.Characters.{BeginsWith}
 use Rattle.npm_sets.specs.NpmMeaning.{piece_comparators, word_comparator}
 use Rattle.npm_sets.specs.Spaces.{plain_text}
 use Rattle.npm_sets.specs.WordTexts.{Word, chunks_of, is_solid, is_space, pieces_of, words_of}

@@ -6,8 +6,8 @@ use Rattle.std.specs.Prelude.{ℕ, zero, suc, ◌+◌, Bool, if◌then◌else◌
 use Rattle.std.specs.Prelude.{List, [], ◌∷◌}
 use Rattle.semver_cuts.specs.declared.cut.Cut.{Cut}
 use Rattle.semver_cuts.specs.declared.cut.Cut.TheVariants.{Start, Before, After, End}
-use Rattle.semver_versions.specs.IdentifierValue.{IdentifierValue}
-use Rattle.semver_versions.specs.Version.{VersionValue, least_of, release, without_build}
+use Rattle.semver_texts.specs.IdentifierValue.{IdentifierValue}
+use Rattle.semver_texts.specs.Version.{VersionValue, least_of, release, without_build}
 use Rattle.semver_sets.specs.Comparator.{Comparator, above, at_least, at_most, below, exactly, from_up_to}
 use Rattle.semver_sets.specs.Merging.{all_cuts}
 use Rattle.semver_sets.specs.PartialText.{Partial, zeroed}

@@ -1,7 +1,10 @@
 -- How npm divides a range text into pieces and words: npm's "Range Grammar".
 use Rattle.std.specs.Prelude.{ℕ, ◌==◌, ◌&&◌, ◌||◌, Bool, true, false, not, nat_le, if◌then◌else◌, List, [], ◌∷◌, Option}
 use Rattle.std.specs.Prelude.{Some, None}
-use Rattle.semver_versions.specs.Characters.{bar, caret, greater_sign, hyphen, tilde}
+use Rattle.semver_texts.specs.Characters.{bar, caret, greater_sign, hyphen, is_digit, is_x, tilde}
+use Rattle.semver_texts.specs.Reading.{begins, rest_of}
+use Rattle.npm_sets.specs.declared.words.Ending.{Ending}
+use Rattle.npm_sets.specs.declared.words.Ending.TheVariants.{Comparison, NoOperator, Sign, TildeGreater}
 use Rattle.npm_sets.specs.declared.words.Lead.{Lead}
 use Rattle.npm_sets.specs.declared.words.Lead.TheVariants.{Above, AtLeast, AtMost, Below, Caret, Equal, Nothing, Tilde}
 
@@ -67,13 +70,89 @@ lead_of (b ∷ rest) =
 abbrev pub Word : Type 0
 Word = Lead × List ℕ
 
--- The words of a piece, from its chunks. If a lead stands alone, the next chunk is its operand: `>= 1.2` is one word
+-- ---- where a word ends
+--
+-- npm drops the white space after an operator, so the next chunk goes on with the word: `>= 1.2` is `>=1.2`.
+--   After `~` or `^` any chunk does: `~ > 1` is `~>1`, and `^ foo` is one word, which is no comparator.
+--   After `>`, `<`, `=`, `>=` or `<=` a partial does, alone or with marks: `> =1` is `>=1`, and `~= 1` is `~=1`. So
+--   `> ^1` are two words.
+--   After `~>` any chunk does but one of marks alone: `~> >1` is `~>1`, and `~> = 1` are the words `~>` and `= 1`.
+--   After two marks no chunk does: `== 1` are two words.
+
+-- `v` or `=`, any number of which can come before a partial
+abbrev pub is_mark : ℕ → Bool
+is_mark b = (b == 118) || (b == 61)
+
+-- how a chunk ends, from its last two characters, of which the first may be missing
+abbrev pub ending_with : ℕ → ℕ → Ending
+ending_with before last =
+    if (last == tilde) || (last == caret) then Sign else
+    if (last == greater_sign) && (before == tilde) then TildeGreater else
+    if (last == greater_sign) || (last == 60) then Comparison else
+    if (last == 61) && not (is_mark before) then Comparison else
+    NoOperator
+
+-- the same for a text after two characters
+unfoldable pub ending_after : ℕ → ℕ → List ℕ → Ending
+ending_after before last [] = ending_with before last
+ending_after before last (b ∷ rest) = ending_after last b rest
+
+abbrev pub ending_of : List ℕ → Ending
+ending_of chunk = ending_after 0 0 chunk
+
+-- a digit or an x
+abbrev pub begins_component : ℕ → Bool
+begins_component b = is_digit b || is_x b
+
+-- `true` if a chunk goes on with the word before it
+abbrev pub is_joined : Ending → List ℕ → Bool
+is_joined NoOperator chunk = false
+is_joined Comparison chunk = begins begins_component (rest_of is_mark chunk)
+is_joined TildeGreater chunk = not (is_empty (rest_of is_mark chunk))
+is_joined Sign chunk = true
+
+-- a lead and the chunk after it: `>` and `=1` are `>=1`, `~` and `>1` are `~>1`
+abbrev pub lead_and : Lead → List ℕ → Word
+lead_and Above chunk = lead_with 61 AtLeast Above chunk
+lead_and Below chunk = lead_with 61 AtMost Below chunk
+lead_and Tilde chunk = lead_with greater_sign Tilde Tilde chunk
+lead_and Nothing chunk = (Nothing, chunk)
+lead_and Equal chunk = (Equal, chunk)
+lead_and AtLeast chunk = (AtLeast, chunk)
+lead_and AtMost chunk = (AtMost, chunk)
+lead_and Caret chunk = (Caret, chunk)
+
+-- `=` and nothing else
+abbrev pub is_equal_sign : List ℕ → Bool
+is_equal_sign [] = false
+is_equal_sign (b ∷ rest) = (b == 61) && is_empty rest
+
+-- A word with one more chunk. A `=` after the lead has no meaning; a word with any other operator after its lead is no
+-- comparator, whatever follows
+abbrev pub word_and : Word → List ℕ → Word
+word_and word chunk =
+    if is_empty word.1 then lead_and word.0 chunk else
+    if is_equal_sign word.1 then (word.0, chunk) else
+    word
+
+-- a word that ends with an operator has no operand
+abbrev pub ended : Word → Ending → Word
+ended word NoOperator = word
+ended word Comparison = (word.0, [])
+ended word TildeGreater = (word.0, [])
+ended word Sign = (word.0, [])
+
+-- the words of a piece, from the first and its ending, and the chunks that follow
+unfoldable pub words_from : Word → Ending → List (List ℕ) → List Word
+words_from word ending [] = ended word ending ∷ []
+words_from word ending (chunk ∷ rest) =
+    if is_joined ending chunk then words_from (word_and word chunk) (ending_of chunk) rest
+    else ended word ending ∷ words_from (lead_of chunk) (ending_of chunk) rest
+
+-- the words of a piece, from its chunks
 unfoldable pub words_of : List (List ℕ) → List Word
 words_of [] = []
-words_of (chunk ∷ []) = lead_of chunk ∷ []
-words_of (chunk ∷ next ∷ rest) =
-    if is_empty (lead_of chunk).1 then ((lead_of chunk).0, next) ∷ words_of rest
-    else lead_of chunk ∷ words_of (next ∷ rest)
+words_of (chunk ∷ rest) = words_from (lead_of chunk) (ending_of chunk) rest
 
 -- ---- hyphen ranges
 

@@ -3,9 +3,9 @@ ghost use Rattle.std.specs.Prelude.{◌≡◌, IfOk};
 ghost use Rattle.npm_sets.specs.Private.ReadViews.{cut_seen, ends_seen, full_version, version_seen};
 
 use semver_cuts::Cut;
-use semver_versions::end::EndVersion;
-use semver_versions::identifier::borrowed::borrow_extras;
-use semver_versions::parse::is_clean_end;
+use semver_texts::end::EndVersion;
+use semver_texts::identifier::borrowed::borrow_extras;
+use semver_texts::parse::is_clean_end;
 use std::alloc::{AllocError, Global};
 
 // A version at an end.
@@ -59,7 +59,7 @@ impl<'a> WordVersion<'a> {
 }
 
 // Builds the version of a triple and the prerelease of a text of extras. Most have no extras.
-#[tactic(auto, using(semver_versions::specs::Lemmas::Public::clean_extras))]
+#[tactic(auto, using(semver_texts::specs::Lemmas::Public::clean_extras))]
 fn end_of(alloc: Global, triple: (u64, u64, u64), extras: &[u8]) -> Result<EndVersion, AllocError>
     ensures { IfOk result (λ end. end ≡ full_version triple.0 triple.1 triple.2 extras.now) }
 {

@@ -1,15 +1,16 @@
 //! Partials as npm reads them, in strict and in loose form. Nothing is built: a partial keeps the text of its extras.
 ghost use Rattle.std.specs.Prelude.{◌≡◌, ◌≤◌, [], IfOk, IfSome, None};
-ghost use Rattle.semver_versions.specs.Reading.{seen};
+ghost use Rattle.semver_texts.specs.Reading.{seen};
 ghost use Rattle.npm_sets.specs.PartialTexts as Texts;
 ghost use Rattle.npm_sets.specs.Private.ReadViews.{IsSound, partial_seen, read_partial_seen, result_seen, some_seen};
 
-use semver_versions::parse::Fault;
-use semver_versions::parse::extras::skip_extras;
-use semver_versions::parse::identifiers::begins_identifier;
-use semver_versions::parse::number::{is_digit, read_number};
-use semver_versions::parse::skip::split;
-use semver_versions::{MAX_LENGTH, MAX_SAFE_INTEGER};
+use crate::words::after_marks;
+use semver_texts::parse::Fault;
+use semver_texts::parse::extras::skip_extras;
+use semver_texts::parse::identifiers::begins_identifier;
+use semver_texts::parse::number::{is_digit, read_number};
+use semver_texts::parse::skip::split;
+use semver_texts::{MAX_LENGTH, MAX_SAFE_INTEGER};
 
 // `1.2.x` of `v1.2.x-alpha`: its components, and the text that begins with its extras.
 #[derive(Clone, Copy)]
@@ -198,20 +199,13 @@ fn read_components(loose: bool, text: &[u8]) -> Result<(Partial, &[u8]), Fault>
 
 // ---- the whole operand
 
-#[inline(always)]
-fn is_mark(byte: u8) -> bool
-    ensures { result ≡ Texts.is_mark byte }
-{
-    byte == b'v' || byte == b'='
-}
-
 // The partial that a whole operand is: `v1.2.x`
 #[tactic(auto, unfolding(crate::specs::PartialTexts::partial_of))]
 pub(crate) fn read_partial(loose: bool, text: &[u8]) -> Result<Partial, Fault>
     ensures read { result_seen result ≡ Texts.partial_of loose text.now }
     ensures sound { IfOk result IsSound }
 {
-    let (partial, rest) = read_components(loose, split(text, is_mark).1)?;
+    let (partial, rest) = read_components(loose, after_marks(text))?;
     if !rest.is_empty() {
         return Err(Fault::Missing(rest.len()));
     }

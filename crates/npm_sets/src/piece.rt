@@ -1,7 +1,7 @@
 //! Reading one piece of a range text: nothing, a hyphen range, or words. Comparators are merged as they are read.
 ghost use Rattle.std.specs.Prelude.{◌≡◌, IfSome, None, OnOk};
-ghost use Rattle.semver_versions.specs.Characters.{BeginsWith, BeginsWithNo};
-ghost use Rattle.semver_versions.specs.Reading.{begins, is_hyphen};
+ghost use Rattle.semver_texts.specs.Characters.{BeginsWith, BeginsWithNo};
+ghost use Rattle.semver_texts.specs.Reading.{begins, is_hyphen};
 ghost use Rattle.npm_sets.specs.NpmMeaning as Meaning;
 ghost use Rattle.npm_sets.specs.WordTexts as Texts;
 ghost use Rattle.npm_sets.specs.Private.ReadViews.{AreSmallEnds, IsNarrowedTo, IsRead, IsWordRead};
@@ -15,7 +15,7 @@ use crate::words::{Lead, read_word, skip_space, split_chunk};
 use semver_cuts::Cut;
 use semver_sets::read::Unread;
 use semver_sets::read::alternative::CommonSpan;
-use semver_versions::parse::Fault;
+use semver_texts::parse::Fault;
 use std::alloc::{AllocError, Global};
 
 // Merges the comparators of a piece. Returns `true` if there are any.

@@ -3,7 +3,7 @@ ghost use Rattle.std.specs.Prelude.{◌≡◌, ◌↔◌, IfErr, IfOk, OnOk};
 ghost use Rattle.semver_sets.specs.Division.{HasBars};
 ghost use Rattle.semver_sets.specs.RangeSets.{IsRangeValue, sets_seen};
 ghost use Rattle.semver_sets.specs.declared.read.Unread.TheVariants.{Refused};
-ghost use Rattle.semver_versions.specs.Version.{VersionValue};
+ghost use Rattle.semver_texts.specs.Version.{VersionValue};
 ghost use Rattle.npm_sets.specs.NpmMeaning as Meaning;
 ghost use Rattle.npm_sets.specs.NpmMeaning.{AreNpmSets, IsNpmRefused, NpmSetsAdmit, NpmTextAdmits};
 ghost use Rattle.npm_sets.specs.Rows as Rows;
@@ -18,7 +18,7 @@ use semver_sets::read::alternative::CommonSpan;
 use semver_sets::read::{Unread, first_piece};
 use semver_sets::set_list::Sets;
 use semver_sets::set_list::gathered::Gathered;
-use semver_versions::end::EndVersion;
+use semver_texts::end::EndVersion;
 use std::alloc::Global;
 
 /// Reads the sets of a range text as npm reads it: one for each piece whose comparators share a cut. If no piece's

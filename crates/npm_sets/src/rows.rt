@@ -4,10 +4,10 @@
 ghost use Rattle.std.specs.Prelude.{◌≡◌, ◌≤◌};
 ghost use Rattle.semver_sets.specs.Comparator as Comparators;
 ghost use Rattle.semver_sets.specs.Merging.{all_cuts};
-ghost use Rattle.semver_versions.specs.Version as Versions;
-ghost use Rattle.semver_versions.specs.Version.{without_build};
+ghost use Rattle.semver_texts.specs.Version as Versions;
+ghost use Rattle.semver_texts.specs.Version.{without_build};
 ghost use Rattle.semver_sets.specs.PartialText.{zeroed};
-ghost use Rattle.semver_versions.specs.Reading.{read_extras};
+ghost use Rattle.semver_texts.specs.Reading.{read_extras};
 ghost use Rattle.npm_sets.specs.Rows as Rows;
 ghost use Rattle.npm_sets.specs.Private.ReadViews.{AreSmall, AreSmallEnds, IsSmallCut, IsSmallVersion, IsSound};
 ghost use Rattle.npm_sets.specs.Private.ReadViews.{cut_seen, ends_seen, full_version, has_some};
@@ -16,8 +16,8 @@ ghost use Rattle.npm_sets.specs.Private.ReadViews.{partial_seen, version_seen};
 use crate::ends::{WordCut, WordEnds, WordVersion};
 use crate::partial::Partial;
 use crate::words::Lead;
-use semver_versions::MAX_SAFE_INTEGER;
-use semver_versions::identifier::borrowed::borrow_extras;
+use semver_texts::MAX_SAFE_INTEGER;
+use semver_texts::identifier::borrowed::borrow_extras;
 
 // `1.2.0`, or `1.2.0-0` if prereleases are included
 #[inline(always)]

@@ -1,7 +1,8 @@
 //! The results of calls.
-use node_semver::{BumpError, Identifier, JsonError, Range, SemverError, Version};
-use npm_lock::{CheckError, Mismatch, Problems};
-use semver_cuts::{Cut, Span};
+use crate::list::text_of_sets;
+use node_semver::{Identifier, JsonError, Range, SemverError, Version};
+use npm_semver::BumpError;
+use semver_cuts::Span;
 use serde_json::Value;
 use std::alloc::{AllocError, Global};
 
@@ -11,16 +12,15 @@ pub(crate) enum Answer {
     OutOfMemory,
     Nothing,
     Truth(bool),
-    Count(usize),
     Identifier(Identifier),
     Version(Version),
     Range(Range),
     Set(Span<Version>),
     Refusal(SemverError),
+    NotBumped(BumpError),
     Json(Value),
     NotAString,
-    Problems(Problems),
-    NoLock(npm_lock::Fault),
+    Text(String),
 }
 
 impl Answer {
@@ -30,26 +30,16 @@ impl Answer {
             Answer::OutOfMemory => String::from_str(alloc, "out of memory"),
             Answer::Nothing => String::from_str(alloc, "nothing"),
             Answer::Truth(truth) => truth.to_string(alloc),
-            Answer::Count(count) => count.to_string(alloc),
             Answer::Identifier(identifier) => identifier.to_string(alloc),
             Answer::Version(version) => version.to_string(alloc),
             Answer::Range(range) => range.to_string(alloc),
-            Answer::Set(set) => print_of_set(alloc, set),
+            Answer::Set(set) => text_of_sets(alloc, std::slice::from_ref(set)),
             Answer::Refusal(error) => print_of_error(alloc, error),
+            Answer::NotBumped(error) => error.to_string(alloc),
             Answer::Json(value) => value.to_string(alloc),
             Answer::NotAString => String::from_str(alloc, "no string"),
-            Answer::Problems(problems) => print_of_problems(alloc, problems),
-            Answer::NoLock(fault) => fault.to_string(alloc),
+            Answer::Text(text) => text.clone(),
         }
-    }
-}
-
-/// The versions at the ends of a set that contains the cut just before its lower version, and not the one before its
-/// upper version.
-fn print_of_set(alloc: Global, set: &Span<Version>) -> Result<String, AllocError> {
-    match set.ends() {
-        (Cut::Before(lower), Cut::Before(upper)) => format!(in alloc; "{lower} to {upper}"),
-        _ => String::from_str(alloc, "another set"),
     }
 }
 
@@ -57,19 +47,6 @@ fn print_of_set(alloc: Global, set: &Span<Version>) -> Result<String, AllocError
 pub(crate) fn print_of_error(alloc: Global, error: &SemverError) -> Result<String, AllocError> {
     let (offset, input) = (error.offset(), error.input());
     format!(in alloc; "{error} {offset} {input}")
-}
-
-/// The kind and the name of each problem, and the counts.
-fn print_of_problems(alloc: Global, problems: &Problems) -> Result<String, AllocError> {
-    let mut text = String::new(alloc);
-    for problem in problems.list.iter() {
-        text.push_str(problem.kind.as_str())?;
-        text.push(' ')?;
-        text.push_str(problem.dependency.name.as_str())?;
-        text.push_str(", ")?;
-    }
-    let (packages, dependencies) = (problems.packages, problems.dependencies);
-    format!(in alloc; "{text}{packages} packages, {dependencies} dependencies")
 }
 
 /// An error that an allocation failed has an empty text and offset 0.
@@ -115,7 +92,7 @@ pub(crate) fn bumped(outcome: Result<Version, BumpError>) -> Answer {
     match outcome {
         Ok(version) => Answer::Version(version),
         Err(BumpError::OutOfMemory) => Answer::OutOfMemory,
-        Err(_) => Answer::Nothing,
+        Err(error) => Answer::NotBumped(error),
     }
 }
 
@@ -129,14 +106,6 @@ pub(crate) fn version(found: Result<Version, AllocError>) -> Answer {
 pub(crate) fn range(found: Result<Range, AllocError>) -> Answer {
     match found {
         Ok(range) => Answer::Range(range),
-        Err(_) => Answer::OutOfMemory,
-    }
-}
-
-/// How many sets were given.
-pub(crate) fn count(found: Result<Vec<Span<Version>>, AllocError>) -> Answer {
-    match found {
-        Ok(sets) => Answer::Count(sets.len()),
         Err(_) => Answer::OutOfMemory,
     }
 }
@@ -156,39 +125,6 @@ pub(crate) fn json(found: Result<Value, AllocError>) -> Answer {
     }
 }
 
-pub(crate) fn problems(found: Result<Problems, CheckError>) -> Answer {
-    match found {
-        Ok(problems) => Answer::Problems(problems),
-        Err(CheckError::Refused(fault)) => Answer::NoLock(fault),
-        Err(CheckError::Memory) => Answer::OutOfMemory,
-    }
-}
-
-/// How many mismatches were given.
-pub(crate) fn mismatches(found: Result<Vec<Mismatch>, CheckError>) -> Answer {
-    match found {
-        Ok(mismatches) => Answer::Count(mismatches.len()),
-        Err(CheckError::Refused(fault)) => Answer::NoLock(fault),
-        Err(CheckError::Memory) => Answer::OutOfMemory,
-    }
-}
-
-/// How many folders were given.
-pub(crate) fn folders(found: Result<Vec<&str>, AllocError>) -> Answer {
-    match found {
-        Ok(folders) => Answer::Count(folders.len()),
-        Err(_) => Answer::OutOfMemory,
-    }
-}
-
-/// How many identifiers were given.
-pub(crate) fn identifiers(found: Result<Vec<Identifier>, AllocError>) -> Answer {
-    match found {
-        Ok(identifiers) => Answer::Count(identifiers.len()),
-        Err(_) => Answer::OutOfMemory,
-    }
-}
-
 pub(crate) fn identifier(found: Result<Identifier, AllocError>) -> Answer {
     match found {
         Ok(identifier) => Answer::Identifier(identifier),
@@ -199,6 +135,19 @@ pub(crate) fn identifier(found: Result<Identifier, AllocError>) -> Answer {
 pub(crate) fn error(found: Result<SemverError, AllocError>) -> Answer {
     match found {
         Ok(error) => Answer::Refusal(error),
+        Err(_) => Answer::OutOfMemory,
+    }
+}
+
+/// The text of a list, or nothing if the list is empty.
+pub(crate) fn list(found: Result<String, AllocError>) -> Answer {
+    match found {
+        Ok(text) => {
+            if text.is_empty() {
+                return Answer::Nothing;
+            }
+            Answer::Text(text)
+        }
         Err(_) => Answer::OutOfMemory,
     }
 }

@@ -1,21 +1,17 @@
 //! Calls and their arguments.
 use crate::answer;
 use crate::answer::{Answer, print_of_error};
-use crate::fault::CallError;
 use crate::included::{Included, included_of};
-use crate::owned::{Making, making_of};
+use crate::list::{text_of_joined, text_of_sets};
+use crate::owned::{Making, bumping_of, making_of, version_of_words};
 use crate::question::{Question, error_of, question_of};
 use crate::trees::{push_words, tree_of};
-use node_semver::{Identifier, NpmOptions, Range, SemverError, SetTree, Version};
-use semver_cuts::{Cut, Span, join};
+use memory_trials::{CallError, Trial};
+use node_semver::{Identifier, Range, SemverError, SetTree, Version};
+use npm_semver::NpmOptions;
+use semver_cuts::Stepped;
 use serde_json::Value;
 use std::alloc::{AllocError, Global};
-
-/// How a text is read as npm reads it.
-const LOOSE: NpmOptions = NpmOptions {
-    loose: true,
-    include_prerelease: false,
-};
 
 /// A call and its arguments.
 #[derive(Drop)]
@@ -23,24 +19,26 @@ pub(crate) enum Call {
     ReadVersion(String),
     ReadStrict(String),
     ReadRange(String),
-    ReadNpmRange(String),
+    ReadNpmRange(String, NpmOptions),
     ReadAndAsk(String, Version),
     Any,
     WithPreRelease,
     CopyIdentifier(Identifier),
     CopyVersion(Version),
+    Least,
+    Next(Version),
     CopyRange(Range),
     CopyError(SemverError),
     Intersect(Range, Range),
     Difference(Range, Range),
     Union(Range, Range),
     Sets(Range),
-    Set(Range),
+    Set(Range, usize),
     FromSets(Range),
     MinVersion(Range),
     LeastBeyond(Range, Range),
     LeastCommon(Range, Range),
-    Join,
+    Join(Vec<u64>),
     VersionToJson(Version),
     RangeToJson(Range),
     VersionFromJson(Value),
@@ -51,31 +49,52 @@ pub(crate) enum Call {
     Ask(Question),
 }
 
-impl Call {
-    /// Makes the call.
-    pub(crate) fn answer(&self, alloc: Global) -> Answer {
+impl Trial for Call {
+    type Answer = Answer;
+
+    fn of_words(alloc: Global, name: &str, words: &[String]) -> Result<Call, CallError> {
+        match name {
+            "Range::any" => Ok(Call::Any),
+            "semver_cuts::join" => numbers_of(alloc, words),
+            "Version::with_pre_release" => Ok(Call::WithPreRelease),
+            "SetTree::evaluate" => Ok(Call::Evaluate(tree_of(alloc, words)?)),
+            "npm_semver::parse_range" => npm_call_of(alloc, words),
+            "npm_semver::inc" => Ok(Call::Make(bumping_of(alloc, words)?)),
+            "Version::clone" | "Version::next" | "Version::to_json" => {
+                call_of_version(alloc, name, words)
+            }
+            "Version::least" => Ok(Call::Least),
+            _ => call_of_value(alloc, name, word_at(words, 0), word_at(words, 1)),
+        }
+    }
+
+    fn answer(&self, alloc: Global) -> Answer {
         match self {
             Call::ReadVersion(text) => answer::version_read(Version::parse(alloc, text)),
-            Call::ReadStrict(text) => answer::version_read(Version::parse_strict(alloc, text)),
+            Call::ReadStrict(text) => answer::version_read(npm_semver::parse_version(alloc, text)),
             Call::ReadRange(text) => answer::range_read(Range::parse(alloc, text)),
-            Call::ReadNpmRange(text) => answer::range_read(Range::parse_npm(alloc, text, LOOSE)),
+            Call::ReadNpmRange(text, options) => {
+                answer::range_read(npm_semver::parse_range(alloc, text, *options))
+            }
             Call::ReadAndAsk(text, version) => asked(alloc, text, version),
             Call::Any => answer::range(Range::any(alloc)),
             Call::WithPreRelease => answer::version(Version::with_pre_release(alloc, 1, 2, 3, 4)),
             Call::CopyIdentifier(identifier) => answer::identifier(identifier.clone()),
             Call::CopyVersion(version) => answer::version(version.clone()),
+            Call::Least => answer::version(Version::least(alloc)),
+            Call::Next(version) => answer::version_if_any(version.next(alloc)),
             Call::CopyRange(range) => answer::range(range.clone()),
             Call::CopyError(error) => answer::error(error.clone()),
             Call::Intersect(one, other) => answer::range_if_any(one.intersect(alloc, other)),
             Call::Difference(one, other) => answer::range_if_any(one.difference(alloc, other)),
             Call::Union(one, other) => answer::range(one.union(alloc, other)),
-            Call::Sets(range) => answer::count(range.sets(alloc)),
-            Call::Set(range) => answer::set_if_any(range.set(alloc, 1)),
+            Call::Sets(range) => answer::list(sets_of(alloc, range)),
+            Call::Set(range, place) => answer::set_if_any(range.set(alloc, *place)),
             Call::FromSets(range) => from_sets(alloc, range),
             Call::MinVersion(range) => answer::version_if_any(range.min_version(alloc)),
             Call::LeastBeyond(one, other) => answer::version_if_any(one.least_beyond(alloc, other)),
             Call::LeastCommon(one, other) => answer::version_if_any(one.least_common(alloc, other)),
-            Call::Join => joined(alloc),
+            Call::Join(ends) => answer::list(text_of_joined(alloc, ends)),
             Call::VersionToJson(version) => answer::json(version.to_json(alloc)),
             Call::RangeToJson(range) => answer::json(range.to_json(alloc)),
             Call::VersionFromJson(value) => {
@@ -89,20 +108,26 @@ impl Call {
         }
     }
 
-    /// The arguments as they are now.
-    pub(crate) fn print(&self, alloc: Global) -> Result<String, AllocError> {
+    fn print_answer(alloc: Global, answer: &Answer) -> Result<String, AllocError> {
+        answer.print(alloc)
+    }
+
+    fn print(&self, alloc: Global) -> Result<String, AllocError> {
         match self {
             Call::ReadVersion(text)
             | Call::ReadStrict(text)
             | Call::ReadRange(text)
-            | Call::ReadNpmRange(text) => text.clone(),
+            | Call::ReadNpmRange(text, _) => text.clone(),
             Call::ReadAndAsk(text, version) => format!(in alloc; "{text}, {version}"),
-            Call::Any | Call::WithPreRelease | Call::Join => Ok(String::new(alloc)),
+            Call::Any | Call::Least | Call::WithPreRelease => Ok(String::new(alloc)),
+            Call::Join(ends) => print_of_numbers(alloc, ends),
             Call::CopyIdentifier(identifier) => identifier.to_string(alloc),
-            Call::CopyVersion(version) | Call::VersionToJson(version) => version.to_string(alloc),
+            Call::CopyVersion(version) | Call::Next(version) | Call::VersionToJson(version) => {
+                version.to_string(alloc)
+            }
             Call::CopyRange(range)
             | Call::Sets(range)
-            | Call::Set(range)
+            | Call::Set(range, _)
             | Call::FromSets(range)
             | Call::MinVersion(range)
             | Call::RangeToJson(range) => range.to_string(alloc),
@@ -137,22 +162,19 @@ fn from_sets(alloc: Global, range: &Range) -> Answer {
     }
 }
 
-/// Whether three spans in descending order, of which two touch, are joined to two.
-fn joined(alloc: Global) -> Answer {
-    match join_three(alloc) {
-        Ok(spans) => Answer::Truth(spans.len() == 2),
-        Err(_) => Answer::OutOfMemory,
-    }
+fn sets_of(alloc: Global, range: &Range) -> Result<String, AllocError> {
+    let sets = range.sets(alloc)?;
+    text_of_sets(alloc, &sets)
 }
 
-fn join_three(alloc: Global) -> Result<Vec<Span<u64>>, AllocError> {
-    let mut spans = Vec::with_capacity(alloc, 3)?;
-    for (first, last) in [(7u64, 8u64), (3, 5), (1, 2)] {
-        if let Some(span) = Span::new(Cut::Before(first), Cut::Before(last + 1)) {
-            spans.push(span)?;
-        }
+fn print_of_numbers(alloc: Global, numbers: &[u64]) -> Result<String, AllocError> {
+    let mut text = String::new(alloc);
+    for number in numbers {
+        let print = number.to_string(alloc)?;
+        text.push_str(print.as_str())?;
+        text.push(' ')?;
     }
-    join(alloc, spans)
+    Ok(text)
 }
 
 fn print_of_tree(alloc: Global, tree: &SetTree) -> Result<String, AllocError> {
@@ -161,15 +183,26 @@ fn print_of_tree(alloc: Global, tree: &SetTree) -> Result<String, AllocError> {
     Ok(words)
 }
 
-/// The call with this name, which begins with the type, and these words as arguments.
-pub(crate) fn call_of(alloc: Global, name: &str, words: &[String]) -> Result<Call, CallError> {
-    match name {
-        "Range::any" => Ok(Call::Any),
-        "join" => Ok(Call::Join),
-        "Version::with_pre_release" => Ok(Call::WithPreRelease),
-        "SetTree::evaluate" => Ok(Call::Evaluate(tree_of(alloc, words)?)),
-        _ => call_of_value(alloc, name, word_at(words, 0), word_at(words, 1)),
+/// The numbers that the words write.
+fn numbers_of(alloc: Global, words: &[String]) -> Result<Call, CallError> {
+    let mut numbers = Vec::new(alloc);
+    for word in words {
+        match word.parse::<u64>() {
+            Ok(number) => numbers.push(number)?,
+            Err(_) => return Err(CallError::Words),
+        }
     }
+    Ok(Call::Join(numbers))
+}
+
+/// A text that is read as npm reads it: the words are the text and, if they are wanted, `loose` and `prereleases`.
+fn npm_call_of(alloc: Global, words: &[String]) -> Result<Call, CallError> {
+    let text = String::from_str(alloc, word_at(words, 0))?;
+    let options = NpmOptions {
+        loose: words.iter().any(|word| word.as_str() == "loose"),
+        include_prerelease: words.iter().any(|word| word.as_str() == "prereleases"),
+    };
+    Ok(Call::ReadNpmRange(text, options))
 }
 
 /// The word at a place, or the empty word.
@@ -184,8 +217,7 @@ fn call_of_text(alloc: Global, name: &str, text: &str) -> Result<Call, CallError
     let text = String::from_str(alloc, text)?;
     Ok(match name {
         "Version::parse" => Call::ReadVersion(text),
-        "Version::parse_strict" => Call::ReadStrict(text),
-        "Range::parse_npm" => Call::ReadNpmRange(text),
+        "npm_semver::parse_version" => Call::ReadStrict(text),
         _ => Call::ReadRange(text),
     })
 }
@@ -198,19 +230,18 @@ fn read_and_ask(alloc: Global, text: &str, version: &str) -> Result<Call, CallEr
 /// The same for calls whose arguments are read from texts. Each kind of argument is read in one place.
 fn call_of_value(alloc: Global, name: &str, one: &str, other: &str) -> Result<Call, CallError> {
     match name {
-        "Version::parse" | "Version::parse_strict" | "Range::parse" | "Range::parse_npm" => {
+        "Version::parse" | "npm_semver::parse_version" | "Range::parse" => {
             call_of_text(alloc, name, one)
         }
         "Range::satisfies, read anew" => read_and_ask(alloc, one, other),
         "Identifier::clone" => copy_of_identifier(alloc, one),
         "SemverError::clone" => copy_of_error(alloc, one),
-        "Version::clone" | "Version::to_json" => call_of_version(alloc, name, one),
         "Range::clone"
         | "Range::min_version"
         | "Range::to_json"
         | "Range::sets"
-        | "Range::set"
         | "Range::from_sets" => call_of_range(alloc, name, one),
+        "Range::set" => set_at(alloc, one, other),
         "Range::intersect"
         | "Range::difference"
         | "Range::union"
@@ -225,22 +256,15 @@ fn call_of_value(alloc: Global, name: &str, one: &str, other: &str) -> Result<Ca
 fn call_of_made(alloc: Global, name: &str, one: &str, other: &str) -> Result<Call, CallError> {
     match name {
         "VersionRef::to_version"
+        | "VersionRef::clone"
+        | "Identifiers::clone"
         | "VersionFault::into_error"
         | "Identifiers::to_vec"
         | "SemverError::new"
-        | "Version::bump"
-        | "Version::coerce"
-        | "Version::coerce_with_prerelease"
-        | "npm_lock::check"
-        | "npm_lock::check_any"
-        | "npm_lock::convert"
-        | "npm_lock::mismatches_of"
-        | "npm_lock::put_manifest"
-        | "npm_lock::linked_folders"
-        | "Mismatch::to_json"
-        | "npm_advisories::audit_lock"
-        | "Unchecked::to_json"
-        | "Problem::to_json" => call_of_making(alloc, name, one),
+        | "npm_semver::coerce"
+        | "npm_semver::coerce_with_prerelease" => {
+            Ok(Call::Make(making_of(alloc, name, one, other)?))
+        }
         "WithPrereleases::min_version"
         | "WithPrereleases::least_beyond"
         | "WithPrereleases::least_common" => {
@@ -259,10 +283,11 @@ fn copy_of_error(alloc: Global, text: &str) -> Result<Call, CallError> {
     Ok(Call::CopyError(error_of(alloc, text)?))
 }
 
-fn call_of_version(alloc: Global, name: &str, text: &str) -> Result<Call, CallError> {
-    let version = Version::parse(alloc, text)?;
+fn call_of_version(alloc: Global, name: &str, words: &[String]) -> Result<Call, CallError> {
+    let version = version_of_words(alloc, words)?;
     Ok(match name {
         "Version::clone" => Call::CopyVersion(version),
+        "Version::next" => Call::Next(version),
         _ => Call::VersionToJson(version),
     })
 }
@@ -273,7 +298,6 @@ fn call_of_range(alloc: Global, name: &str, text: &str) -> Result<Call, CallErro
         "Range::clone" => Call::CopyRange(range),
         "Range::min_version" => Call::MinVersion(range),
         "Range::sets" => Call::Sets(range),
-        "Range::set" => Call::Set(range),
         "Range::from_sets" => Call::FromSets(range),
         _ => Call::RangeToJson(range),
     })
@@ -299,8 +323,13 @@ fn call_of_json(alloc: Global, name: &str, text: &str) -> Result<Call, CallError
     })
 }
 
-fn call_of_making(alloc: Global, name: &str, text: &str) -> Result<Call, CallError> {
-    Ok(Call::Make(making_of(alloc, name, text)?))
+/// A set of a range, by its place.
+fn set_at(alloc: Global, range: &str, place: &str) -> Result<Call, CallError> {
+    let range = Range::parse(alloc, range)?;
+    match place.parse::<usize>() {
+        Ok(place) => Ok(Call::Set(range, place)),
+        Err(_) => Err(CallError::Words),
+    }
 }
 
 fn call_of_question(alloc: Global, name: &str, one: &str, other: &str) -> Result<Call, CallError> {

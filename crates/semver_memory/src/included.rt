@@ -1,7 +1,7 @@
 //! Calls of a range that is asked with prereleases included.
 use crate::answer;
 use crate::answer::Answer;
-use crate::fault::CallError;
+use memory_trials::CallError;
 use node_semver::Range;
 use std::alloc::{AllocError, Global};
 

@@ -1,14 +1,10 @@
-//! What is made of a text, of its borrowed parts, and of a lock file, also with a manifest or with advisories.
+//! What is made of a text and of its borrowed parts.
 use crate::answer;
 use crate::answer::Answer;
-use crate::fault::CallError;
-use node_semver::{
-    Bump, CoerceOptions, Identifier, IdentifierBase, SemverError, SemverErrorKind, Version,
-    VersionRef,
-};
-use npm_advisories::{LockError, Severity, audit_lock};
-use npm_lock::{CheckError, Mismatch, Problem, Unchecked};
-use serde_json::Value;
+use crate::list::text_of_identifiers;
+use memory_trials::CallError;
+use node_semver::{Identifier, SemverError, SemverErrorKind, Version, VersionRef};
+use npm_semver::{Bump, CoerceOptions, IdentifierBase};
 use std::alloc::{AllocError, Global};
 
 /// A call, and the text or the value that it is made of.
@@ -16,36 +12,36 @@ use std::alloc::{AllocError, Global};
 pub(crate) enum Making {
     /// The version of a text, or its error.
     Version(String),
+    /// A copy of the borrowed version of a text.
+    Copied(String),
     /// The identifiers of the prerelease of a version text.
     Identifiers(String),
+    /// Those of a copy of that list.
+    CopiedIdentifiers(String),
     /// The version that is found in a text.
-    Coerced(String),
+    Coerced(String, CoerceOptions),
     /// The version that is found in a text, with its prerelease and its build.
-    FullyCoerced(String),
+    FullyCoerced(String, CoerceOptions),
     /// An error for a text.
     Error(String),
-    /// The problems of a lock file.
-    Problems(Value),
-    /// The problems of a lock file of any version, with the manifest in its member `manifest`.
-    AnyProblems(Value),
-    /// A lock file of any version as one with `packages`, with the same manifest.
-    Converted(Value),
-    /// The JSON of the last of these problems.
-    Json(Problem),
-    /// The JSON of the last dependency that is not checked.
-    UncheckedJson(Unchecked),
-    /// The mismatches of a manifest, the member `manifest` of a lock file.
-    Mismatches(Value),
-    /// The JSON of the last of these mismatches.
-    MismatchJson(Mismatch),
-    /// A lock file with its member `manifest` in the place of the root.
-    Put(Value),
-    /// The folders that links of a lock file name.
-    Folders(Value),
-    /// The first package that is hit, of an object with a `lock` and its `advisories`.
-    Audit(Value),
-    /// The next prerelease after a version, with an identifier or without.
-    Bumped(Version, Option<Identifier>),
+    /// A version after a bump.
+    Bumped(Bumping),
+}
+
+/// A version, and how it is bumped.
+#[derive(Drop)]
+pub(crate) struct Bumping {
+    version: Version,
+    bump: Bump,
+    identifier: Option<Identifier>,
+    base: IdentifierBase,
+}
+
+impl Bumping {
+    fn answer(&self, alloc: Global) -> Answer {
+        let identifier = self.identifier.as_ref();
+        answer::bumped(npm_semver::inc(alloc, &self.version, self.bump, identifier, self.base))
+    }
 }
 
 impl Making {
@@ -53,29 +49,15 @@ impl Making {
     pub(crate) fn answer(&self, alloc: Global) -> Answer {
         match self {
             Making::Version(text) => version_of(alloc, text),
+            Making::Copied(text) => copy_of(alloc, text),
             Making::Identifiers(text) => identifiers_of(alloc, text),
-            Making::Coerced(text) => coerced(alloc, text),
-            Making::FullyCoerced(text) => fully_coerced(alloc, text),
+            Making::CopiedIdentifiers(text) => copied_identifiers_of(alloc, text),
+            Making::Coerced(text, options) => coerced(alloc, text, *options),
+            Making::FullyCoerced(text, options) => fully_coerced(alloc, text, *options),
             Making::Error(text) => {
                 answer::refusal(SemverError::new(alloc, text, 1, SemverErrorKind::Other))
             }
-            Making::Problems(lock) => answer::problems(npm_lock::check(alloc, lock, None)),
-            Making::AnyProblems(lock) => {
-                let manifest = lock.get("manifest");
-                answer::problems(npm_lock::check_any(alloc, lock, manifest, None))
-            }
-            Making::Converted(lock) => converted(alloc, lock),
-            Making::Json(problem) => answer::json(problem.to_json(alloc)),
-            Making::UncheckedJson(unchecked) => answer::json(unchecked.to_json(alloc)),
-            Making::Mismatches(lock) => answer::mismatches(mismatches_of(alloc, lock)),
-            Making::MismatchJson(mismatch) => answer::json(mismatch.to_json(alloc)),
-            Making::Put(lock) => answer::json(with_manifest(alloc, lock)),
-            Making::Folders(lock) => answer::folders(npm_lock::linked_folders(alloc, lock)),
-            Making::Audit(input) => audited(alloc, input),
-            Making::Bumped(version, identifier) => {
-                let base = IdentifierBase::Zero;
-                answer::bumped(version.bump(alloc, Bump::PreRelease, identifier.as_ref(), base))
-            }
+            Making::Bumped(bumping) => bumping.answer(alloc),
         }
     }
 
@@ -83,21 +65,13 @@ impl Making {
     pub(crate) fn print(&self, alloc: Global) -> Result<String, AllocError> {
         match self {
             Making::Version(text)
+            | Making::Copied(text)
             | Making::Identifiers(text)
-            | Making::Coerced(text)
-            | Making::FullyCoerced(text)
+            | Making::CopiedIdentifiers(text)
+            | Making::Coerced(text, _)
+            | Making::FullyCoerced(text, _)
             | Making::Error(text) => text.clone(),
-            Making::Problems(value)
-            | Making::AnyProblems(value)
-            | Making::Converted(value)
-            | Making::Mismatches(value)
-            | Making::Put(value)
-            | Making::Folders(value)
-            | Making::Audit(value) => value.to_string(alloc),
-            Making::MismatchJson(mismatch) => mismatch.name.clone(),
-            Making::UncheckedJson(unchecked) => unchecked.dependency.name.clone(),
-            Making::Json(problem) => problem.dependency.name.clone(),
-            Making::Bumped(version, _) => version.to_string(alloc),
+            Making::Bumped(bumping) => bumping.version.to_string(alloc),
         }
     }
 }
@@ -111,139 +85,126 @@ fn version_of(alloc: Global, text: &str) -> Answer {
 
 fn identifiers_of(alloc: Global, text: &str) -> Answer {
     match VersionRef::parse(text) {
-        Ok(version) => answer::identifiers(version.pre_release().to_vec(alloc)),
+        Ok(version) => answer::list(text_of_identifiers(alloc, version.pre_release())),
         Err(_) => Answer::Nothing,
     }
 }
 
-fn coerced(alloc: Global, text: &str) -> Answer {
-    match Version::coerce(alloc, text, CoerceOptions { rtl: false }) {
+fn copied_identifiers_of(alloc: Global, text: &str) -> Answer {
+    match VersionRef::parse(text) {
+        Ok(version) => match version.pre_release().clone() {
+            Ok(list) => answer::list(text_of_identifiers(alloc, list)),
+            Err(_) => Answer::OutOfMemory,
+        },
+        Err(_) => Answer::Nothing,
+    }
+}
+
+fn copy_of(alloc: Global, text: &str) -> Answer {
+    match VersionRef::parse(text) {
+        Ok(version) => match version.clone() {
+            Ok(version) => answer::version(version.to_version(alloc)),
+            Err(_) => Answer::OutOfMemory,
+        },
+        Err(_) => Answer::Nothing,
+    }
+}
+
+fn coerced(alloc: Global, text: &str, options: CoerceOptions) -> Answer {
+    match npm_semver::coerce(alloc, text, options) {
         Some(version) => answer::version(Ok(version)),
         None => Answer::Nothing,
     }
 }
 
-fn fully_coerced(alloc: Global, text: &str) -> Answer {
-    match Version::coerce_with_prerelease(alloc, text, CoerceOptions { rtl: false }) {
-        Ok(Some(version)) => answer::version(Ok(version)),
-        Ok(None) => Answer::Nothing,
-        Err(_) => Answer::OutOfMemory,
-    }
-}
-
-fn converted(alloc: Global, lock: &Value) -> Answer {
-    let Ok(copy) = lock.clone() else {
-        return Answer::OutOfMemory;
-    };
-    match npm_lock::convert(alloc, copy, lock.get("manifest")) {
-        Ok(made) => Answer::Json(made),
-        Err(CheckError::Refused(fault)) => Answer::NoLock(fault),
-        Err(CheckError::Memory) => Answer::OutOfMemory,
-    }
-}
-
-fn audited(alloc: Global, input: &Value) -> Answer {
-    let (Some(lock), Some(advisories)) = (input.get("lock"), input.get("advisories")) else {
-        return Answer::Nothing;
-    };
-    match audit_lock(alloc, advisories, Severity::Info, lock) {
-        Ok(found) => match found.first() {
-            Some(found) => answer::json(found.to_json(alloc)),
-            None => Answer::Nothing,
-        },
-        Err(LockError::Memory) => Answer::OutOfMemory,
-        Err(_) => Answer::Nothing,
-    }
+fn fully_coerced(alloc: Global, text: &str, options: CoerceOptions) -> Answer {
+    answer::version_if_any(npm_semver::coerce_with_prerelease(alloc, text, options))
 }
 
 /// The call with this name.
-pub(crate) fn making_of(alloc: Global, name: &str, text: &str) -> Result<Making, CallError> {
-    match name {
-        "npm_lock::check" => Ok(Making::Problems(lock_of(alloc, text)?)),
-        "npm_lock::check_any" => Ok(Making::AnyProblems(lock_of(alloc, text)?)),
-        "npm_lock::convert" => Ok(Making::Converted(lock_of(alloc, text)?)),
-        "Problem::to_json" => problem_of(alloc, text),
-        "Unchecked::to_json" => unchecked_of(alloc, text),
-        "npm_lock::mismatches_of" => Ok(Making::Mismatches(lock_of(alloc, text)?)),
-        "npm_lock::put_manifest" => Ok(Making::Put(lock_of(alloc, text)?)),
-        "npm_lock::linked_folders" => Ok(Making::Folders(lock_of(alloc, text)?)),
-        "Mismatch::to_json" => mismatch_of(alloc, text),
-        "npm_advisories::audit_lock" => Ok(Making::Audit(lock_of(alloc, text)?)),
-        "Version::bump" => bump_of(alloc, text),
-        "SemverError::new" => Ok(Making::Error(String::from_str(alloc, text)?)),
-        "Identifiers::to_vec" => Ok(Making::Identifiers(String::from_str(alloc, text)?)),
-        "Version::coerce" => Ok(Making::Coerced(String::from_str(alloc, text)?)),
-        "Version::coerce_with_prerelease" => {
-            Ok(Making::FullyCoerced(String::from_str(alloc, text)?))
-        }
-        _ => Ok(Making::Version(String::from_str(alloc, text)?)),
-    }
+pub(crate) fn making_of(
+    alloc: Global,
+    name: &str,
+    text: &str,
+    option: &str,
+) -> Result<Making, CallError> {
+    let text = String::from_str(alloc, text)?;
+    let rtl = option == "rtl";
+    Ok(match name {
+        "SemverError::new" => Making::Error(text),
+        "VersionRef::clone" => Making::Copied(text),
+        "Identifiers::to_vec" => Making::Identifiers(text),
+        "Identifiers::clone" => Making::CopiedIdentifiers(text),
+        "npm_semver::coerce" => Making::Coerced(text, CoerceOptions { rtl }),
+        "npm_semver::coerce_with_prerelease" => Making::FullyCoerced(text, CoerceOptions { rtl }),
+        _ => Making::Version(text),
+    })
 }
 
-/// A version, or a version, a blank and an identifier.
-fn bump_of(alloc: Global, text: &str) -> Result<Making, CallError> {
-    match text.split_once(' ') {
-        Some((version, identifier)) => {
-            let version = Version::parse(alloc, version)?;
-            let identifier = Identifier::AlphaNumeric(String::from_str(alloc, identifier)?);
-            Ok(Making::Bumped(version, Some(identifier)))
-        }
-        None => Ok(Making::Bumped(Version::parse(alloc, text)?, None)),
-    }
-}
-
-fn lock_of(alloc: Global, text: &str) -> Result<Value, CallError> {
-    match Value::from_str(alloc, text) {
-        Ok(lock) => Ok(lock),
-        Err(_) => Err(CallError::Text),
-    }
-}
-
-fn problem_of(alloc: Global, text: &str) -> Result<Making, CallError> {
-    let lock = lock_of(alloc, text)?;
-    match npm_lock::check(alloc, &lock, None) {
-        Ok(mut problems) => match problems.list.pop() {
-            Some(problem) => Ok(Making::Json(problem)),
-            None => Err(CallError::Text),
-        },
-        Err(_) => Err(CallError::Text),
-    }
-}
-
-fn unchecked_of(alloc: Global, text: &str) -> Result<Making, CallError> {
-    match npm_lock::check(alloc, &lock_of(alloc, text)?, None) {
-        Ok(mut problems) => match problems.unchecked.pop() {
-            Some(unchecked) => Ok(Making::UncheckedJson(unchecked)),
-            None => Err(CallError::Text),
-        },
-        Err(_) => Err(CallError::Text),
-    }
-}
-
-fn mismatch_of(alloc: Global, text: &str) -> Result<Making, CallError> {
-    match mismatches_of(alloc, &lock_of(alloc, text)?) {
-        Ok(mut mismatches) => match mismatches.pop() {
-            Some(mismatch) => Ok(Making::MismatchJson(mismatch)),
-            None => Err(CallError::Text),
-        },
-        Err(_) => Err(CallError::Text),
-    }
-}
-
-/// The mismatches of the manifest that stands in the lock file.
-fn mismatches_of(alloc: Global, lock: &Value) -> Result<Vec<Mismatch>, CheckError> {
-    let none = Value::Null;
-    let manifest = lock.get("manifest").unwrap_or(&none);
-    npm_lock::mismatches_of(alloc, lock, "", manifest)
-}
-
-/// The lock file with that manifest in the place of the root.
-fn with_manifest(alloc: Global, lock: &Value) -> Result<Value, AllocError> {
-    let manifest = match lock.get("manifest") {
-        Some(manifest) => manifest.clone()?,
-        None => Value::Null,
+/// A bump of a version: the words are the bump, the base, the identifier or the empty word, and the version as
+/// `version_of_words` reads it.
+pub(crate) fn bumping_of(alloc: Global, words: &[String]) -> Result<Making, CallError> {
+    let [bump, base, identifier, version @ ..] = words else {
+        return Err(CallError::Words);
     };
-    let mut changed = lock.clone()?;
-    npm_lock::put_manifest(alloc, &mut changed, "", manifest)?;
-    Ok(changed)
+    let bump = bump_of(bump).ok_or(CallError::Words)?;
+    let base = base_of(base);
+    let version = version_of_words(alloc, version)?;
+    let identifier = identifier_of(alloc, identifier)?;
+    Ok(Making::Bumped(Bumping {
+        version,
+        bump,
+        identifier,
+        base,
+    }))
+}
+
+fn identifier_of(alloc: Global, word: &str) -> Result<Option<Identifier>, AllocError> {
+    if word.is_empty() {
+        return Ok(None);
+    }
+    let text = String::from_str(alloc, word)?;
+    Ok(Some(Identifier::AlphaNumeric(text)))
+}
+
+/// The version of the first word, with each further word as one more identifier of its prerelease. So it may be longer
+/// than a version text.
+pub(crate) fn version_of_words(alloc: Global, words: &[String]) -> Result<Version, CallError> {
+    let [text, identifiers @ ..] = words else {
+        return Err(CallError::Words);
+    };
+    let mut version = Version::parse(alloc, text)?;
+    push_all(alloc, &mut version, identifiers)?;
+    Ok(version)
+}
+
+/// Appends identifiers to the prerelease.
+fn push_all(alloc: Global, version: &mut Version, words: &[String]) -> Result<(), AllocError> {
+    for word in words {
+        let text = String::from_str(alloc, word)?;
+        version.pre_release.push(Identifier::AlphaNumeric(text))?;
+    }
+    Ok(())
+}
+
+fn bump_of(word: &str) -> Option<Bump> {
+    Some(match word {
+        "major" => Bump::Major,
+        "premajor" => Bump::PreMajor,
+        "minor" => Bump::Minor,
+        "preminor" => Bump::PreMinor,
+        "patch" => Bump::Patch,
+        "prepatch" => Bump::PrePatch,
+        "prerelease" => Bump::PreRelease,
+        "pre" => Bump::Pre,
+        _ => return None,
+    })
+}
+
+fn base_of(word: &str) -> IdentifierBase {
+    match word {
+        "0" => IdentifierBase::Zero,
+        "1" => IdentifierBase::One,
+        _ => IdentifierBase::Absent,
+    }
 }

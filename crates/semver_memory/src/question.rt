@@ -1,6 +1,6 @@
 //! Calls that do not allocate.
 use crate::answer::{Answer, print_of_error};
-use crate::fault::CallError;
+use memory_trials::CallError;
 use node_semver::{
     AllOf, Comparisons, Identifier, Range, SemverError, Version, max_satisfying, min_satisfying,
 };
@@ -81,7 +81,9 @@ fn is_contained(range: &Range, list: &[Version]) -> bool {
 /// Whether two versions are equal prereleases, and the build of the first is less.
 fn are_same(one: &Version, other: &Version) -> bool {
     let same = one == other && one.cmp(other).is_eq() && hash_of(one) == hash_of(other);
-    same && one.compare_build(other).is_lt() && one.is_prerelease() && other.is_prerelease()
+    same && npm_semver::compare_build(one, other).is_lt()
+        && one.is_prerelease()
+        && other.is_prerelease()
 }
 
 /// Whether two ranges are equal, with as many sets, and contain a cut.

@@ -8,8 +8,8 @@ use Rattle.semver_pairs.specs.Answer.{admitted, bad_range, bad_version, turned_a
 use Rattle.semver_pairs.specs.Output.{HasAnswers, HasOneAnswer, IsPairAnswer}
 use Rattle.semver_pairs.specs.Pairs.{Pair, both, lone}
 use Rattle.semver_sets.specs.Meaning.{TextAdmits}
-use Rattle.semver_versions.specs.Version.{VersionValue}
-use Rattle.semver_versions.specs.VersionText.{IsVersionText}
+use Rattle.semver_texts.specs.Version.{VersionValue}
+use Rattle.semver_texts.specs.VersionText.{IsVersionText}
 use Rattle.semver_sets.proofs.Ranges.Decisions.{Decided, admits_or_not, refused_or_not}
 use Rattle.semver_versions.specs.Lemmas.Public.{one_reading, read_or_faulty, version-no_fault}
 use Rattle.semver_versions.specs.ErrorLocation.{newline}

@@ -7,9 +7,9 @@ use Rattle.semver_pairs.specs.Lines.{divided}
 use Rattle.semver_pairs.specs.Output.{IsOutput, IsOutputPrefix}
 use Rattle.semver_pairs.specs.Pairs.{both, lone, lines_read, pairs_read}
 use Rattle.semver_sets.specs.Comparator.{from_up_to, with_major}
-use Rattle.semver_versions.specs.IdentifierValue.{alphanumeric, numeric}
+use Rattle.semver_texts.specs.IdentifierValue.{alphanumeric, numeric}
 use Rattle.semver_sets.specs.Meaning.{TextAdmits}
-use Rattle.semver_versions.specs.Version.{VersionValue, least_of, release}
+use Rattle.semver_texts.specs.Version.{VersionValue, least_of, release}
 use Rattle.semver_versions.specs.Lemmas.Public.{computed, is-computed, is-version_in, version-no_fault, version_in}
 use Rattle.semver_sets.proofs.Examples.RangeComputing.{accepted-by, admits-by, alternatives_in, written-by}
 use Rattle.semver_sets.proofs.Examples.RangeExamples.{no_word-refused}

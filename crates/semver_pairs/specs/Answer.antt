@@ -1,8 +1,8 @@
 -- The answer for a range line and a version line.
 use Rattle.std.specs.Prelude.{◌⊎◌, ℕ, List, IsUtf8, codes}
 use Rattle.semver_sets.specs.Meaning.{IsRefused, TextAdmits}
-use Rattle.semver_versions.specs.Version.{VersionValue}
-use Rattle.semver_versions.specs.VersionText.{IsVersionText}
+use Rattle.semver_texts.specs.Version.{VersionValue}
+use Rattle.semver_texts.specs.VersionText.{IsVersionText}
 
 -- the line is not UTF-8, or `Range::parse` refuses it
 abbrev pub IsBadRange : List ℕ → Type 0

@@ -22,6 +22,7 @@ use gauge::Gauge;
 use program::run;
 use run_error::RunError;
 use std::env;
+use std::io::ErrorKind;
 use std::process::ExitCode;
 
 /// Takes no arguments. Exits with the status of `ending`, and writes its line to standard error, if there is one. If
@@ -35,10 +36,14 @@ fn main(rt: HostRuntime) -> ExitCode {
             let mut writer = Gauge::new(rt.stdout());
             Some(run(rt.alloc(), &mut reader, &mut writer))
         }
-        Err(_) => Some(Err(RunError::Read)),
+        // The words are copied, so memory may be out here too.
+        Err(error) => Some(Err(match error.kind() {
+            ErrorKind::OutOfMemory => RunError::Memory,
+            _ => RunError::Read,
+        })),
     };
     let (status, line) = ending(outcome.as_ref());
-    if !line.is_empty() {
+    if status != 0 {
         let _ = eprintln!(rt; "{line}");
     }
     ExitCode::from(status)

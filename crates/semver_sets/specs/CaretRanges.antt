@@ -1,6 +1,6 @@
 -- A partial after a caret: npm's "Caret Ranges".
 use Rattle.std.specs.Prelude.{◌≡◌, ℕ, zero, suc, List, [], ◌∷◌, Option, Some, None}
-use Rattle.semver_versions.specs.Characters.{caret}
+use Rattle.semver_texts.specs.Characters.{caret}
 use Rattle.semver_sets.specs.Comparator.{Comparator}
 use Rattle.semver_sets.specs.Forms.{by_row}
 use Rattle.semver_sets.specs.PartialText.{IsLed, Partial}

@@ -3,7 +3,7 @@
 use Rattle.std.specs.Prelude.{◌≡◌, ℕ, not, List, [], ◌∷◌, ◌++◌, Option, None}
 use Rattle.std.specs.List.{filter_map}
 use Rattle.semver_sets.specs.CaretRanges.{IsCaretText}
-use Rattle.semver_versions.specs.Characters.{IsCleanEnd, AreAll, AreBlanks, BeginsWithNo, bar, is_blank}
+use Rattle.semver_texts.specs.Characters.{IsCleanEnd, AreAll, AreBlanks, BeginsWithNo, bar, is_blank}
 use Rattle.semver_sets.specs.Comparator.{Comparator}
 use Rattle.semver_sets.specs.HyphenRanges.{IsHyphenText}
 use Rattle.semver_sets.specs.Operators.{IsOperatorText, IsPlainText}

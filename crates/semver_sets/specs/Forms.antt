@@ -6,7 +6,7 @@ use Rattle.semver_sets.specs.Comparator.{with_minor}
 use Rattle.semver_sets.specs.PartialText.{Partial, zeroed}
 use Rattle.semver_sets.specs.declared.word.form.Form.{Form}
 use Rattle.semver_sets.specs.declared.word.form.Form.TheVariants as Forms
-use Rattle.semver_versions.specs.Version.{VersionValue, least_of, release, without_build}
+use Rattle.semver_texts.specs.Version.{VersionValue, least_of, release, without_build}
 
 -- ---- the least version of a triple, for `1.2.3-a+b`
 

@@ -1,8 +1,8 @@
 -- Range texts that are a full version, with `^`, `~` or nothing before it: nine of ten are. Such a text has one set.
 use Rattle.std.specs.Prelude.{ℕ, ◌≤◌, Bool, true, false, IsTrue, List, [], ◌∷◌, Option, Some}
 use Rattle.semver_cuts.specs.Ends.{Ends}
-use Rattle.semver_versions.specs.Version.{VersionValue, release}
-use Rattle.semver_versions.specs.declared.TheConstants.{MAX_SAFE_INTEGER}
+use Rattle.semver_texts.specs.Version.{VersionValue, release}
+use Rattle.semver_texts.specs.declared.TheConstants.{MAX_SAFE_INTEGER}
 use Rattle.semver_sets.specs.CaretRanges.{caret_row}
 use Rattle.semver_sets.specs.Forms.{ends_of}
 use Rattle.semver_sets.specs.Merging.{AreSetsOfText}

@@ -2,13 +2,13 @@
 use Rattle.std.specs.Prelude.{◌≡◌, ℕ, List, [], ◌∷◌, ◌++◌, Option, Some, None}
 use Rattle.semver_cuts.specs.declared.cut.Cut.{Cut}
 use Rattle.semver_cuts.specs.declared.cut.Cut.TheVariants.{Start, Before}
-use Rattle.semver_versions.specs.Characters.{AreBlanks, hyphen}
+use Rattle.semver_texts.specs.Characters.{AreBlanks, hyphen}
 use Rattle.semver_sets.specs.Comparator.{Comparator}
 use Rattle.semver_sets.specs.Forms.{ends_of}
 use Rattle.semver_sets.specs.PartialText.{IsPartialText, Partial, zeroed}
 use Rattle.semver_sets.specs.declared.word.form.Form.{Form}
 use Rattle.semver_sets.specs.declared.word.form.Form.TheVariants as Forms
-use Rattle.semver_versions.specs.Version.{VersionValue}
+use Rattle.semver_texts.specs.Version.{VersionValue}
 
 -- where it begins: `1.2 - ` at `>=1.2.0`; without a left side there is no lower end
 abbrev pub left_cut : Option Partial → Cut VersionValue

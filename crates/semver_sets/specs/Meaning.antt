@@ -15,9 +15,9 @@ use Rattle.semver_cuts.specs.SpanLists.{HasCutInEvery}
 use Rattle.semver_cuts.specs.Ends.{Ends, IsInSpan}
 pub use Rattle.semver_cuts.specs.Sharing.{AnyByRecursion}
 use Rattle.semver_sets.specs.Comparator.{Comparator}
-use Rattle.semver_versions.specs.Comparison.{version_cmp}
+use Rattle.semver_texts.specs.Comparison.{version_cmp}
 use Rattle.semver_sets.specs.Division.{IsWritten}
-use Rattle.semver_versions.specs.Version.{HasSameTriple, IsPrerelease, VersionValue}
+use Rattle.semver_texts.specs.Version.{HasSameTriple, IsPrerelease, VersionValue}
 
 -- a version lies inside a comparator if the cut just before the version does
 abbrev pub IsInside : VersionValue → Comparator → Type 0

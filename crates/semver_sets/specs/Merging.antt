@@ -9,10 +9,10 @@ use Rattle.semver_cuts.specs.declared.cut.Cut.TheVariants.{Start, End}
 use Rattle.semver_cuts.specs.Ends.{Ends, HoldsCut}
 use Rattle.semver_cuts.specs.ChosenEnds.{IsLastGreatestLower, IsFirstLeastUpper}
 use Rattle.semver_sets.specs.Comparator.{Comparator}
-use Rattle.semver_versions.specs.Comparison.{version_cmp}
+use Rattle.semver_texts.specs.Comparison.{version_cmp}
 use Rattle.semver_sets.specs.Division.{IsWritten}
 use Rattle.semver_sets.specs.Meaning.{Admit, AnyByRecursion, GiveSet, HasOpenEnd, IsInside, SetAdmits}
-use Rattle.semver_versions.specs.Version.{IsPrerelease, VersionValue}
+use Rattle.semver_texts.specs.Version.{IsPrerelease, VersionValue}
 
 -- it begins at the last of the greatest lower ends, and ends at the first of the least upper ends
 pub record IsSetOf (comparators : List Comparator) (set : Ends VersionValue) : Type 0 where

@@ -1,10 +1,10 @@
 -- How partials are written: npm's "X-Ranges" and "Range Grammar".
 use Rattle.std.specs.Prelude.{◌≡◌, ℕ, true, List, [], ◌∷◌, ◌++◌, Option, Some, None, unwrap_or}
-use Rattle.semver_versions.specs.Characters.{AreAll, dot, is_blank, is_partial_mark, is_x}
-use Rattle.semver_versions.specs.IdentifierValue.{IdentifierValue}
-use Rattle.semver_versions.specs.NumberText.{IsNumberText}
-use Rattle.semver_versions.specs.Version.{VersionValue}
-use Rattle.semver_versions.specs.VersionText.{HasThreeParts, IsMarked}
+use Rattle.semver_texts.specs.Characters.{AreAll, dot, is_blank, is_partial_mark, is_x}
+use Rattle.semver_texts.specs.IdentifierValue.{IdentifierValue}
+use Rattle.semver_texts.specs.NumberText.{IsNumberText}
+use Rattle.semver_texts.specs.Version.{VersionValue}
+use Rattle.semver_texts.specs.VersionText.{HasThreeParts, IsMarked}
 
 -- A version of which components can be absent. A component is absent if it is an x or is not written: `1`, `1.x`,
 -- `1.2.x-beta`

@@ -2,8 +2,8 @@
 use Rattle.std.specs.Prelude.{Bool, List, [], ◌∷◌}
 use Rattle.std.specs.Cmp.Lexicographic.{pointwise}
 use Rattle.semver_cuts.specs.Ends.{AreSameEnds, Ends, are_same_ends}
-use Rattle.semver_versions.specs.Comparison.{version_cmp}
-use Rattle.semver_versions.specs.Version.{VersionValue}
+use Rattle.semver_texts.specs.Comparison.{version_cmp}
+use Rattle.semver_texts.specs.Version.{VersionValue}
 
 -- both have the same number of sets, and the sets at each place begin at equal cuts and end at equal cuts, whatever the
 -- builds

@@ -4,8 +4,8 @@ use Rattle.std.specs.Hash as fed
 use Rattle.std.specs.Hash.{HashWrites}
 use Rattle.semver_cuts.specs.Ends.{Ends}
 use Rattle.semver_cuts.specs.Hash.{span_writes}
-use Rattle.semver_versions.specs.Hash.{version_writes}
-use Rattle.semver_versions.specs.Version.{VersionValue}
+use Rattle.semver_texts.specs.Hash.{version_writes}
+use Rattle.semver_texts.specs.Version.{VersionValue}
 
 -- the number of sets, and then the two ends of each
 abbrev pub range_writes : List (Ends VersionValue) → HashWrites

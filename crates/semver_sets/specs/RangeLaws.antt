@@ -6,7 +6,7 @@ use Rattle.semver_sets.specs.Division.{IsSimpleText, IsWritten}
 use Rattle.semver_sets.specs.HyphenRanges.{IsHyphenText}
 use Rattle.semver_sets.specs.Meaning.{IsRefused, RangeAdmits, TextAdmits}
 use Rattle.semver_sets.specs.RangeSets.{IsRangeValue}
-use Rattle.semver_versions.specs.Version.{VersionValue}
+use Rattle.semver_texts.specs.Version.{VersionValue}
 use Rattle.semver_sets.specs.PartialText.{IsPartialText, Partial}
 
 -- the text can be divided into alternatives and words

@@ -4,9 +4,9 @@ use Rattle.std.specs.Ordering.{eq_by_cmp}
 use Rattle.semver_cuts.specs.declared.cut.Cut.{Cut}
 use Rattle.semver_cuts.specs.declared.cut.Cut.TheVariants.{Start, Before, After, End}
 use Rattle.semver_cuts.specs.Ends.{Ends}
-use Rattle.semver_versions.specs.Comparison.{version_cmp}
-use Rattle.semver_versions.specs.Print.{version_text}
-use Rattle.semver_versions.specs.Version.{VersionValue}
+use Rattle.semver_texts.specs.Comparison.{version_cmp}
+use Rattle.semver_texts.specs.Print.{version_text}
+use Rattle.semver_texts.specs.Version.{VersionValue}
 
 -- a lower end: `>=1.2.3` or `>1.2.3`, and nothing for the start. (No set begins at the end; the row makes it nothing.)
 abbrev pub lower_text : Cut VersionValue → List ℕ

@@ -8,8 +8,8 @@ use Rattle.semver_sets.specs.Meaning.{IsRefused}
 use Rattle.semver_sets.specs.Merging.{AreSetsOfText}
 use Rattle.semver_sets.specs.RangeEquality.{AreSameCuts}
 use Rattle.semver_sets.specs.RangePrint.{range_text}
-use Rattle.semver_versions.specs.Version.{VersionValue}
-use Rattle.semver_versions.specs.ReadingBack.{HasTextNumbers}
+use Rattle.semver_texts.specs.Version.{VersionValue}
+use Rattle.semver_texts.specs.ReadingBack.{HasTextNumbers}
 
 -- a cut at such a version, or the start, or the end
 abbrev pub IsTextCut : Cut VersionValue → Type 0

@@ -5,10 +5,10 @@ use Rattle.semver_cuts.specs.declared.cut.Cut.{Cut}
 use Rattle.semver_cuts.specs.declared.cut.Cut.TheVariants.{Start, Before, After, End}
 use Rattle.semver_cuts.specs.Ends.{Ends}
 use Rattle.semver_cuts.specs.Starts.{count_of_starts}
-use Rattle.semver_versions.specs.Comparison.{version_cmp}
-use Rattle.semver_versions.specs.IdentifierValue.{IdentifierValue}
+use Rattle.semver_texts.specs.Comparison.{version_cmp}
+use Rattle.semver_texts.specs.IdentifierValue.{IdentifierValue}
 use Rattle.semver_sets.specs.Meaning.{RangeAdmits, RangeContains}
-use Rattle.semver_versions.specs.Version.{IsPrerelease, VersionValue}
+use Rattle.semver_texts.specs.Version.{IsPrerelease, VersionValue}
 
 -- ---- what `Meaning` says of ends, as tests
 

@@ -1,6 +1,6 @@
 -- A partial after a tilde: npm's "Tilde Ranges".
 use Rattle.std.specs.Prelude.{◌≡◌, ℕ, List, [], ◌∷◌, ◌++◌, Option, Some, None}
-use Rattle.semver_versions.specs.Characters.{AreAll, greater_sign, is_blank, tilde}
+use Rattle.semver_texts.specs.Characters.{AreAll, greater_sign, is_blank, tilde}
 use Rattle.semver_sets.specs.Comparator.{Comparator}
 use Rattle.semver_sets.specs.Forms.{by_row}
 use Rattle.semver_sets.specs.PartialText.{IsLed, Partial}

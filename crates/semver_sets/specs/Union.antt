@@ -4,7 +4,7 @@
 -- `1 |||2` is read as `1 ` and `|2`. ` - 10` begins with a blank: alone it is a hyphen range without a left side, but
 -- after `||` its blank is ignored.
 use Rattle.std.specs.Prelude.{ℕ, List, ◌∷◌, ◌++◌}
-use Rattle.semver_versions.specs.Characters.{BeginsWithNo, bar, is_blank}
+use Rattle.semver_texts.specs.Characters.{BeginsWithNo, bar, is_blank}
 use Rattle.semver_sets.specs.Division.{EndsInBar}
 
 -- one text, `||` and the other text

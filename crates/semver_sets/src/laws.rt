@@ -1,7 +1,7 @@
 //! The laws of range texts and of their sets. The functions here do nothing: the contract of each is a law.
 ghost use Rattle.std.specs.Prelude.{◌≡◌, ◌++◌, ℕ, List};
 ghost use Rattle.semver_cuts.specs.Ends.{Ends};
-ghost use Rattle.semver_versions.specs.Version.{VersionValue};
+ghost use Rattle.semver_texts.specs.Version.{VersionValue};
 ghost use Rattle.semver_sets.specs.Comparator.{Comparator};
 ghost use Rattle.semver_sets.specs.Merging.{AdmitsTheSame, AreSetsOfText, HasOneMerging, HasOneSet, IsSetOf, LosesNothing};
 ghost use Rattle.semver_sets.specs.RangeLaws.{HasWriting, IsOneHyphenRange, IsOnePartial, IsOneSimpleWord};

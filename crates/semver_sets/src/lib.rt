@@ -6,7 +6,7 @@
 //!
 //! Users call the crate `node_semver`, which is built on this one and has ranges, their algebra and least versions. What
 //! its contracts say about range texts, words and sets is defined in `specs/` of this crate; versions are in
-//! `semver_versions`.
+//! `semver_texts`.
 #![tactic(auto)]
 
 mod comparisons;

@@ -1,13 +1,13 @@
 //! The text of a set in one array, for sets whose ends have no lists.
 ghost use Rattle.std.specs.Prelude.{◌≡◌, ◌+◌, ◌≤◌, ◌∷◌, ◌++◌, IfSome, codes, drop};
-ghost use Rattle.semver_versions.specs.Print.{version_text};
+ghost use Rattle.semver_texts.specs.Print.{version_text};
 ghost use Rattle.semver_cuts.specs.declared.cut.Cut.TheVariants.{Before};
 ghost use Rattle.semver_sets.specs.RangePrint.{both_text, set_text};
-ghost use Rattle.semver_versions.specs.declared.line.TheConstants.{ROOM, VERSION_ROOM};
+ghost use Rattle.semver_texts.specs.declared.line.TheConstants.{ROOM, VERSION_ROOM};
 
 use semver_cuts::{Cut, Span};
-use semver_versions::end::EndVersion;
-use semver_versions::line::{ROOM, put_byte, put_version};
+use semver_texts::end::EndVersion;
+use semver_texts::line::{ROOM, put_byte, put_version};
 use std::str;
 
 /// Writes the set's text into the array and returns it.

@@ -3,17 +3,17 @@
 //!
 //! `#[inline(always)]` makes one function of the readers of a word, so that numbers and shapes stay in registers.
 ghost use Rattle.std.specs.Prelude.{◌≡◌, IfSome};
-ghost use Rattle.semver_versions.specs.Characters.{is_blank, is_partial_mark};
-ghost use Rattle.semver_versions.specs.Reading.{read_extras, rest_of, skip_one};
+ghost use Rattle.semver_texts.specs.Characters.{is_blank, is_partial_mark};
+ghost use Rattle.semver_texts.specs.Reading.{read_extras, rest_of, skip_one};
 ghost use Rattle.semver_sets.specs.Private.WordReading as Reading;
 ghost use Rattle.semver_sets.specs.Private.WordViews as WordViews;
 ghost use Rattle.semver_sets.specs.Private.WordViews.{IsComponentSound, IsSound, component_seen, component_value};
 ghost use Rattle.semver_sets.specs.Private.WordViews.{partial_seen, read_partial_seen};
 
 use crate::word::WrittenVersion;
-use semver_versions::parse::extras::skip_extras;
-use semver_versions::parse::number::{is_digit, read_number};
-use semver_versions::parse::{is_clean_end, skip_blanks};
+use semver_texts::parse::extras::skip_extras;
+use semver_texts::parse::number::{is_digit, read_number};
+use semver_texts::parse::{is_clean_end, skip_blanks};
 
 // `1.2.x` of `1.2.x-alpha <2`: its version, with 0 for each absent number, and which components are numbers.
 #[derive(Clone, Copy)]
@@ -122,7 +122,7 @@ fn read_components(text: &[u8]) -> Option<(Partial, &[u8])>
 
 // `1.2` of `v 1.2`: the text after an optional `v` and blanks. Most texts begin with a digit.
 #[inline(always)]
-#[tactic(auto, unfolding(semver_versions::specs::Reading::skip_one))]
+#[tactic(auto, unfolding(semver_texts::specs::Reading::skip_one))]
 fn skip_to_components(text: &[u8]) -> &[u8]
     ensures { result.now ≡ rest_of is_blank (skip_one is_partial_mark text.now) }
 {

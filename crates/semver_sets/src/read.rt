@@ -18,7 +18,7 @@ use crate::set_list::gathered::Gathered;
 use crate::word::skip_ignored;
 use alternative::read_set;
 use memchr::memchr;
-use semver_versions::parse::skip_blanks;
+use semver_texts::parse::skip_blanks;
 use std::alloc::{AllocError, Global};
 
 /// Why a text was not read.

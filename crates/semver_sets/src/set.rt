@@ -7,15 +7,15 @@
 ghost use Rattle.std.specs.Prelude.{◌≡◌, ◌≤◌, ◌+◌, ◌↔◌, IsTrue};
 ghost use Rattle.semver_cuts.specs.declared.cut.Cut.TheVariants.{Before, Start};
 ghost use Rattle.semver_cuts.specs.Ends.{IsCutAtMost};
-ghost use Rattle.semver_versions.specs.Comparison.{prerelease_cmp, version_cmp};
+ghost use Rattle.semver_texts.specs.Comparison.{prerelease_cmp, version_cmp};
 ghost use Rattle.semver_sets.specs.Meaning.{HasOpenEnd, IsInside, Opens, SetAdmits};
-ghost use Rattle.semver_versions.specs.EndViews.{IsAtTriple};
-ghost use Rattle.semver_versions.specs.Version.{IsPrerelease, VersionValue, release};
+ghost use Rattle.semver_texts.specs.EndViews.{IsAtTriple};
+ghost use Rattle.semver_texts.specs.Version.{IsPrerelease, VersionValue, release};
 
 use crate::Counts;
 use semver_cuts::{Cut, Span};
-use semver_versions::end::EndVersion;
-use semver_versions::{AsVersion, Triple};
+use semver_texts::end::EndVersion;
+use semver_texts::{AsVersion, Triple};
 use std::cmp::Ordering;
 
 /// Returns `true` if the set admits the version, and adds the comparisons that this takes to `comparisons`.

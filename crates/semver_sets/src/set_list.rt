@@ -6,7 +6,7 @@
 //! See docs/DECISIONS.md, "Most ends and most ranges need no memory".
 ghost use Rattle.std.specs.Prelude.{◌≡◌, ◌↔◌, IsTrue};
 ghost use Rattle.semver_cuts.specs.Sharing.{ShareCut};
-ghost use Rattle.semver_versions.specs.Comparison.{version_cmp};
+ghost use Rattle.semver_texts.specs.Comparison.{version_cmp};
 ghost use Rattle.semver_sets.specs.Meaning.{RangeAdmits, RangeContains};
 ghost use Rattle.semver_sets.specs.RangeSets.{sets_seen};
 ghost use Rattle.semver_sets.specs.Searching.{IsShortSearch, IsShortSearchInside};
@@ -22,8 +22,8 @@ use crate::set::{admits, has_inside};
 use crate::set_list::indexed::IndexedSets;
 use semver_cuts::Span;
 use semver_cuts::algebra::MergedSpans;
-use semver_versions::AsVersion;
-use semver_versions::end::EndVersion;
+use semver_texts::AsVersion;
+use semver_texts::end::EndVersion;
 
 /// The sets of a range: at least one. A contract sees them as a list, `sets_seen`.
 ///

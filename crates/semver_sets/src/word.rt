@@ -6,8 +6,8 @@
 ghost use Rattle.std.specs.Prelude.{◌≡◌, List, None, Some, false};
 ghost use Rattle.semver_sets.specs.Comparator.{Comparator};
 ghost use Rattle.semver_sets.specs.Division.{IsAlternative};
-ghost use Rattle.semver_versions.specs.Characters.{BeginsWithNo, is_blank};
-ghost use Rattle.semver_versions.specs.Reading.{rest_of};
+ghost use Rattle.semver_texts.specs.Characters.{BeginsWithNo, is_blank};
+ghost use Rattle.semver_texts.specs.Reading.{rest_of};
 ghost use Rattle.semver_sets.specs.Private.WordReading as Reading;
 ghost use Rattle.semver_sets.specs.Private.WordViews.{IsSound, ends_seen, lead_seen, partial_seen, word_seen};
 
@@ -29,7 +29,7 @@ use hyphen::{hyphen_ends, read_right};
 use memchr::memchr2;
 use operator::{above_form, at_most_form, below_form, equal_form};
 pub(crate) use plain::plain_form;
-use semver_versions::parse::{is_clean_end, skip_blanks};
+use semver_texts::parse::{is_clean_end, skip_blanks};
 pub(crate) use tilde::tilde_form;
 use tilde::{read_tilde, tilde_greater_form};
 

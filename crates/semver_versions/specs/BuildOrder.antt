@@ -6,10 +6,10 @@ use Rattle.std.specs.Ordering.{on, then_cmp}
 use Rattle.std.specs.Cmp.Lexicographic.{slice_cmp}
 use Rattle.std.specs.declared.cmp.Ordering.{Ordering}
 use Rattle.std.specs.declared.cmp.Ordering.TheVariants.{Less, Equal, Greater}
-use Rattle.semver_versions.specs.IdentifierValue.{IdentifierValue}
-use Rattle.semver_versions.specs.Version.{VersionValue}
-use Rattle.semver_versions.specs.Comparison.{identifier_cmp, version_cmp}
-use Rattle.semver_versions.specs.Order.{IsBelow, IsIdentifierBelow, IsListBelow, IsSame}
+use Rattle.semver_texts.specs.IdentifierValue.{IdentifierValue}
+use Rattle.semver_texts.specs.Version.{VersionValue}
+use Rattle.semver_texts.specs.Comparison.{identifier_cmp, version_cmp}
+use Rattle.semver_texts.specs.Order.{IsBelow, IsIdentifierBelow, IsListBelow, IsSame}
 
 -- identifier by identifier; no identifiers are less than some
 abbrev pub build_cmp : List IdentifierValue → List IdentifierValue → Ordering

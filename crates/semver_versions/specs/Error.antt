@@ -1,6 +1,6 @@
 -- What a contract sees of an error: the text that was parsed, the place of its fault, and the kind of the fault.
 use Rattle.std.specs.Prelude.{◌≡◌, ℕ, List, [], Result, Ok, Err, string_bytes}
-use Rattle.semver_versions.specs.Version.{VersionValue}
+use Rattle.semver_texts.specs.Version.{VersionValue}
 use Rattle.semver_versions.specs.declared.error.kind.SemverErrorKind.{SemverErrorKind}
 use Rattle.semver_versions.specs.declared.error.kind.SemverErrorKind.TheVariants.{MaxLengthError, IncompleteInput}
 use Rattle.semver_versions.specs.declared.error.kind.SemverErrorKind.TheVariants.{ParseIntError, MaxIntError, Context}

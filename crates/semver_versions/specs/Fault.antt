@@ -4,12 +4,12 @@
 use Rattle.std.specs.Prelude.{◌≡◌, ℕ, ◌^◌, ◌-◌, ◌==◌, ◌<◌, ◌≤◌, nat_lt, if◌then◌else◌}
 use Rattle.std.specs.Prelude.{false, List, [], ◌∷◌, ◌++◌, length, codes}
 use Rattle.std.specs.List.{AllByRecursion}
-use Rattle.semver_versions.specs.declared.TheConstants.{MAX_LENGTH, MAX_SAFE_INTEGER}
-use Rattle.semver_versions.specs.Characters.{AreAll, BeginsWith, BeginsWithNo, dot}
-use Rattle.semver_versions.specs.Characters.{is_blank, is_digit, is_version_mark, mark_of}
-use Rattle.semver_versions.specs.NumberText.{IsNumberText, number_of}
-use Rattle.semver_versions.specs.Version.{VersionValue}
-use Rattle.semver_versions.specs.VersionText.{IsVersionText}
+use Rattle.semver_texts.specs.declared.TheConstants.{MAX_LENGTH, MAX_SAFE_INTEGER}
+use Rattle.semver_texts.specs.Characters.{AreAll, BeginsWith, BeginsWithNo, dot}
+use Rattle.semver_texts.specs.Characters.{is_blank, is_digit, is_version_mark, mark_of}
+use Rattle.semver_texts.specs.NumberText.{IsNumberText, number_of}
+use Rattle.semver_texts.specs.Version.{VersionValue}
+use Rattle.semver_texts.specs.VersionText.{IsVersionText}
 use Rattle.semver_versions.specs.Error.{IsRefusalAt, Kind, context, max_int, max_length, other, parse_int}
 use Rattle.semver_versions.specs.declared.error.SemverError.{SemverError}
 

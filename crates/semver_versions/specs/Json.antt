@@ -2,10 +2,10 @@
 use Rattle.std.specs.Prelude.{◌≡◌, ◌⊎◌, ℕ, ◌≤◌, List, [], length, Option, Some}
 use Rattle.std.specs.Prelude.{None, Result, Ok, Err, IfErr, IfOk, IsOk, codes}
 use Rattle.std.specs.declared.num.ParseIntError.{ParseIntError as IntFault}
-use Rattle.semver_versions.specs.declared.TheConstants.{MAX_LENGTH}
-use Rattle.semver_versions.specs.Print.{version_text}
-use Rattle.semver_versions.specs.Version.{VersionValue}
-use Rattle.semver_versions.specs.VersionText.{IsVersionText}
+use Rattle.semver_texts.specs.declared.TheConstants.{MAX_LENGTH}
+use Rattle.semver_texts.specs.Print.{version_text}
+use Rattle.semver_texts.specs.Version.{VersionValue}
+use Rattle.semver_texts.specs.VersionText.{IsVersionText}
 use Rattle.semver_versions.specs.declared.error.SemverError.{SemverError}
 use Rattle.semver_versions.specs.declared.json.JsonError.{JsonError}
 use Rattle.semver_versions.specs.declared.json.JsonError.TheVariants.{NotAString, Semver}
@@ -14,7 +14,7 @@ use Rattle.semver_versions.specs.ErrorEquality.{error_value}
 use Rattle.semver_versions.specs.ErrorParts.{error_kind_of}
 use Rattle.semver_versions.specs.ErrorText.{kind_text}
 use Rattle.semver_versions.specs.Fault.{IsFaultOf}
-use Rattle.semver_versions.specs.ReadingBack.{HasText, VersionReadsBack}
+use Rattle.semver_texts.specs.ReadingBack.{HasText, VersionReadsBack}
 use Rattle.semver_versions.specs.Error.{IsReadAs}
 
 -- the result of `Version::parse` for a text, by the facts that its contract states

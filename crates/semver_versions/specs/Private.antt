@@ -1,10 +1,6 @@
 -- What private functions compute, and how their contracts see it. No other crate names these, and nobody has to trust
 -- them.
 pub mod VersionReading
-pub mod ListedViews
-pub mod CommonStarts
 pub mod FaultViews
 pub mod ParsedViews
 pub mod StrictViews
-pub mod PieceViews
-pub mod ExtraViews

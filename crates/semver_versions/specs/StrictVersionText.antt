@@ -3,12 +3,12 @@
 -- `1.2.3a` or `1.2.3-01`.
 use Rattle.std.specs.Prelude.{◌≡◌, ℕ, ◌+◌, ◌==◌, ◌&&◌, ◌||◌, Bool, true, false, List, [], ◌∷◌, length, not}
 use Rattle.std.specs.List.{after_first, before_first, list_all, take_while}
-use Rattle.semver_versions.specs.Characters.{hyphen, is_digit, plus}
+use Rattle.semver_texts.specs.Characters.{hyphen, is_digit, plus}
 use Rattle.semver_versions.specs.Error.{IsRefusalAt, Kind, other}
 use Rattle.semver_versions.specs.Fault.{IsFault, with_dots}
-use Rattle.semver_versions.specs.IdentifierText.{parts_of}
-use Rattle.semver_versions.specs.Version.{VersionValue}
-use Rattle.semver_versions.specs.VersionText.{IsVersionText}
+use Rattle.semver_texts.specs.IdentifierText.{parts_of}
+use Rattle.semver_texts.specs.Version.{VersionValue}
+use Rattle.semver_texts.specs.VersionText.{IsVersionText}
 use Rattle.semver_versions.specs.declared.error.SemverError.{SemverError}
 
 -- the text has a `0` and more after it: `01`

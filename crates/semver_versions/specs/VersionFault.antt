@@ -1,6 +1,6 @@
 -- What a contract sees of the faults that `VersionRef::parse` and `parse_strict` return: kind and byte offset.
 use Rattle.std.specs.Prelude.{◌≡◌, ℕ, List, codes, Option, Result, Ok, Err}
-use Rattle.semver_versions.specs.Version.{VersionValue}
+use Rattle.semver_texts.specs.Version.{VersionValue}
 use Rattle.semver_versions.specs.Error.{Kind, context, max_int, max_length, other, parse_int}
 use Rattle.semver_versions.specs.ErrorText.{text_of}
 use Rattle.semver_versions.specs.Fault.{IsFault}

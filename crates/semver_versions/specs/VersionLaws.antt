@@ -1,12 +1,9 @@
 -- The laws of version texts. They are why one can say "the version of a text" and "the fault of a text".
 use Rattle.std.specs.Prelude.{◌≡◌, ◌⊎◌, ℕ, false, List}
-use Rattle.semver_versions.specs.Version.{VersionValue, release}
-use Rattle.semver_versions.specs.VersionText.{IsVersionText}
+use Rattle.semver_texts.specs.Version.{VersionValue}
+use Rattle.semver_texts.specs.VersionText.{IsVersionText}
 use Rattle.semver_versions.specs.Error.{Kind}
-use Rattle.semver_versions.specs.Coerce.{IsCoerced}
 use Rattle.semver_versions.specs.Fault.{IsFault}
-use Rattle.semver_versions.specs.Print.{version_text}
-use Rattle.semver_versions.specs.ReadingBack.{HasTextNumbers}
 use Rattle.semver_versions.specs.StrictVersionText.{IsStrictFault, IsStrictVersionText}
 
 -- the text is the text of at most one version
@@ -34,7 +31,3 @@ HasOneStrictFault text = (k l : Kind) (m n : ℕ) → IsStrictFault text k m →
 abbrev pub IsNeverStrictAndFaulty : List ℕ → Type 0
 IsNeverStrictAndFaulty text =
     (v : VersionValue) (kind : Kind) (offset : ℕ) → IsStrictVersionText text v → ¬ IsStrictFault text kind offset
-
--- the release with its triple is found in the print of the version, whatever prerelease and build it has
-abbrev pub PrintIsCoerced : VersionValue → Type 0
-PrintIsCoerced v = HasTextNumbers v → IsCoerced false (version_text v) (release v.major v.minor v.patch)

@@ -2,8 +2,8 @@
 use Rattle.std.specs.Prelude.{◌≡◌, ◌+◌, ◌^◌, ◌<◌, List, [], ◌∷◌, ◌++◌}
 use Rattle.std.specs.List.{AllByRecursion}
 use Rattle.std.specs.Str.{IsUtf8}
-use Rattle.semver_versions.specs.IdentifierValue.{IdentifierValue, alphanumeric, numeric}
-use Rattle.semver_versions.specs.Version.{VersionValue, least_of, release}
+use Rattle.semver_texts.specs.IdentifierValue.{IdentifierValue, alphanumeric, numeric}
+use Rattle.semver_texts.specs.Version.{VersionValue, least_of, release}
 
 -- a number of 64 bits, or any text
 abbrev pub IsIdentifier : IdentifierValue → Type 0

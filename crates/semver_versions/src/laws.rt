@@ -1,17 +1,11 @@
 //! The laws of versions. The functions here do nothing: the contract of each is a law.
 //!
 //! See docs/DECISIONS.md, "The limits are pinned by a law".
-ghost use Rattle.std.specs.Prelude.{◌≡◌, ℕ, List, Option};
+ghost use Rattle.std.specs.Prelude.{◌≡◌, ℕ, List};
 ghost use Rattle.std.specs.Cmp.{IsTotalOrder};
-ghost use Rattle.semver_versions.specs.Bump.{IsBumped, IsUpward};
-ghost use Rattle.semver_versions.specs.IdentifierValue.{IdentifierValue};
-ghost use Rattle.semver_versions.specs.Order.{IsBelow};
-ghost use Rattle.semver_versions.specs.Version.{VersionValue};
-ghost use Rattle.semver_versions.specs.declared.version.bump.Bump.{Bump};
-ghost use Rattle.semver_versions.specs.declared.version.bump.IdentifierBase.{IdentifierBase};
 ghost use Rattle.semver_versions.specs.BuildOrder.{version_build_cmp};
-ghost use Rattle.semver_versions.specs.declared.TheConstants.{MAX_LENGTH, MAX_SAFE_INTEGER};
-ghost use Rattle.semver_versions.specs.VersionLaws.{HasOneFault, HasOneReading, IsNeverBoth, IsReadOrFaulty, PrintIsCoerced};
+ghost use Rattle.semver_texts.specs.declared.TheConstants.{MAX_LENGTH, MAX_SAFE_INTEGER};
+ghost use Rattle.semver_versions.specs.VersionLaws.{HasOneFault, HasOneReading, IsNeverBoth, IsReadOrFaulty};
 ghost use Rattle.semver_versions.specs.VersionLaws.{HasOneStrictFault, IsNeverStrictAndFaulty};
 
 pub use crate::error::{a_kind_is_always_copied, errors_are_equal_where_their_parts_are};
@@ -40,26 +34,15 @@ pub fn a_text_has_one_fault()
     ensures only { (text : List ℕ) → HasOneFault text }
 {}
 
-/// A text has at most one strict fault, for which [`Version::parse_strict`](crate::Version::parse_strict) returns an
+/// A text has at most one strict fault, for which [`VersionRef::parse_strict`](crate::VersionRef::parse_strict) returns an
 /// error, and a strict version text has none.
 pub fn a_text_has_one_strict_fault()
     ensures only { (text : List ℕ) → HasOneStrictFault text }
     ensures never_both { (text : List ℕ) → IsNeverStrictAndFaulty text }
 {}
 
-/// The order with builds, which [`Version::compare_build`](crate::Version::compare_build) returns, is total.
+/// The order with builds, which [`VersionRef::compare_build`](crate::VersionRef::compare_build) returns, is total.
 #[tactic(auto, using(crate::specs::Lemmas::BuildOrder::version_build_total))]
 pub fn the_order_with_builds_is_total()
     ensures { IsTotalOrder version_build_cmp }
-{}
-
-/// A bumped version is greater than the version, but after `Pre`, and after `PreRelease` with an identifier.
-pub fn a_bumped_version_is_greater()
-    ensures { (bump : Bump) (identifier : Option IdentifierValue) (base : IdentifierBase) (v w : VersionValue) →
-        IsUpward bump identifier → IsBumped bump identifier base v w → IsBelow v w }
-{}
-
-/// From the print of a version, [`Version::coerce`](crate::Version::coerce) returns the release with its triple.
-pub fn a_print_is_coerced_to_its_triple()
-    ensures { (v : VersionValue) → PrintIsCoerced v }
 {}

@@ -1,22 +1,17 @@
 ghost use Rattle.std.specs.Prelude.{◌≡◌, ◌↔◌, IfOk, IsTrue};
-ghost use Rattle.semver_versions.specs.Triple.{triple_of};
-ghost use Rattle.semver_versions.specs.Version.{IsPrerelease, release, with_pre_release};
+ghost use Rattle.semver_texts.specs.Triple.{triple_of};
+ghost use Rattle.semver_texts.specs.Version.{IsPrerelease, release, with_pre_release};
 
 pub mod admits;
 pub mod as_version;
-mod build_order;
-pub mod bump;
-pub mod coerce;
 mod copy;
-mod diff;
 pub mod display;
 mod hash;
 pub(crate) mod order;
 mod parse;
 mod stepped;
-mod strict;
 
-use crate::{Identifier, Triple};
+use semver_texts::{Identifier, Triple};
 use std::alloc::{AllocError, Global};
 use std::marker::Model;
 
@@ -39,8 +34,8 @@ pub struct Version {
 }
 
 impl Model for Version {
-    ghost use Rattle.semver_versions.specs.Version.{VersionValue};
-    ghost use Rattle.semver_versions.specs.Identifier.{values_of};
+    ghost use Rattle.semver_texts.specs.Version.{VersionValue};
+    ghost use Rattle.semver_texts.specs.Identifier.{values_of};
 
     ghost Value = { VersionValue };
 
@@ -115,9 +110,10 @@ impl Version {
         })
     }
 
+    /// Returns the major, minor and patch. Does not allocate.
     // `inline(always)`: three loads.
     #[inline(always)]
-    pub(crate) fn triple(&self) -> Triple
+    pub fn triple(&self) -> Triple
         ensures { result ≡ triple_of self.now }
     {
         Triple::new(self.major, self.minor, self.patch)

@@ -2,10 +2,10 @@
 //!
 //! See docs/DECISIONS.md, "The text of a `VersionRef` is known by an invariant".
 ghost use Rattle.std.specs.Prelude.{◌≡◌, ◌↔◌, IsTrue};
-ghost use Rattle.semver_versions.specs.Comparison.{prerelease_cmp};
-ghost use Rattle.semver_versions.specs.Triple.{triple_of};
-ghost use Rattle.semver_versions.specs.Version.{IsPrerelease};
-ghost use Rattle.semver_versions.specs.VersionText.{IsVersionText};
+ghost use Rattle.semver_texts.specs.Comparison.{prerelease_cmp};
+ghost use Rattle.semver_texts.specs.Triple.{triple_of};
+ghost use Rattle.semver_texts.specs.Version.{IsPrerelease};
+ghost use Rattle.semver_texts.specs.VersionText.{IsVersionText};
 
 mod copy;
 mod display;
@@ -15,9 +15,9 @@ mod order;
 pub(crate) mod read;
 mod strict;
 
-use crate::end::EndVersion;
-use crate::{Identifiers, Triple};
 pub use fault::VersionFault;
+use semver_texts::end::EndVersion;
+use semver_texts::{Identifiers, Triple};
 use std::cmp::Ordering;
 use std::marker::Model;
 
@@ -40,8 +40,8 @@ pub struct VersionRef<'a> {
 }
 
 impl<'a> Model for VersionRef<'a> {
-    ghost use Rattle.semver_versions.specs.Version.{VersionValue};
-    ghost use Rattle.semver_versions.specs.VersionText.{IsVersionText};
+    ghost use Rattle.semver_texts.specs.Version.{VersionValue};
+    ghost use Rattle.semver_texts.specs.VersionText.{IsVersionText};
 
     ghost Value = { VersionValue };
 

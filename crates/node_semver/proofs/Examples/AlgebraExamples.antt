@@ -7,10 +7,10 @@ use Rattle.std.specs.List.{AllByRecursion, list_any}
 use Rattle.semver_cuts.specs.CommonSpans.{common_spans}
 use Rattle.semver_cuts.specs.Ends.{Ends}
 use Rattle.semver_sets.specs.Comparator.{at_least, below, from_up_to}
-use Rattle.semver_versions.specs.Comparison.{version_cmp}
+use Rattle.semver_texts.specs.Comparison.{version_cmp}
 use Rattle.semver_sets.specs.Meaning.{Admit, AnyByRecursion}
 use Rattle.semver_sets.specs.RangePrint.{range_text}
-use Rattle.semver_versions.specs.Version.{VersionValue, release}
+use Rattle.semver_texts.specs.Version.{VersionValue, release}
 use Rattle.semver_sets.specs.Lemmas.Deciding.{admit, admit-iff, any-iff}
 use Rattle.semver_sets.proofs.Examples.SetComputing.{Sets, merged-by, sets_in}
 use Rattle.semver_sets.proofs.Examples.WordExamples.{prerelease}

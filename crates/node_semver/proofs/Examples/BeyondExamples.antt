@@ -3,9 +3,9 @@ use Rattle.std.proofs.Common.{◌≡◌, ℕ, List, [], ◌∷◌, codes, true, 
 use Rattle.semver_cuts.specs.declared.cut.Cut.TheVariants.{Start, Before, After}
 use Rattle.semver_cuts.specs.Ends.{Ends, span_between}
 use Rattle.semver_sets.specs.Comparator.{at_least}
-use Rattle.semver_versions.specs.IdentifierValue.{IdentifierValue, alphanumeric, numeric}
-use Rattle.semver_versions.specs.Version.{VersionValue, least_of, release}
-use Rattle.semver_versions.specs.Lemmas.Public.{version-Less}
+use Rattle.semver_texts.specs.IdentifierValue.{IdentifierValue, alphanumeric, numeric}
+use Rattle.semver_texts.specs.Version.{VersionValue, least_of, release}
+use Rattle.semver_texts.specs.Lemmas.Public.{version-Less}
 use Rattle.node_semver.specs.Greatest.{IsGreatestAdmitted}
 use Rattle.node_semver.specs.Least.{AdmitsBeyond, ContainsBeyond, IsLeastBeyond}
 use Rattle.node_semver.proofs.Least.BeyondAnswers.{range_admits, range_admits-iff, range_contains, range_contains-iff}

@@ -4,9 +4,9 @@ use Rattle.semver_cuts.specs.declared.cut.Cut.TheVariants.{Start, Before}
 use Rattle.semver_cuts.specs.Ends.{Ends, span_between}
 use Rattle.semver_sets.specs.Comparator.{at_least}
 use Rattle.semver_sets.specs.Meaning.{RangeContains}
-use Rattle.semver_versions.specs.IdentifierValue.{alphanumeric, numeric}
-use Rattle.semver_versions.specs.Lemmas.Public.{none-below_first, version-Less}
-use Rattle.semver_versions.specs.Version.{VersionValue, least_of, release}
+use Rattle.semver_texts.specs.IdentifierValue.{alphanumeric, numeric}
+use Rattle.semver_texts.specs.Lemmas.Public.{none-below_first, version-Less}
+use Rattle.semver_texts.specs.Version.{VersionValue, least_of, release}
 use Rattle.node_semver.specs.Least.{BothAdmit, IsLeastCommon, IsLeastContained}
 use Rattle.node_semver.proofs.Least.BeyondAnswers.{range_admits, range_admits-iff, range_contains-iff}
 use Rattle.node_semver.proofs.Least.LeastLemmas.{before-floor}

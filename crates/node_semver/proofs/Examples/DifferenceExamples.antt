@@ -12,10 +12,10 @@ use Rattle.semver_cuts.specs.Difference.{AreDifference, IsInDifference, IsPiece,
 use Rattle.semver_cuts.specs.Sharing.{CoversAll}
 use Rattle.semver_cuts.specs.Lemmas.Ends.{at_most_trans, at_most-or-below, below-not-at_most}
 use Rattle.semver_sets.specs.Comparator.{above, at_least, with_major, with_minor}
-use Rattle.semver_versions.specs.Comparison.{version_cmp}
-use Rattle.semver_versions.specs.IdentifierValue.{alphanumeric}
-use Rattle.semver_versions.specs.Lemmas.Public.{version_total}
-use Rattle.semver_versions.specs.Version.{VersionValue, least_of, release}
+use Rattle.semver_texts.specs.Comparison.{version_cmp}
+use Rattle.semver_texts.specs.IdentifierValue.{alphanumeric}
+use Rattle.semver_texts.specs.Lemmas.Public.{version_total}
+use Rattle.semver_texts.specs.Version.{VersionValue, least_of, release}
 use Rattle.semver_sets.proofs.Examples.SetComputing.{Sets, merged-by, sets_in}
 use Rattle.semver_sets.proofs.Examples.SetExamples.{from_to}
 use Rattle.node_semver.specs.Least.{build_at}

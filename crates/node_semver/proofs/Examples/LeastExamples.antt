@@ -4,12 +4,13 @@ use Rattle.std.specs.List.{AllByRecursion}
 use Rattle.semver_cuts.specs.declared.cut.Cut.TheVariants.{Before, After}
 use Rattle.semver_cuts.specs.Ends.{Ends, IsCutAtMost, span_between}
 use Rattle.semver_sets.specs.Comparator.{at_least}
-use Rattle.semver_versions.specs.Comparison.{version_cmp}
-use Rattle.semver_versions.specs.IdentifierValue.{IdentifierValue, alphanumeric, numeric}
+use Rattle.semver_texts.specs.Comparison.{version_cmp}
+use Rattle.semver_texts.specs.IdentifierValue.{IdentifierValue, alphanumeric, numeric}
 use Rattle.semver_sets.specs.Meaning.{SetAdmits}
-use Rattle.semver_versions.specs.Order.{IsBelow, before_release}
-use Rattle.semver_versions.specs.Version.{VersionValue, least_of, release}
-use Rattle.semver_versions.specs.Lemmas.Public.{next-above, none-before_next, version-Less}
+use Rattle.semver_texts.specs.Order.{IsBelow, before_release}
+use Rattle.semver_texts.specs.Version.{VersionValue, least_of, release}
+use Rattle.semver_versions.specs.Lemmas.Public.{next-above, none-before_next}
+use Rattle.semver_texts.specs.Lemmas.Public.{version-Less}
 use Rattle.node_semver.specs.Least.{AdmitsNone, HasBuildOfFirst, IsLeastAdmitted, build_at}
 use Rattle.semver_versions.specs.VersionSteps.{HasGreatestPatch, next_version}
 use Rattle.node_semver.proofs.Least.LeastLemmas.{after-floor}

@@ -7,7 +7,7 @@ use Rattle.semver_cuts.specs.declared.cut.Cut.{Cut}
 use Rattle.semver_cuts.specs.declared.cut.Cut.TheVariants.{Before}
 use Rattle.semver_sets.specs.Comparator.{Comparator, at_least, below, with_major}
 use Rattle.semver_sets.specs.Meaning.{AnyByRecursion, IsRefused}
-use Rattle.semver_versions.specs.Version.{VersionValue, least_of, release}
+use Rattle.semver_texts.specs.Version.{VersionValue, least_of, release}
 use Rattle.semver_sets.proofs.Ranges.AlternativeLemmas.{written-unique}
 use Rattle.semver_sets.proofs.Ranges.MeaningLemmas.{NoneGive, none-from_refused}
 use Rattle.semver_sets.proofs.Examples.RangeComputing.{alternatives_in}

@@ -6,7 +6,7 @@ use Rattle.std.specs.List.{list_any}
 use Rattle.semver_cuts.specs.declared.cut.Cut.TheVariants.{Before}
 use Rattle.semver_cuts.specs.Ends.{Ends}
 use Rattle.semver_sets.specs.Meaning.{IsInside, RangeAdmits, RangeContains, SetAdmits}
-use Rattle.semver_versions.specs.Version.{VersionValue}
+use Rattle.semver_texts.specs.Version.{VersionValue}
 use Rattle.semver_sets.specs.Lemmas.Deciding.{admit, admit-iff, any-iff, holds, holds-iff}
 use Rattle.node_semver.specs.Least.{IsNoneOf}
 use Rattle.node_semver.specs.Private.CandidateViews.{AreEndsTried, AreWantedBeyond, IsLeastOrNone}

@@ -9,11 +9,11 @@ use Rattle.semver_cuts.specs.declared.cut.Cut.TheVariants.{Before}
 use Rattle.semver_cuts.specs.Ends.{Ends, IsCutAtMost, IsCutBelow}
 use Rattle.semver_cuts.specs.Lemmas.Lists.{all_map}
 use Rattle.semver_cuts.specs.Lemmas.Ends.{at_most-below, at_most-or-below, at_most_trans}
-use Rattle.semver_versions.specs.Comparison.{version_cmp}
-use Rattle.semver_versions.specs.IdentifierValue.{IdentifierValue}
+use Rattle.semver_texts.specs.Comparison.{version_cmp}
+use Rattle.semver_texts.specs.IdentifierValue.{IdentifierValue}
 use Rattle.semver_sets.specs.Meaning.{Opens, SetAdmits}
-use Rattle.semver_versions.specs.Version.{IsPrerelease, VersionValue}
-use Rattle.semver_versions.specs.Lemmas.Public.{Less-version, none-below_least, version-Less, version_total}
+use Rattle.semver_texts.specs.Version.{IsPrerelease, VersionValue}
+use Rattle.semver_texts.specs.Lemmas.Public.{Less-version, none-below_least, version-Less, version_total}
 use Rattle.node_semver.specs.Private.CandidateViews.{AreEndsTried, IsLeastOrNone, IsNotBelow, IsSetTried}
 use Rattle.node_semver.specs.Private.CandidateViews.{IsTried, candidates_at}
 use Rattle.node_semver.specs.Private.LeastViews.{IsIn, IsInRange}

@@ -9,10 +9,10 @@ use Rattle.semver_cuts.specs.declared.cut.Cut.{Cut}
 use Rattle.semver_cuts.specs.declared.cut.Cut.TheVariants.{Before, After}
 use Rattle.semver_cuts.specs.Ends.{Ends}
 use Rattle.semver_cuts.specs.Lemmas.Lists.{all-append, all_map}
-use Rattle.semver_versions.specs.Comparison.{version_cmp}
-use Rattle.semver_versions.specs.IdentifierValue.{IdentifierValue}
-use Rattle.semver_versions.specs.Version.{IsPrerelease, VersionValue, release, without_build}
-use Rattle.semver_versions.specs.Lemmas.Public.{version_total}
+use Rattle.semver_texts.specs.Comparison.{version_cmp}
+use Rattle.semver_texts.specs.IdentifierValue.{IdentifierValue}
+use Rattle.semver_texts.specs.Version.{IsPrerelease, VersionValue, release, without_build}
+use Rattle.semver_texts.specs.Lemmas.Public.{version_total}
 use Rattle.semver_versions.specs.VersionSteps.{with_zero}
 use Rattle.node_semver.specs.Private.CandidateViews.{AreEndsTried, AreSetsTried, IsBelowBest, IsCutTrial, IsCutTried}
 use Rattle.node_semver.specs.Private.CandidateViews.{IsOpenTrial, IsSetTrial, IsSetTried, IsStep}

@@ -9,14 +9,18 @@ use Rattle.semver_cuts.specs.declared.cut.Cut.{Cut}
 use Rattle.semver_cuts.specs.declared.cut.Cut.TheVariants.{Start, Before, After, End}
 use Rattle.semver_cuts.specs.Ends.{IsCutAtMost, IsCutBelow}
 use Rattle.semver_cuts.specs.Lemmas.Ends.{at_most_trans}
-use Rattle.semver_versions.specs.Comparison.{version_cmp}
-use Rattle.semver_versions.specs.IdentifierValue.{IdentifierValue, numeric}
+use Rattle.semver_texts.specs.Comparison.{version_cmp}
+use Rattle.semver_texts.specs.IdentifierValue.{IdentifierValue, numeric}
 use Rattle.semver_sets.specs.Meaning.{Opens}
-use Rattle.semver_versions.specs.Version.{HasSameTriple, IsPrerelease, VersionValue, least_of, release, without_build}
-use Rattle.semver_versions.specs.Lemmas.Public.{Less-version, none-below_least, none-between_patches}
-use Rattle.semver_versions.specs.Lemmas.Public.{none-between_zeros, patch-above, prerelease-below}
-use Rattle.semver_versions.specs.Lemmas.Public.{prerelease-from_below, triple-back, triple-between}
-use Rattle.semver_versions.specs.Lemmas.Public.{version_total, with_zero-above}
+use Rattle.semver_texts.specs.Version.{HasSameTriple, IsPrerelease, VersionValue, least_of, release, without_build}
+use Rattle.semver_texts.specs.Lemmas.Public.{Less-version, none-below_least}
+use Rattle.semver_versions.specs.Lemmas.Public.{none-between_patches}
+use Rattle.semver_versions.specs.Lemmas.Public.{none-between_zeros, patch-above}
+use Rattle.semver_texts.specs.Lemmas.Public.{prerelease-below}
+use Rattle.semver_versions.specs.Lemmas.Public.{prerelease-from_below}
+use Rattle.semver_texts.specs.Lemmas.Public.{triple-back, triple-between}
+use Rattle.semver_texts.specs.Lemmas.Public.{version_total}
+use Rattle.semver_versions.specs.Lemmas.Public.{with_zero-above}
 use Rattle.semver_sets.specs.Lemmas.Convex.{by-value, from-cmp}
 use Rattle.semver_versions.specs.VersionSteps.{with_zero}
 use Rattle.node_semver.specs.Private.CandidateViews.{after_by, before_by, candidates_at}

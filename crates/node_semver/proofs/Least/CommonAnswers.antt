@@ -2,7 +2,7 @@
 use native.Mathlib.Omega.{arith}
 use Rattle.std.proofs.Common.{◌≡◌, Bool, List, Option}
 use Rattle.semver_cuts.specs.Ends.{Ends}
-use Rattle.semver_versions.specs.Version.{VersionValue}
+use Rattle.semver_texts.specs.Version.{VersionValue}
 use Rattle.node_semver.specs.Private.CandidateViews.{AreEndsTried, AreWantedOfBoth, IsLeastOrNone}
 use Rattle.node_semver.proofs.Least.CandidateBelow.{best-least}
 use Rattle.node_semver.proofs.Least.HighestCut.{has-between}

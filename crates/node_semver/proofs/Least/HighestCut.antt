@@ -7,10 +7,10 @@ use Rattle.semver_cuts.specs.declared.cut.Cut.TheVariants.{Before}
 use Rattle.semver_cuts.specs.Ends.{Ends, IsCutAtMost}
 use Rattle.semver_cuts.specs.Lemmas.Ends.{at_most-below, at_most-or-below, at_most_refl, at_most_trans}
 use Rattle.semver_cuts.specs.Lemmas.Ends.{below-not-at_most}
-use Rattle.semver_versions.specs.Comparison.{version_cmp}
+use Rattle.semver_texts.specs.Comparison.{version_cmp}
 use Rattle.semver_sets.specs.Meaning.{AnyByRecursion}
-use Rattle.semver_versions.specs.Version.{HasSameTriple, IsPrerelease, VersionValue}
-use Rattle.semver_versions.specs.Lemmas.Public.{triple-back, version_total}
+use Rattle.semver_texts.specs.Version.{HasSameTriple, IsPrerelease, VersionValue}
+use Rattle.semver_texts.specs.Lemmas.Public.{triple-back, version_total}
 use Rattle.node_semver.specs.Least.{IsBeyond}
 use Rattle.node_semver.specs.Private.LeastViews.{IsIn, IsInRange, IsOpenIn}
 use Rattle.node_semver.proofs.Least.LeastLemmas.{is-opened, lies-in, lies-inside, open_in-triple}

@@ -8,14 +8,16 @@ use Rattle.semver_cuts.specs.declared.cut.Cut.{Cut}
 use Rattle.semver_cuts.specs.declared.cut.Cut.TheVariants.{Start, Before, After, End}
 use Rattle.semver_cuts.specs.Ends.{Ends, HoldsCut, IsCutAtMost, IsCutBelow}
 use Rattle.semver_cuts.specs.Lemmas.Ends.{at_most-below, at_most_trans}
-use Rattle.semver_versions.specs.Comparison.{version_cmp}
-use Rattle.semver_versions.specs.IdentifierValue.{IdentifierValue, numeric}
+use Rattle.semver_texts.specs.Comparison.{version_cmp}
+use Rattle.semver_texts.specs.IdentifierValue.{IdentifierValue, numeric}
 use Rattle.semver_sets.specs.Meaning.{IsInside, Opens}
-use Rattle.semver_versions.specs.Order.{IsBelow}
-use Rattle.semver_versions.specs.Version.{HasSameTriple, IsPrerelease, VersionValue, least_of, release}
-use Rattle.semver_versions.specs.Lemmas.Public.{Greater-turned, Less-version, none-below_first, none-between_patches}
-use Rattle.semver_versions.specs.Lemmas.Public.{none-between_zeros, patch-above, prerelease-from_below, triple-back}
-use Rattle.semver_versions.specs.Lemmas.Public.{triple-between, version-Equal, version-Less, version_total}
+use Rattle.semver_texts.specs.Order.{IsBelow}
+use Rattle.semver_texts.specs.Version.{HasSameTriple, IsPrerelease, VersionValue, least_of, release}
+use Rattle.semver_texts.specs.Lemmas.Public.{Greater-turned, Less-version, none-below_first}
+use Rattle.semver_versions.specs.Lemmas.Public.{none-between_patches}
+use Rattle.semver_versions.specs.Lemmas.Public.{none-between_zeros, patch-above, prerelease-from_below}
+use Rattle.semver_texts.specs.Lemmas.Public.{triple-back}
+use Rattle.semver_texts.specs.Lemmas.Public.{triple-between, version-Equal, version-Less, version_total}
 use Rattle.semver_versions.specs.Lemmas.Public.{with_zero-above}
 use Rattle.semver_sets.specs.Lemmas.Convex.{from-cmp}
 use Rattle.node_semver.specs.Least.{build_at}

@@ -10,10 +10,10 @@ use Rattle.std.specs.List.{AllByRecursion}
 use Rattle.std.specs.Prelude.{Result}
 use Rattle.semver_cuts.specs.declared.cut.Cut.TheVariants.{Before}
 use Rattle.semver_cuts.specs.Ends.{Ends}
-use Rattle.semver_versions.specs.Comparison.{version_cmp}
+use Rattle.semver_texts.specs.Comparison.{version_cmp}
 use Rattle.semver_sets.specs.RangeSets.{IsRangeSet}
-use Rattle.semver_versions.specs.Version.{VersionValue}
-use Rattle.semver_versions.specs.Lemmas.Public.{Less-version, version-Less, version_total}
+use Rattle.semver_texts.specs.Version.{VersionValue}
+use Rattle.semver_texts.specs.Lemmas.Public.{Less-version, version-Less, version_total}
 use Rattle.node_semver.specs.Least.{HasBuildOf, IsLeastOf, IsNoneOf}
 use Rattle.node_semver.specs.Private.LeastViews.{IsIn, IsInRange, IsLeastInSet, IsLeastOfSet, IsLeastOfSets, IsLesser}
 use Rattle.node_semver.proofs.Least.LeastLemmas.{at-least, before-least}

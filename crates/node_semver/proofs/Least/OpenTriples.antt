@@ -3,7 +3,7 @@ use native.Mathlib.Omega.{arith}
 use Rattle.semver_cuts.specs.declared.cut.Cut.{Cut}
 use Rattle.semver_cuts.specs.Ends.{Ends}
 use Rattle.semver_sets.specs.Meaning.{HasOpenEnd, Opens}
-use Rattle.semver_versions.specs.Version.{HasSameTriple, VersionValue}
+use Rattle.semver_texts.specs.Version.{HasSameTriple, VersionValue}
 
 triple-along : (u v w : VersionValue) → HasSameTriple u v → HasSameTriple v w → HasSameTriple u w
 triple-along u v w one other = grind arith

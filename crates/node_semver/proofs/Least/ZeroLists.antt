@@ -9,11 +9,11 @@ use Rattle.std.specs.Cmp.Lexicographic.{lists_total, slice_cmp}
 use Rattle.std.specs.Cmp.Derive.Mapped.{lex_map}
 use Rattle.std.specs.FinMap.{slice_cmp-IsAntisymmetric}
 use Rattle.std.proofs.lemmas.List.{map-append}
-use Rattle.semver_versions.specs.Comparison.{identifier_cmp, prerelease_cmp}
-use Rattle.semver_versions.specs.Identifier.{value_of, values_of}
-use Rattle.semver_versions.specs.IdentifierValue.{IdentifierValue, numeric}
-use Rattle.semver_versions.specs.declared.identifier.Identifier.{Identifier}
-use Rattle.semver_versions.specs.Lemmas.Public.{Greater-turned, identifier-IsAntisymmetric, identifier_total}
+use Rattle.semver_texts.specs.Comparison.{identifier_cmp, prerelease_cmp}
+use Rattle.semver_texts.specs.Identifier.{value_of, values_of}
+use Rattle.semver_texts.specs.IdentifierValue.{IdentifierValue, numeric}
+use Rattle.semver_texts.specs.declared.identifier.Identifier.{Identifier}
+use Rattle.semver_texts.specs.Lemmas.Public.{Greater-turned, identifier-IsAntisymmetric, identifier_total}
 use Rattle.semver_versions.specs.Lemmas.Public.{none-before_zero, zero-above}
 use Rattle.node_semver.specs.Private.LeastViews.{with_zeros}
 

@@ -10,10 +10,10 @@ use Rattle.semver_cuts.specs.CommonSpans.{common_spans}
 use Rattle.semver_cuts.specs.Difference.{AreDifference}
 use Rattle.semver_cuts.specs.Lemmas.CommonSpans.{common_spans-ends, common_spans-hold}
 use Rattle.semver_cuts.specs.Lemmas.Difference.{difference-ends, difference-hold}
-use Rattle.semver_versions.specs.Comparison.{version_cmp}
-use Rattle.semver_versions.specs.Lemmas.Public.{version_total}
+use Rattle.semver_texts.specs.Comparison.{version_cmp}
+use Rattle.semver_texts.specs.Lemmas.Public.{version_total}
 use Rattle.semver_sets.specs.RangeSets.{IsRangeCut, IsRangeSet, IsRangeValue}
-use Rattle.semver_versions.specs.Version.{VersionValue}
+use Rattle.semver_texts.specs.Version.{VersionValue}
 use Rattle.node_semver.specs.RangeAlgebra.{sets_of_answer}
 
 -- ---- the sets

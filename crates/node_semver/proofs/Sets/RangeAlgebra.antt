@@ -15,11 +15,11 @@ use Rattle.semver_cuts.specs.Lemmas.CommonSpans.{common_spans-cuts, common_spans
 use Rattle.semver_cuts.specs.Difference.{AreDifference}
 use Rattle.semver_cuts.specs.Lemmas.Difference.{difference-cuts}
 use Rattle.semver_cuts.specs.Lemmas.Lists.{any-map}
-use Rattle.semver_versions.specs.Comparison.{version_cmp}
-use Rattle.semver_versions.specs.Lemmas.Public.{version_total}
+use Rattle.semver_texts.specs.Comparison.{version_cmp}
+use Rattle.semver_texts.specs.Lemmas.Public.{version_total}
 use Rattle.semver_sets.specs.Meaning.{Admit, AnyByRecursion, RangeAdmits, SetAdmits}
 use Rattle.semver_sets.specs.Merging.{IsSetOf}
-use Rattle.semver_versions.specs.Version.{IsPrerelease, VersionValue}
+use Rattle.semver_texts.specs.Version.{IsPrerelease, VersionValue}
 use Rattle.semver_sets.specs.Lemmas.Merging.{merged-admits, set-one, set-push}
 use Rattle.node_semver.specs.RangeAlgebra.{PairAdmits}
 

@@ -8,11 +8,11 @@ use Rattle.semver_cuts.specs.Cut.{cut_cmp}
 use Rattle.semver_cuts.specs.Ends.{AreSameEnds, Ends}
 use Rattle.semver_cuts.specs.Lemmas.CutOrder.{equal-by_kind}
 use Rattle.semver_cuts.specs.Lemmas.Ends.{same_ends-back, same_ends-in_span}
-use Rattle.semver_versions.specs.Comparison.{version_cmp}
-use Rattle.semver_versions.specs.Lemmas.Public.{Equal-version, version_total}
+use Rattle.semver_texts.specs.Comparison.{version_cmp}
+use Rattle.semver_texts.specs.Lemmas.Public.{Equal-version, version_total}
 use Rattle.semver_sets.specs.Meaning.{HasOpenEnd, Opens, RangeAdmits, SetAdmits}
 use Rattle.semver_sets.specs.RangeEquality.{AreSameCuts}
-use Rattle.semver_versions.specs.Version.{HasSameTriple, IsPrerelease, VersionValue}
+use Rattle.semver_texts.specs.Version.{HasSameTriple, IsPrerelease, VersionValue}
 
 -- versions that are the same but for the build open the same triple
 opened-same : (p q v : VersionValue) → version_cmp p q ≡ Equal → IsPrerelease p × HasSameTriple p v

@@ -6,11 +6,11 @@ use Rattle.semver_cuts.specs.SpanLists.{IsInEvery, IsInSome}
 use Rattle.semver_cuts.specs.Ends.{Ends}
 use Rattle.semver_cuts.specs.Lemmas.ChosenEnds.{in_every-between}
 use Rattle.semver_sets.specs.Comparator.{Comparator}
-use Rattle.semver_versions.specs.Comparison.{version_cmp}
+use Rattle.semver_texts.specs.Comparison.{version_cmp}
 use Rattle.semver_sets.specs.Meaning.{AnyByRecursion}
 use Rattle.semver_sets.specs.Merging.{AreSetsOf, AreSetsOfText, no_more, none, one_more}
-use Rattle.semver_versions.specs.Version.{VersionValue}
-use Rattle.semver_versions.specs.Lemmas.Public.{version_total}
+use Rattle.semver_texts.specs.Version.{VersionValue}
+use Rattle.semver_texts.specs.Lemmas.Public.{version_total}
 use Rattle.semver_sets.specs.RangeLaws.{IsWrittenOneWay}
 use Rattle.node_semver.specs.SetTree.{TextHasCut}
 

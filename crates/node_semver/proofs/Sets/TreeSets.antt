@@ -11,13 +11,13 @@ use Rattle.semver_cuts.specs.Difference.{AreDifference, ArePieces}
 use Rattle.semver_cuts.specs.Lemmas.CommonSpans.{common_spans-cuts}
 use Rattle.semver_cuts.specs.Lemmas.Difference.{difference-cuts}
 use Rattle.semver_sets.specs.Comparator.{Comparator}
-use Rattle.semver_versions.specs.Comparison.{version_cmp}
+use Rattle.semver_texts.specs.Comparison.{version_cmp}
 use Rattle.semver_sets.specs.Meaning.{GiveSet, IsRefused}
 use Rattle.semver_sets.specs.RangeLaws.{IsWrittenOneWay}
 use Rattle.semver_sets.specs.Merging.{AreSetsOf, AreSetsOfText, no_more, none}
 use Rattle.semver_sets.specs.RangeSets.{IsRangeSet}
-use Rattle.semver_versions.specs.Version.{VersionValue}
-use Rattle.semver_versions.specs.Lemmas.Public.{version_total}
+use Rattle.semver_texts.specs.Version.{VersionValue}
+use Rattle.semver_texts.specs.Lemmas.Public.{version_total}
 use Rattle.node_semver.specs.RangeAlgebra.{sets_of_answer}
 use Rattle.node_semver.specs.SetTree.{AreSetsOfTree, Formula, InFormula, both, of_text, without}
 use Rattle.node_semver.proofs.Sets.TextCuts.{text-cut}

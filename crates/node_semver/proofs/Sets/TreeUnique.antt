@@ -3,9 +3,9 @@ use native.Mathlib.Omega.{arith}
 use Rattle.std.proofs.Common.{◌≡◌, ◌∙◌, ℕ, List, [], sym, ap, subst, inl, inr}
 use Rattle.semver_cuts.specs.CommonSpans.{common_spans}
 use Rattle.semver_cuts.specs.Difference.{AreDifference}
-use Rattle.semver_versions.specs.Comparison.{version_cmp}
-use Rattle.semver_versions.specs.Lemmas.Public.{version_total}
-use Rattle.semver_versions.specs.Version.{VersionValue}
+use Rattle.semver_texts.specs.Comparison.{version_cmp}
+use Rattle.semver_texts.specs.Lemmas.Public.{version_total}
+use Rattle.semver_texts.specs.Version.{VersionValue}
 use Rattle.semver_sets.specs.Merging.{HasOneMerging}
 use Rattle.node_semver.specs.SetTree.{AdmitInPairs, AreSetsOfTree, Formula, HasOneListOfSets, both, of_text, without}
 use Rattle.node_semver.proofs.Sets.RangeAlgebra.{common-admits}

@@ -8,10 +8,10 @@ use Rattle.std.proofs.lemmas.List.{map-append, take_more}
 use Rattle.std.specs.Cmp.{alike_right}
 use Rattle.std.specs.Option.{option_map}
 use Rattle.semver_cuts.specs.Lemmas.Lists.{all-append, all_map}
-use Rattle.semver_versions.specs.Comparison.{version_cmp}
-use Rattle.semver_versions.specs.Order.{IsBelow, IsSame}
-use Rattle.semver_versions.specs.Version.{VersionValue}
-use Rattle.semver_versions.specs.Lemmas.Public.{version-Equal, version-Less, version_total}
+use Rattle.semver_texts.specs.Comparison.{version_cmp}
+use Rattle.semver_texts.specs.Order.{IsBelow, IsSame}
+use Rattle.semver_texts.specs.Version.{VersionValue}
+use Rattle.semver_texts.specs.Lemmas.Public.{version-Equal, version-Less, version_total}
 use Rattle.node_semver.specs.Greatest.{IsFirstBest, IsGreatestIn, IsLeastIn, IsNoneIn}
 use Rattle.node_semver.specs.Lemmas.GreatestViews.{IsBestOrNone, IsBetterOf, Order, downward, order_of}
 

@@ -7,10 +7,10 @@ use Rattle.std.specs.declared.cmp.Ordering.TheVariants.{Less}
 use Rattle.semver_cuts.specs.declared.cut.Cut.{Cut}
 use Rattle.semver_cuts.specs.declared.cut.Cut.TheVariants.{Start, Before, After, End}
 use Rattle.semver_cuts.specs.Ends.{Ends, IsCutBelow}
-use Rattle.semver_versions.specs.Comparison.{version_cmp}
-use Rattle.semver_versions.specs.IdentifierValue.{IdentifierValue}
+use Rattle.semver_texts.specs.Comparison.{version_cmp}
+use Rattle.semver_texts.specs.IdentifierValue.{IdentifierValue}
 use Rattle.semver_sets.specs.Meaning.{Opens, SetAdmits}
-use Rattle.semver_versions.specs.Version.{VersionValue, least_of, release, without_build}
+use Rattle.semver_texts.specs.Version.{VersionValue, least_of, release, without_build}
 use Rattle.node_semver.specs.Least.{IsBeyond, IsInBoth, IsLeastOf, IsNoneOf}
 use Rattle.node_semver.specs.Private.LeastViews.{IsInRange}
 use Rattle.semver_versions.specs.VersionSteps.{with_zero}

@@ -5,10 +5,10 @@ use Rattle.std.specs.declared.cmp.Ordering.TheVariants.{Less}
 use Rattle.semver_cuts.specs.declared.cut.Cut.{Cut}
 use Rattle.semver_cuts.specs.declared.cut.Cut.TheVariants.{Before}
 use Rattle.semver_cuts.specs.Ends.{Ends, IsCutBelow}
-use Rattle.semver_versions.specs.Comparison.{version_cmp}
-use Rattle.semver_versions.specs.IdentifierValue.{IdentifierValue, numeric}
+use Rattle.semver_texts.specs.Comparison.{version_cmp}
+use Rattle.semver_texts.specs.IdentifierValue.{IdentifierValue, numeric}
 use Rattle.semver_sets.specs.Meaning.{AnyByRecursion, HasOpenEnd, IsInside, Opens, SetAdmits}
-use Rattle.semver_versions.specs.Version.{VersionValue, least_of, release}
+use Rattle.semver_texts.specs.Version.{VersionValue, least_of, release}
 use Rattle.node_semver.specs.Least.{HasBuildOf, IsLeastOf, IsNoneOf, build_at}
 
 -- the identifiers, followed by a 0 if `zero` is true

@@ -9,7 +9,7 @@ ghost use Rattle.semver_sets.specs.RangeHash.{range_writes};
 ghost use Rattle.semver_sets.specs.Lemmas.RangeHash.{range_alike};
 ghost use Rattle.semver_sets.specs.Meaning.{RangeAdmits};
 ghost use Rattle.semver_sets.specs.RangeEquality.{AreSameCuts, are_same_cuts};
-ghost use Rattle.semver_versions.specs.Version.{VersionValue};
+ghost use Rattle.semver_texts.specs.Version.{VersionValue};
 ghost use Rattle.node_semver.specs.Lemmas.RangeEquality.{are_same_cuts-equiv};
 
 use crate::Range;

@@ -4,9 +4,9 @@
 //! tests and a copy of three numbers. `#[inline(never)]` keeps all else, with its stack, out of that way.
 ghost use Rattle.std.specs.Prelude.{◌≡◌, ◌↔◌, Bool, Some, IsFalse, IsTrue, IfOk, IfSome, IsNone};
 ghost use Rattle.std.specs.List.{AllByRecursion};
-ghost use Rattle.semver_versions.specs.Identifier.{values_of};
+ghost use Rattle.semver_texts.specs.Identifier.{values_of};
 ghost use Rattle.semver_sets.specs.RangeSets.{IsRangeSet};
-ghost use Rattle.semver_versions.specs.Version.{release};
+ghost use Rattle.semver_texts.specs.Version.{release};
 ghost use Rattle.node_semver.specs.Least.{AdmitsNone, HasBuildOfFirst, IsLeastAdmitted};
 ghost use Rattle.node_semver.specs.Private.LeastViews.{IsKept, IsLeastOfSet, IsLeastOfSets, IsLeastOfTriple, IsLesser};
 
@@ -20,8 +20,8 @@ pub(crate) mod unbuilt;
 use crate::{Identifier, Range, Version};
 use semver_cuts::{Cut, Span};
 use semver_sets::set::opens;
-use semver_versions::Triple;
-use semver_versions::end::{BorrowedIdentifiers, EndVersion};
+use semver_texts::Triple;
+use semver_texts::end::{BorrowedIdentifiers, EndVersion};
 use std::alloc::{AllocError, Global};
 use unbuilt::Unbuilt;
 

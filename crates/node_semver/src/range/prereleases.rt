@@ -30,7 +30,7 @@ pub struct WithPrereleases<'a> {
 impl<'a> Model for WithPrereleases<'a> {
     ghost use Rattle.std.specs.Prelude.{List};
     ghost use Rattle.semver_cuts.specs.Ends.{Ends};
-    ghost use Rattle.semver_versions.specs.Version.{VersionValue};
+    ghost use Rattle.semver_texts.specs.Version.{VersionValue};
 
     ghost Value = { List (Ends VersionValue) };
 

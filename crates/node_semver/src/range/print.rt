@@ -2,15 +2,15 @@
 
 ghost use Rattle.std.specs.Prelude.{◌++◌, Some, flat_map};
 ghost use Rattle.std.specs.Fmt.{WritesOnOk};
-ghost use Rattle.semver_versions.specs.Print.{version_text};
+ghost use Rattle.semver_texts.specs.Print.{version_text};
 ghost use Rattle.semver_sets.specs.RangePrint.{lower_text, range_text, set_text, upper_text};
 ghost use Rattle.node_semver.specs.Lemmas.RangePrint.{barred_text};
 
 use crate::Range;
 use semver_cuts::{Cut, Span};
 use semver_sets::line::line_of;
-use semver_versions::end::{EndVersion, Zero};
-use semver_versions::line::ROOM;
+use semver_texts::end::{EndVersion, Zero};
+use semver_texts::line::ROOM;
 use semver_versions::version::display::write_version;
 use std::fmt;
 

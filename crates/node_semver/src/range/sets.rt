@@ -4,15 +4,15 @@
 ghost use Rattle.std.specs.Prelude.{◌≡◌, ◌↔◌, ◌≤◌, ◌+◌, length, IfOk, IfSome, IsNone, IsSome, IsTrue};
 ghost use Rattle.std.specs.List.{AllByRecursion, slice_get};
 ghost use Rattle.semver_sets.specs.RangeSets.{IsRangeCut, IsRangeEnd, IsRangeSet, IsRangeValue};
-ghost use Rattle.semver_versions.specs.IdentifierText.{IsReadIdentifier};
-ghost use Rattle.semver_versions.specs.declared.TheConstants.{MAX_SAFE_INTEGER};
+ghost use Rattle.semver_texts.specs.IdentifierText.{IsReadIdentifier};
+ghost use Rattle.semver_texts.specs.declared.TheConstants.{MAX_SAFE_INTEGER};
 
 use crate::range::least::unbuilt::Unbuilt;
 use crate::{MAX_SAFE_INTEGER, Range, Version};
 use semver_cuts::{Cut, Span};
 use semver_sets::set_list::gathered::Gathered;
-use semver_versions::end::EndVersion;
-use semver_versions::parse::written::are_read;
+use semver_texts::end::EndVersion;
+use semver_texts::parse::written::are_read;
 use std::alloc::{AllocError, Global};
 
 impl Range {

@@ -6,8 +6,8 @@ use Rattle.node_semver_c.specs.declared.status.Fault.{Fault}
 use Rattle.semver_versions.specs.Error.{Kind}
 use Rattle.semver_versions.specs.Fault.{IsFault}
 use Rattle.semver_versions.specs.Lemmas.Public.{one_fault, one_reading, version-no_fault}
-use Rattle.semver_versions.specs.Version.{VersionValue}
-use Rattle.semver_versions.specs.VersionText.{IsVersionText}
+use Rattle.semver_texts.specs.Version.{VersionValue}
+use Rattle.semver_texts.specs.VersionText.{IsVersionText}
 
 -- a version text, as `1.2.3`: status 0, and true exactly where its version is admitted
 pub version-answered : (Admits : VersionValue → Type 0) (text : List ℕ) (v : VersionValue) (status : ℕ) (answer : Bool)

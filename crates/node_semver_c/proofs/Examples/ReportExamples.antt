@@ -1,7 +1,7 @@
 -- Worked examples: the status and the fault of a text that is refused.
 use Rattle.std.proofs.Common.{◌≡◌, ◌↔◌, ℕ, List, codes, sym, subst}
 use Rattle.std.specs.Prelude.{Option, None, Err}
-use Rattle.semver_versions.specs.Version.{VersionValue}
+use Rattle.semver_texts.specs.Version.{VersionValue}
 use Rattle.semver_versions.specs.Error.{IsOutOfMemory, IsRefusalAt, Kind, Refusal, context, max_int}
 use Rattle.semver_versions.specs.declared.error.SemverError.{SemverError}
 use Rattle.node_semver_c.specs.Answers.{IsReported}

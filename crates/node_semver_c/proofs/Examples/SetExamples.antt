@@ -6,7 +6,7 @@ use Rattle.node_semver_c.specs.declared.handle.set.CutHandle.{CutHandle}
 use Rattle.node_semver_c.specs.declared.handle.set.SetHandle.{SetHandle}
 use Rattle.semver_cuts.specs.declared.cut.Cut.TheVariants.{Start, Before, After, End}
 use Rattle.semver_cuts.specs.Ends.{span_between}
-use Rattle.semver_versions.specs.Version.{VersionValue}
+use Rattle.semver_texts.specs.Version.{VersionValue}
 
 -- a cut has this kind and this version
 abbrev pub Has : ℕ → Option VersionValue → CutHandle → Type 0

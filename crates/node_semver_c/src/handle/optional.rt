@@ -1,6 +1,6 @@
 //! Handles of versions that may be empty.
 ghost use Rattle.std.specs.Prelude.{◌≡◌, ℕ, MatchOption, Option, Some, None};
-ghost use Rattle.semver_versions.specs.Version.{VersionValue};
+ghost use Rattle.semver_texts.specs.Version.{VersionValue};
 
 use super::Opaque;
 use node_semver::Version;

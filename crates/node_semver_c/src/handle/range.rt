@@ -1,7 +1,7 @@
 //! Handles of ranges.
 ghost use Rattle.std.specs.Prelude.{◌≡◌, ℕ, List, IfOk, MatchOption, Option, Some, None};
 ghost use Rattle.semver_cuts.specs.Ends.{Ends};
-ghost use Rattle.semver_versions.specs.Version.{VersionValue};
+ghost use Rattle.semver_texts.specs.Version.{VersionValue};
 
 use super::Opaque;
 use crate::raw_box::RawBox;

@@ -1,12 +1,13 @@
 -- What is read of some files in npm's form and in OSV's, and what is refused.
-use Rattle.std.proofs.Common.{◌≡◌, ◌∷◌, [], List, ℕ, Some, None, codes, refl}
+use Rattle.std.proofs.Common.{◌≡◌, ◌∷◌, [], List, ℕ, Some, None, codes, false, map, refl, true}
 use Rattle.serde_json.specs.Data.{Data, Items, array, item, member, no_items, no_members, null, object, string}
 use Rattle.node_semver.specs.Versions.{release}
 use Rattle.npm_advisories.specs.Advisories.{AboutValue, in_osv, range_text}
 use Rattle.npm_advisories.specs.Files.{IsFileFault, advisories_of}
 use Rattle.npm_advisories.specs.OsvRanges.{fixed, introduced}
+use Rattle.npm_advisories.specs.Severities.{is_at_least, severity_of_text}
 use Rattle.npm_advisories.specs.declared.fault.FaultKind.TheVariants as Faults
-use Rattle.npm_advisories.specs.declared.severity.Severity.TheVariants.{High, Unknown}
+use Rattle.npm_advisories.specs.declared.severity.Severity.TheVariants.{Critical, High, Info, Low, Moderate, Unknown}
 use Rattle.npm_advisories.proofs.Examples.OsvExamples.{two}
 
 -- an object with one member
@@ -25,6 +26,14 @@ unsaid id = record { id = string id; severity = Unknown; title = None; url = Non
 pub an_object_with_lists_is_npms_form : advisories_of in_npm
     ≡ record { name = codes "a"; about = unsaid (codes "N"); affected = range_text (codes "<2") } ∷ []
 an_object_with_lists_is_npms_form = refl
+
+-- with no range, or `null`, all versions are affected
+pub no_range_is_all_versions : advisories_of (only (codes "a") (array
+    (item (only (codes "id") (string (codes "N"))) (item (object (member (codes "id") (string (codes "N"))
+    (member (codes "vulnerable_versions") null no_members))) no_items))))
+    ≡ record { name = codes "a"; about = unsaid (codes "N"); affected = range_text (codes "*") }
+    ∷ record { name = codes "a"; about = unsaid (codes "N"); affected = range_text (codes "*") } ∷ []
+no_range_is_all_versions = refl
 
 -- a package may be called `id`
 pub a_list_under_id_is_npms_form : advisories_of (only (codes "id") (array no_items)) ≡ []
@@ -74,6 +83,10 @@ the_database_gives_the_severity = refl
 pub another_ecosystem_is_passed_over : advisories_of (osv_of (item (element (codes "PyPI") no_items) no_items)) ≡ []
 another_ecosystem_is_passed_over = refl
 
+pub an_ecosystem_range_is_read : advisories_of (osv_of (item (element (codes "npm")
+    (item (up_to (codes "ECOSYSTEM") (codes "2.0.0")) no_items)) no_items)) ≡ advisories_of in_osvs
+an_ecosystem_range_is_read = refl
+
 pub a_git_range_is_passed_over : advisories_of (osv_of (item (element (codes "npm")
     (item (up_to (codes "GIT") (codes "2.0.0")) no_items)) no_items))
     ≡ record { name = codes "a"; about = unsaid (codes "O"); affected = in_osv [] [] } ∷ []
@@ -85,6 +98,24 @@ pub a_withdrawn_advisory_is_none : advisories_of (object (member (codes "affecte
     no_members)))) ≡ []
 a_withdrawn_advisory_is_none = refl
 
+-- ---- severities
+
+pub the_words_of_npm : map severity_of_text (codes "low" ∷ codes "moderate" ∷ codes "high" ∷ codes "critical" ∷ [])
+    ≡ Low ∷ Moderate ∷ High ∷ Critical ∷ []
+the_words_of_npm = refl
+
+-- `medium` is a word of CVSS, and none of npm's: the advisory is never left out
+pub medium_is_no_word : severity_of_text (codes "medium") ≡ Unknown
+medium_is_no_word = refl
+
+pub moderate_is_between : is_at_least Moderate Low ∷ is_at_least Moderate Moderate ∷ is_at_least Moderate High ∷ []
+    ≡ false ∷ true ∷ true ∷ []
+moderate_is_between = refl
+
+pub low_is_above_info : is_at_least Low Info ∷ is_at_least Low Low ∷ is_at_least Info Low ∷ []
+    ≡ false ∷ true ∷ true ∷ []
+low_is_above_info = refl
+
 -- ---- faults
 
 pub a_version_has_no_fault : IsFileFault in_osvs None
@@ -92,6 +123,17 @@ a_version_has_no_fault is_version told = rw (told.passes (codes "2.0.0") (releas
 
 pub a_string_is_no_file : IsFileFault (string []) (Some (record { kind = Faults.File; name = []; place = 0 }))
 a_string_is_no_file is_version told = refl
+
+-- an element about a repository alone has no `package`, or `null`
+pub no_package_has_no_fault : IsFileFault (osv_of (item (only (codes "package") null) (item (object no_members)
+    no_items))) None
+no_package_has_no_fault is_version told = refl
+
+-- another type of a range, and none
+pub another_type_is_a_fault : IsFileFault (osv_of (item (element (codes "npm")
+    (item (up_to (codes "semver") (codes "2.0.0")) no_items)) no_items))
+    (Some (record { kind = Faults.Type; name = []; place = 0 }))
+another_type_is_a_fault is_version told = refl
 
 -- the second of a list has no `id`
 pub a_fault_has_its_place : IsFileFault (array (item in_osvs (item (only (codes "affected") null) no_items)))

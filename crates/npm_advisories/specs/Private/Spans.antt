@@ -1,5 +1,5 @@
 -- Advisories that were read: which of them hit a version, and spans of versions that are not offered.
-use Rattle.std.specs.Prelude.{◌≡◌, ◌↔◌, List, true}
+use Rattle.std.specs.Prelude.{◌≡◌, ◌↔◌, List, Option, Some, None, true}
 use Rattle.semver_cuts.specs.Ends.{Ends}
 use Rattle.node_semver.specs.RangeAlgebra.{sets_of_answer}
 use Rattle.node_semver.specs.Ranges.{AnyByRecursion, IsRangeValue, RangeContains}
@@ -8,10 +8,15 @@ use Rattle.npm_advisories.specs.Severities.{is_at_least}
 use Rattle.npm_advisories.specs.declared.advisory.Advisory.{Advisory}
 use Rattle.npm_advisories.specs.declared.severity.Severity.{Severity}
 
--- the advisory hits the version
-pub record IsHitBy (level : Severity) (v : VersionValue) (advisory : Advisory) : Type 0 where
+-- the advisory is about the installed version, or that is none
+abbrev pub IsIn : Advisory → Option VersionValue → Type 0
+IsIn advisory (Some v) = RangeContains (sets_of_answer advisory.range) v
+IsIn advisory None = Unit {0}
+
+-- the advisory hits it
+pub record IsHitBy (level : Severity) (installed : Option VersionValue) (advisory : Advisory) : Type 0 where
   pub severe : is_at_least level advisory.about.severity ≡ true
-  pub contained : RangeContains (sets_of_answer advisory.range) v
+  pub contained : IsIn advisory installed
 
 -- one of the advisories is about the version
 abbrev pub IsInRange : List Advisory → VersionValue → Type 0

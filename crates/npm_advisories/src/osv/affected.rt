@@ -5,7 +5,6 @@ ghost use Rattle.std.specs.Result.{result_err};
 ghost use Rattle.serde_json.specs.Find.{as_str};
 ghost use Rattle.serde_json.specs.View.{items_view, view};
 ghost use Rattle.node_semver.specs.Ranges.{AnyByRecursion};
-ghost use Rattle.npm_advisories.specs.Advisories.{text_of};
 ghost use Rattle.npm_advisories.specs.OsvFaults as Faults;
 ghost use Rattle.npm_advisories.specs.OsvForm as Form;
 ghost use Rattle.npm_advisories.specs.OsvRanges.{IsInEvents, IsTextOfSame};
@@ -40,7 +39,7 @@ pub(crate) fn range_of(alloc: Global, one: &Value) -> Result<Option<Range>, Unre
     Ok(Range::from_sets(alloc, &spans)?)
 }
 
-/// The spans of all ranges of type `SEMVER`.
+/// The spans of all ranges that have versions.
 fn spans_of_ranges(alloc: Global, ranges: &[Value]) -> Result<Vec<Span<Version>>, Unread>
     ensures read { IfOk result (λ spans. Have spans.items
         (λ v. AnyByRecursion (λ events. IsInEvents events v) (Form.ranges_of (items_view ranges.now)))) }
@@ -56,31 +55,31 @@ fn spans_of_ranges(alloc: Global, ranges: &[Value]) -> Result<Vec<Span<Version>>
     Ok(spans)
 }
 
-/// The spans of a range; none if it is of another type.
+/// The spans of a range; none if it has no versions.
 fn spans_of_range(alloc: Global, range: &Value) -> Result<Vec<Span<Version>>, Unread>
     ensures read { IfOk result (λ spans. Have spans.items (λ v. AnyByRecursion (λ events. IsInEvents events v)
-        (if Form.is_semver (view range.now) then Form.events_of (Form.items_at (codes "events") (view range.now)) ∷ []
+        (if Form.has_versions (view range.now) then Form.events_of (Form.items_at (codes "events") (view range.now)) ∷ []
         else []))) }
     ensures sound { OnOk result (Faults.osv_range_fault is_version (view range.now) ≡ None) }
     ensures refused { IfErr result (IsUnreadAs (Faults.osv_range_fault is_version (view range.now))) }
 {
-    if !is_semver(range)? {
+    if !has_versions(range)? {
         return Ok(Vec::new(alloc));
     }
     let events = items_at(range, "events", FaultKind::Events)?;
     let marks = marks_of(alloc, events)?;
-    Ok(spans_of_marks(alloc, &marks)?)
+    Ok(spans_of_marks(alloc, marks)?)
 }
 
-/// Returns `true` if the type of a range is `SEMVER`.
-fn is_semver(range: &Value) -> Result<bool, FaultKind>
-    ensures semver { IfOk result (λ is. is ≡ Form.is_semver (view range.now)) }
-    ensures fault { result_err result
-        ≡ (if is_some (text_of (codes "type") (view range.now)) then None else Some Kinds.Type) }
+/// Returns `true` if a range has versions, and not commits.
+fn has_versions(range: &Value) -> Result<bool, FaultKind>
+    ensures versions { IfOk result (λ has. has ≡ Form.has_versions (view range.now)) }
+    ensures fault { result_err result ≡ Faults.type_fault (view range.now) }
 {
     match text_at(range, "type") {
-        Some(text) => Ok(text == "SEMVER"),
-        None => Err(FaultKind::Type),
+        Some("SEMVER" | "ECOSYSTEM") => Ok(true),
+        Some("GIT") => Ok(false),
+        _ => Err(FaultKind::Type),
     }
 }
 

@@ -1,17 +1,17 @@
 //! The events of a range, as marks at cuts.
-ghost use Rattle.std.specs.Prelude.{◌≡◌, ◌++◌, ◌∷◌, [], IfErr, IfOk, None, OnOk, option_map};
-ghost use Rattle.std.specs.List.{AllZip};
+ghost use Rattle.std.specs.Prelude.{◌≡◌, IfErr, IfOk, None, OnOk, option_map};
 ghost use Rattle.serde_json.specs.View.{items_view, view};
 ghost use Rattle.node_semver.specs.Versions.{IsVersionText};
 ghost use Rattle.npm_advisories.specs.OsvFaults as Faults;
 ghost use Rattle.npm_advisories.specs.OsvForm as Form;
-ghost use Rattle.npm_advisories.specs.OsvRanges.{introduced};
-ghost use Rattle.npm_advisories.specs.Private.OsvReading.{IsMark, event_value, place_fault, version_fault};
+ghost use Rattle.npm_advisories.specs.OsvRanges.{introduced, limit};
+ghost use Rattle.npm_advisories.specs.Private.OsvReading.{AreMarks, IsMark, event_value, place_fault, version_fault};
 ghost use Rattle.npm_advisories.specs.Private.Reading.{IsUnreadAs};
 ghost use Rattle.npm_advisories.specs.Private.VersionTest.{is_version};
 
 use crate::Result;
 use crate::fault::{FaultKind, Unread};
+use crate::osv::marks::{Mark, Marks};
 use node_semver::{Version, VersionRef};
 use semver_cuts::Cut;
 use serde_json::Value;
@@ -23,38 +23,25 @@ enum Event<'v> {
     Introduced(&'v str),
     Fixed(&'v str),
     LastAffected(&'v str),
-}
-
-/// Where a fault is introduced, or where it ends.
-#[derive(Drop)]
-pub(crate) enum Mark {
-    Introduced(Cut<Version>),
-    Ended(Cut<Version>),
+    Limit(&'v str),
 }
 
 /// The marks of the events of a range.
-pub(crate) fn marks_of(alloc: Global, events: &[Value]) -> Result<Vec<Mark>, Unread>
-    ensures read { IfOk result (λ marks. AllZip IsMark (Form.events_of (items_view events.now)) marks.items) }
+pub(crate) fn marks_of(alloc: Global, events: &[Value]) -> Result<Marks, Unread>
+    ensures read { IfOk result (AreMarks (Form.events_of (items_view events.now))) }
     ensures sound { OnOk result (Faults.first_fault (Faults.event_fault is_version) (items_view events.now) ≡ None) }
     ensures refused { IfErr result
         (IsUnreadAs (Faults.first_fault (Faults.event_fault is_version) (items_view events.now))) }
 {
-    let mut marks = Vec::new(alloc);
+    let mut marks = Marks::new(alloc);
     for value in events {
         let Some(event) = event_of(value) else {
             return Err(Unread::Refused(FaultKind::Event));
         };
         let mark = mark_of(alloc, event)?;
-        add_mark(&mut marks, mark)?;
+        marks.add(mark)?;
     }
     Ok(marks)
-}
-
-fn add_mark(marks: &mut Vec<Mark>, mark: Mark) -> Result<()>
-    ensures { OnOk result (marks.new.items ≡ marks.old.items ++ mark ∷ []) }
-{
-    marks.push(mark)?;
-    Ok(())
 }
 
 /// The event of an object, if it has one of the members and no other.
@@ -68,6 +55,7 @@ fn event_of(value: &Value) -> Option<Event<'_>>
         (Some(text), None, None, None) => Some(Event::Introduced(text.as_str()?)),
         (None, Some(text), None, None) => Some(Event::Fixed(text.as_str()?)),
         (None, None, Some(text), None) => Some(Event::LastAffected(text.as_str()?)),
+        (None, None, None, Some(text)) => Some(Event::Limit(text.as_str()?)),
         _ => None,
     }
 }
@@ -82,6 +70,7 @@ fn mark_of(alloc: Global, event: Event<'_>) -> Result<Mark, Unread>
         Event::Introduced(text) => start_of(alloc, text),
         Event::Fixed(text) => Ok(Mark::Ended(Cut::Before(version_of(alloc, text)?))),
         Event::LastAffected(text) => Ok(Mark::Ended(Cut::After(version_of(alloc, text)?))),
+        Event::Limit(text) => limit_of(alloc, text),
     }
 }
 
@@ -95,6 +84,19 @@ fn start_of(alloc: Global, text: &str) -> Result<Mark, Unread>
     match text {
         "0" => Ok(Mark::Introduced(Cut::Start)),
         _ => Ok(Mark::Introduced(Cut::Before(version_of(alloc, text)?))),
+    }
+}
+
+/// The mark of a limit: after all versions for `*`.
+#[tactic(auto, using(crate::proofs::OsvMarks::limit_read))]
+fn limit_of(alloc: Global, text: &str) -> Result<Mark, Unread>
+    ensures read { IfOk result (IsMark (limit text.now)) }
+    ensures sound { OnOk result (place_fault (limit text.now) ≡ None) }
+    ensures refused { IfErr result (IsUnreadAs (place_fault (limit text.now))) }
+{
+    match text {
+        "*" => Ok(Mark::Limited(Cut::End)),
+        _ => Ok(Mark::Limited(Cut::Before(version_of(alloc, text)?))),
     }
 }
 

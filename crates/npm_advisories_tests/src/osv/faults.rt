@@ -29,7 +29,7 @@ const TEXTS: [(&str, &str); 10] = [
 ];
 
 // Members of an element of `affected`, and the fault.
-const MEMBERS: [(&str, &str); 9] = [
+const MEMBERS: [(&str, &str); 13] = [
     (r#""ranges": {}"#, "Ranges  0"),
     (r#""ranges": [{"events": []}]"#, "Type  0"),
     (
@@ -53,9 +53,20 @@ const MEMBERS: [(&str, &str); 9] = [
         "Event  0",
     ),
     (
-        r#""ranges": [{"type": "SEMVER", "events": [{"introduced": "0"}, {"limit": "1.0.0"}]}]"#,
+        r#""ranges": [{"type": "SEMVER", "events": [{"introduced": "0"}, {"limit": "1.0"}]}]"#,
         "Event  0",
     ),
+    (
+        r#""ranges": [{"type": "SEMVER", "events": [{"limit": "1.0.0", "fixed": "1.0.0"}]}]"#,
+        "Event  0",
+    ),
+    (
+        r#""ranges": [{"type": "ECOSYSTEM", "events": [{"introduced": "*"}]}]"#,
+        "Event  0",
+    ),
+    (r#""ranges": [{"type": "semver", "events": []}]"#, "Type  0"),
+    // Of two faults the first is told.
+    (r#""ranges": [{"type": 1}], "versions": 1"#, "Type  0"),
     (r#""versions": "1.0.0""#, "Versions  0"),
 ];
 

@@ -1,8 +1,8 @@
 -- What the definitions say of some specs, and of how npm reads a range.
-use Rattle.std.proofs.Common.{◌≡◌, true, false, codes, refl}
+use Rattle.std.proofs.Common.{◌≡◌, true, false, codes, refl, Some, None}
 use lib.Utf8.{encode}
 use Rattle.std.specs.Str.{chars, trim_end, trim_start}
-use Rattle.npm_lock.specs.RangeText.{in_registry, is_tag, location, refused, spec_of}
+use Rattle.npm_lock.specs.RangeText.{aliased_name, in_registry, is_tag, location, refused, spec_of}
 use Rattle.npm_lock.specs.Verdict.{asks_for_any}
 
 pub the_empty_spec_is_any : spec_of (codes "") ≡ in_registry (codes "*")
@@ -14,6 +14,21 @@ an_alias_without_a_range_is_any = refl
 -- npm reads this as the empty range, which admits no prerelease, and not as `*`
 pub an_alias_of_nothing : spec_of (codes "npm:") ≡ in_registry (codes "")
 an_alias_of_nothing = refl
+
+pub the_name_of_an_alias : aliased_name (codes "npm:a@^1") ≡ Some (codes "a")
+the_name_of_an_alias = refl
+
+pub the_name_of_an_alias_with_a_scope : aliased_name (codes "NPM:@s/a@^1") ≡ Some (codes "@s/a")
+the_name_of_an_alias_with_a_scope = refl
+
+pub a_scope_and_a_name_alone : aliased_name (codes "npm:@s/a") ≡ Some (codes "@s/a")
+a_scope_and_a_name_alone = refl
+
+pub an_alias_of_a_range_has_no_name : aliased_name (codes "npm:^1") ≡ None
+an_alias_of_a_range_has_no_name = refl
+
+pub a_refused_alias_has_no_name : aliased_name (codes "npm:a@github:b/c") ≡ None
+a_refused_alias_has_no_name = refl
 
 pub a_blank_is_not_any : asks_for_any (codes " ") ≡ false
 unfolding trim_start trim_end chars encode

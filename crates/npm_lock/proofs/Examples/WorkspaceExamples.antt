@@ -10,6 +10,16 @@ one pattern = item (string pattern) no_items
 pub a_folder : by_patterns (codes "w") (one (codes "./w")) ≡ Is
 a_folder = refl
 
+pub a_slash_at_the_start : by_patterns (codes "packages/a") (one (codes "/packages/*")) ≡ Is
+a_slash_at_the_start = refl
+
+pub slashes_at_the_start : by_patterns (codes "w") (one (codes ".//w")) ≡ Is
+slashes_at_the_start = refl
+
+-- npm takes `./` from the start of a text alone
+pub a_dot_after_a_slash : by_patterns (codes "w") (one (codes "/./w")) ≡ IsNot
+a_dot_after_a_slash = refl
+
 pub another_folder : by_patterns (codes "v") (one (codes "w")) ≡ IsNot
 another_folder = refl
 

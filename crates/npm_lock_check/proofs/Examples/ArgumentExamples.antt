@@ -1,12 +1,12 @@
 -- What the definitions say of some arguments.
-use Rattle.std.proofs.Common.{◌≡◌, ◌∷◌, [], Err, Ok, Some, codes, refl, true}
-use Rattle.npm_lock.specs.declared.problem.Kind.TheVariants.{Engine, Missing, PeerLocal}
-use Rattle.npm_lock_check.specs.Arguments.{read_arguments, nothing_asked}
-use Rattle.npm_lock_check.specs.Kinds.{named_by, no_kinds, with_kind}
+use Rattle.std.proofs.Common.{◌≡◌, ◌∷◌, [], Err, Ok, Some, codes, false, map, refl, true}
+use Rattle.npm_advisories.specs.declared.severity.Severity.TheVariants.{High}
+use Rattle.npm_lock.specs.declared.problem.Kind.TheVariants.{Engine, Invalid, Missing, PeerLocal}
+use Rattle.npm_lock_check.specs.Arguments.{no_kind, no_severity, no_value, nothing_asked, read_arguments, second_file, unknown_option}
+use Rattle.npm_lock_check.specs.Kinds.{has, named_by, no_kinds, with_kind, with_named}
 use Rattle.npm_lock_check.specs.declared.arguments.Format.TheVariants.{Json}
-use Rattle.npm_lock_check.specs.declared.arguments.Shown.TheVariants.{Help}
-use Rattle.npm_lock_check.specs.declared.kinds.Ignorable.TheVariants.{Problem}
-use Rattle.npm_lock_check.specs.declared.run_error.RunError.TheVariants.{Kind, NoValue, SecondFile, UnknownOption}
+use Rattle.npm_lock_check.specs.declared.arguments.Shown.TheVariants.{Help, Version}
+use Rattle.npm_lock_check.specs.declared.kinds.Ignorable.TheVariants.{Group, Problem}
 
 pub no_word : read_arguments [] ≡ Ok nothing_asked
 no_word = refl
@@ -36,21 +36,38 @@ help = refl
 pub a_hyphen_is_a_file : read_arguments (codes "-" ∷ []) ≡ Ok (record nothing_asked { file = Some (codes "-") })
 a_hyphen_is_a_file = refl
 
-pub two_files : read_arguments (codes "-" ∷ codes "a.json" ∷ []) ≡ Err SecondFile
+pub two_files : read_arguments (codes "-" ∷ codes "a.json" ∷ []) ≡ Err (second_file (codes "a.json"))
 two_files = refl
 
-pub no_value : read_arguments (codes "a.json" ∷ codes "--node" ∷ []) ≡ Err NoValue
-no_value = refl
+pub a_missing_value : read_arguments (codes "a.json" ∷ codes "--node" ∷ []) ≡ Err (no_value (codes "--node"))
+a_missing_value = refl
 
-pub the_first_error_counts : read_arguments (codes "--nodes" ∷ codes "--ignore" ∷ codes "all" ∷ []) ≡ Err UnknownOption
+pub the_first_error_counts : read_arguments (codes "--nodes" ∷ codes "--ignore" ∷ codes "all" ∷ [])
+    ≡ Err (unknown_option (codes "--nodes"))
 the_first_error_counts = refl
 
 -- the word of the JSON object has a blank, and is no word of the command line
-pub no_kind : read_arguments (codes "--ignore" ∷ codes "peer local" ∷ []) ≡ Err Kind
-no_kind = refl
+pub another_kind : read_arguments (codes "--ignore" ∷ codes "peer local" ∷ [])
+    ≡ Err (no_kind (codes "peer local"))
+another_kind = refl
 
-pub a_kind_is_not_left_out_by_another : named_by (codes "engine") ≡ Some (Problem Engine)
-a_kind_is_not_left_out_by_another = refl
+pub an_engine : named_by (codes "engine") ≡ Some (Problem Engine)
+an_engine = refl
+
+pub a_group : named_by (codes "group") ≡ Some Group
+a_group = refl
+
+pub what_does_not_fit : named_by (codes "invalid") ≡ Some (Problem Invalid)
+what_does_not_fit = refl
+
+-- a kind is left out by itself and by no other
+pub each_kind_by_itself : map (has (with_named no_kinds (Problem Invalid)))
+    (Missing ∷ Invalid ∷ PeerLocal ∷ Engine ∷ []) ≡ false ∷ true ∷ false ∷ false ∷ []
+each_kind_by_itself = refl
+
+pub a_group_is_no_kind_of_problem : map (has (with_named no_kinds Group))
+    (Missing ∷ Invalid ∷ PeerLocal ∷ Engine ∷ []) ≡ false ∷ false ∷ false ∷ false ∷ []
+a_group_is_no_kind_of_problem = refl
 
 -- `--unchecked` has no value, so the word after it is the file
 pub more_options : read_arguments (codes "--unchecked" ∷ codes "a.json" ∷ codes "--manifest"
@@ -61,3 +78,52 @@ pub more_options : read_arguments (codes "--unchecked" ∷ codes "a.json" ∷ co
       file = Some (codes "a.json");
     })
 more_options = refl
+
+-- ---- values in the word of their option
+
+pub a_value_in_the_word : read_arguments (codes "--node=20" ∷ codes "--manifest=package.json" ∷ codes "--format=json"
+    ∷ codes "--ignore=missing" ∷ codes "--advisories=a=b.json" ∷ codes "--severity=high" ∷ codes "a.json" ∷ [])
+    ≡ Ok (record nothing_asked {
+      node = Some (codes "20");
+      manifest = Some (codes "package.json");
+      format = Some Json;
+      ignored = with_kind no_kinds Missing;
+      advisories = Some (codes "a=b.json");
+      level = High;
+      file = Some (codes "a.json");
+    })
+a_value_in_the_word = refl
+
+pub an_empty_value : read_arguments (codes "--manifest=" ∷ codes "a.json" ∷ [])
+    ≡ Ok (record nothing_asked { manifest = Some []; file = Some (codes "a.json") })
+an_empty_value = refl
+
+-- an option without a value takes none
+pub no_value_for_unchecked : read_arguments (codes "--unchecked=yes" ∷ []) ≡ Err (unknown_option (codes "--unchecked=yes"))
+no_value_for_unchecked = refl
+
+-- a file may have a `=`
+pub a_file_with_an_equals_sign : read_arguments (codes "node=20" ∷ []) ≡ Ok (record nothing_asked { file = Some (codes "node=20") })
+a_file_with_an_equals_sign = refl
+
+-- an option takes the word after it, also one that has a `=`
+pub a_word_with_a_value_is_a_value : read_arguments (codes "--manifest" ∷ codes "--node=20" ∷ [])
+    ≡ Ok (record nothing_asked { manifest = Some (codes "--node=20") })
+a_word_with_a_value_is_a_value = refl
+
+-- ---- the last of two
+
+pub the_last_format_counts : read_arguments (codes "--format" ∷ codes "text" ∷ codes "--format=json" ∷ [])
+    ≡ Ok (record nothing_asked { format = Some Json })
+the_last_format_counts = refl
+
+pub the_last_text_shown_counts : read_arguments (codes "--help" ∷ codes "--version" ∷ [])
+    ≡ Ok (record nothing_asked { shown = Some Version })
+the_last_text_shown_counts = refl
+
+-- a fault counts also after `--help`
+pub a_fault_after_help : read_arguments (codes "--help" ∷ codes "--" ∷ []) ≡ Err (unknown_option (codes "--"))
+a_fault_after_help = refl
+
+pub the_least_severity : read_arguments (codes "--severity" ∷ codes "unknown" ∷ []) ≡ Err (no_severity (codes "unknown"))
+the_least_severity = refl

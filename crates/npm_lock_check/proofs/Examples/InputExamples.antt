@@ -1,13 +1,12 @@
 -- What the definitions say of what was read.
 use Rattle.std.proofs.Common.{◌≡◌, ◌∷◌, ℕ, List, [], Option, Result, Some, codes, false, inl, inr, refl, true}
-use Rattle.std.specs.Global.{Vec}
 use Rattle.std.specs.declared.io.ErrorKind.TheVariants.{Other, OutOfMemory}
 use Rattle.serde_json.specs.Data.{Data}
 use Rattle.serde_json.specs.declared.value.Value.{Value}
 use Rattle.npm_lock_check.specs.WatchedValue.{WatchedValue}
 use Rattle.npm_lock_check.specs.Output.{IsInput, IsStopped, IsUnread, has_mark}
 use Rattle.npm_lock_check.specs.Report.{WantedValue}
-use Rattle.npm_lock_check.specs.declared.linked.Linked.{Linked}
+use Rattle.npm_lock_check.specs.declared.linked.Loaded.{Loaded}
 use Rattle.npm_lock_check.specs.declared.run_error.LoadError.{LoadError}
 use Rattle.npm_lock_check.specs.declared.run_error.RunError.TheVariants.{NoJson, NoUtf8, Read}
 use Rattle.npm_lock_check.specs.declared.run_error.StopError.TheVariants.{Check, Load}
@@ -27,7 +26,7 @@ module _ (remaining : List ℕ → Option (List ℕ)) (old : WatchedValue (List 
       (record { inner = []; failure = Some Other }) lock
   after_a_failure_nothing_was_read lock input = cc input.unfailed
 
-module _ (remaining : List ℕ → Option (List ℕ)) (Gives : Value → Result (Vec Linked) LoadError → Type 0)
+module _ (remaining : List ℕ → Option (List ℕ)) (Gives : Value → Result Loaded LoadError → Type 0)
     (wanted : WantedValue) (old : WatchedValue (List ℕ)) where
   pub after_a_failure_nothing_is_no_json : (line column : ℕ)
       → ¬ IsStopped remaining Gives wanted old (record { inner = []; failure = Some Other })

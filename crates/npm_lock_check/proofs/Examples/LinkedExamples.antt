@@ -1,13 +1,16 @@
 -- What the definitions say of the manifests of linked folders.
-use Rattle.std.proofs.Common.{◌≡◌, ◌∷◌, ◌++◌, ℕ, List, [], None, Option, Result, Ok, Some, codes, refl}
+use Rattle.std.proofs.Common.{◌≡◌, ◌∷◌, ◌++◌, ℕ, List, [], None, Result, Ok, Some, codes, refl}
 use Rattle.serde_json.specs.Data.{Data, member, no_members, object, string}
+use Rattle.serde_json.specs.View.{view}
 use Rattle.serde_json.specs.declared.value.Value.{Value}
 use Rattle.npm_lock.specs.ManifestPlace.{as_package}
 use Rattle.npm_lock.specs.declared.fault.Fault.TheVariants as Faults
-use Rattle.npm_lock_check.specs.Linked.{AreRead, LinkedValue}
+use Rattle.npm_lock_check.specs.Linked.{AreRead, LinkedValue, no_folder, one_more}
 use Rattle.npm_lock_check.specs.ManifestFile.{HasNoSlash, IsFolderOf, above, current, path_of}
 use Rattle.npm_lock_check.specs.Output.{linked_fault}
 use Rattle.npm_lock_check.specs.Report.{manifests_of, placed}
+use Rattle.npm_lock_check.specs.declared.linked.Found.{Found}
+use Rattle.npm_lock_check.specs.declared.linked.Found.TheVariants.{Manifest, Nothing, Unread}
 use Rattle.npm_lock_check.specs.declared.run_error.LoadError.{LoadError}
 
 abbrev one : (key : List ℕ) → Data → Data
@@ -51,10 +54,18 @@ no_fault = refl
 
 -- ---- manifests that are read
 
-module _ (Gives : (folder : List ℕ) → Result (Option Value) LoadError → Type 0) where
-  -- no manifest is left out
-  pub what_is_there_counts : ((folder : List ℕ) → ¬ Gives folder (Ok None)) → ¬ AreRead Gives (codes "w" ∷ []) []
-  what_is_there_counts never (AreRead.absent folder folders linked gives rest) = never folder gives
+abbrev v_then_w : List (List ℕ)
+v_then_w = codes "v" ∷ codes "w" ∷ []
+
+module _ (Gives : (folder : List ℕ) → Result Found LoadError → Type 0) (manifest : Value) where
+  -- what is there counts, and what is not read is told
+  pub all_that_is_found : Gives (codes "v") (Ok Unread) → Gives (codes "w") (Ok (Manifest manifest))
+      → AreRead Gives v_then_w (record { linked = at_w (view manifest) ∷ []; unread = codes "v" ∷ [] })
+  all_that_is_found v w = one_more _ _ _ _ _ v (one_more _ _ _ _ _ w (no_folder _))
+
+  pub what_is_not_there_is_left_out : Gives (codes "v") (Ok Nothing) → Gives (codes "w") (Ok (Manifest manifest))
+      → AreRead Gives v_then_w (record { linked = at_w (view manifest) ∷ []; unread = [] })
+  what_is_not_there_is_left_out v w = one_more _ _ _ _ _ v (one_more _ _ _ _ _ w (no_folder _))
 
 -- ---- files
 

@@ -2,8 +2,9 @@
 use Rattle.std.proofs.Common.{◌≡◌, ◌∷◌, ◌++◌, ℕ, List, [], None, Option, Some, codes, false, refl}
 use Rattle.npm_lock.specs.Outcomes.{DependencyValue}
 use Rattle.npm_lock.specs.declared.problem.Kind.TheVariants.{Engine, Invalid, Missing, PeerLocal}
-use Rattle.npm_lock.specs.declared.problem.Reason.TheVariants.{Location, Tag}
-use Rattle.npm_lock_check.specs.Sentence.{asker, last_name, sentence, shown, unchecked_sentence}
+use Rattle.npm_lock.specs.declared.problem.Reason.TheVariants.{Location, Override, Tag, Workspace}
+use Rattle.npm_lock_check.specs.Sentence.{asker, last_name, manifest_words, reason, sentence, unchecked_sentence}
+use Rattle.npm_lock_check.specs.Shown.{shown}
 
 -- of the package in this folder, of this version, on `a`: this spec, and the version that was found
 abbrev on_a : (from : List ℕ) (from_version : Option (List ℕ)) (spec : List ℕ) (version : Option (List ℕ))
@@ -55,6 +56,12 @@ pub a_repository : unchecked_sentence (record {
 }) ≡ codes "a is not checked against github:a/a, which b asks for (node_modules/b): a URL, a repository, a file or a folder"
 a_repository = refl
 
+pub a_pattern : reason Workspace ≡ codes ": a pattern of workspaces that is not read"
+a_pattern = refl
+
+pub an_override : reason Override ≡ codes ": overrides that are not read"
+an_override = refl
+
 -- an escape sequence, a newline and U+009B do not reach a terminal
 pub control_characters : shown (27 ∷ codes "[2J" ++ (10 ∷ 194 ∷ 155 ∷ 127 ∷ [])) ≡ codes "\\x1b[2J\\x0a\\xc2\\x9b\\x7f"
 control_characters = refl
@@ -63,8 +70,15 @@ control_characters = refl
 pub a_backslash : shown (codes "\\x1b\"") ≡ codes "\\\\x1b\\\""
 a_backslash = refl
 
-pub printable : shown (codes " ~@^") ≡ codes " ~@^"
+pub printable : shown (codes " ~@^!#$%&'()*+,-./:;<=>?[]_`{|}") ≡ codes " ~@^!#$%&'()*+,-./:;<=>?[]_`{|}"
 printable = refl
+
+pub a_bracket_and_a_quotation_mark : shown (codes "[\"a\"]") ≡ codes "[\\\"a\\\"]"
+a_bracket_and_a_quotation_mark = refl
+
+-- the last and the first byte that are no printable ASCII
+pub the_ends_of_what_is_printable : shown (31 ∷ 32 ∷ 126 ∷ 127 ∷ []) ≡ codes "\\x1f ~\\x7f"
+the_ends_of_what_is_printable = refl
 
 -- ---- the package that asks
 

@@ -3,9 +3,9 @@ use native.Mathlib.Omega.{arith}
 use Rattle.std.proofs.Common.{◌≡◌, ◌∙◌, ℕ, true, false, List, [], ◌∷◌, ◌++◌, ap, refl, sym, subst, inl, inr}
 use Rattle.std.proofs.lemmas.Bool.{and_parts, cases_Bool}
 use Rattle.std.proofs.lemmas.List.{append-nil, append_assoc}
-use Rattle.semver_versions.specs.Characters.{AreAll, BeginsWithNo}
-use Rattle.semver_versions.specs.Reading.{prefix_of, rest_of}
-use Rattle.semver_versions.specs.Lemmas.Public.{prefix_of-all, prefix_of-no, prefix_of-rest_of, rest_of-no}
+use Rattle.semver_texts.specs.Characters.{AreAll, BeginsWithNo}
+use Rattle.semver_texts.specs.Reading.{prefix_of, rest_of}
+use Rattle.semver_texts.specs.Lemmas.Public.{prefix_of-all, prefix_of-no, prefix_of-rest_of, rest_of-no}
 use Rattle.npm_sets.specs.Private.RefusedViews.{IsBorder}
 use Rattle.npm_sets.specs.RefusedPlace.{ends_in_space}
 use Rattle.npm_sets.specs.WordTexts.{before_first, chunks_of, is_solid, is_space, joined}

@@ -1,15 +1,13 @@
 -- Chunks and words: what is read at the start of a text is the first of its words.
-use Rattle.std.proofs.Common.{◌≡◌, ◌<◌, ◌≤◌, ◌∙◌, ℕ, Bool, true, false, List, [], ◌∷◌, length, ap, arith, refl, sym}
+use Rattle.std.proofs.Common.{◌≡◌, ◌<◌, ◌≤◌, ◌∙◌, ℕ, Bool, true, false, List, [], ◌∷◌, length, arith, refl, sym}
 use Rattle.std.proofs.Common.{subst}
 use Rattle.std.proofs.Common.{inl, inr}
 use Rattle.std.specs.Prelude.{◌==◌, not}
 use Rattle.std.proofs.lemmas.Bool.{cases_Bool, eqb-true}
-use Rattle.semver_versions.specs.Characters.{BeginsWith, BeginsWithNo}
-use Rattle.semver_versions.specs.Reading.{prefix_of, rest_of}
-use Rattle.semver_versions.specs.Lemmas.Public.{prefix_of-rest_of, rest-short, rest_of-no, rest_of-none}
-use Rattle.npm_sets.specs.WordTexts.{before_first, chunks_of, is_empty, is_solid, is_space, joined}
-use Rattle.npm_sets.specs.WordTexts.{lead_of, words_of}
-use Rattle.npm_sets.specs.declared.words.Lead.{Lead}
+use Rattle.semver_texts.specs.Characters.{BeginsWith, BeginsWithNo}
+use Rattle.semver_texts.specs.Reading.{prefix_of, rest_of}
+use Rattle.semver_texts.specs.Lemmas.Public.{prefix_of-rest_of, rest-short, rest_of-no, rest_of-none}
+use Rattle.npm_sets.specs.WordTexts.{before_first, chunks_of, is_solid, is_space, joined}
 
 -- ---- one character
 
@@ -105,63 +103,6 @@ both-shorter text rest others h1 h2 h3 = grind (arith, after-shorter, rest-le)
 -- what is left begins with no white space
 pub left-solid : (text rest : List ℕ) → rest ≡ rest_of is_space text → BeginsWithNo is_space rest
 left-solid text rest same = subst (BeginsWithNo is_space) (sym same) (rest_of-no is_space text)
-
--- ---- words
-
-pub some-is : (text : List ℕ) → ¬ (text ≡ []) → is_empty text ≡ false
-some-is text h1 = grind arith
-
--- a word whose lead has its operand
-pub word-led : (chunk : List ℕ) (chunks : List (List ℕ)) → is_empty (lead_of chunk).1 ≡ false
-    → words_of (chunk ∷ chunks) ≡ lead_of chunk ∷ words_of chunks
-unfolding words_of
-word-led chunk chunks h1 = grind arith
-
--- a lead alone, and the next chunk
-pub word-next : (chunk next : List ℕ) (chunks : List (List ℕ)) → is_empty (lead_of chunk).1 ≡ true
-    → words_of (chunk ∷ next ∷ chunks) ≡ ((lead_of chunk).0, next) ∷ words_of chunks
-unfolding words_of
-word-next chunk next chunks h = rw h refl
-
--- a lead alone, and no more
-pub word-last : (chunk : List ℕ) → words_of (chunk ∷ []) ≡ lead_of chunk ∷ words_of []
-unfolding words_of
-word-last chunk = refl
-
--- the word that is read, with its operand in the same chunk
-pub word-one : (text chunk rest : List ℕ) (lead : Lead) (operand : List ℕ) → BeginsWith is_solid text
-    → chunk ≡ prefix_of is_solid text → rest ≡ rest_of is_space (rest_of is_solid text)
-    → (lead, operand) ≡ lead_of chunk → ¬ (operand ≡ [])
-    → words_of (chunks_of text) ≡ (lead, operand) ∷ words_of (chunks_of rest)
-word-one text chunk rest lead operand h1 h2 h3 h4 h5 = grind (arith, chunk-first, some-is, word-led)
-
-nothing-left : (lead : Lead) → (lead, []) ∷ words_of []
-    ≡ (lead, prefix_of is_solid []) ∷ words_of (chunks_of (rest_of is_space (rest_of is_solid [])))
-unfolding prefix_of rest_of chunks_of
-nothing-left lead = refl
-
--- the same from the rest of the text
-next-word : (chunk rest : List ℕ) (lead : Lead) → (lead, []) ≡ lead_of chunk → BeginsWithNo is_space rest
-    → words_of (chunk ∷ chunks_of rest)
-    ≡ (lead, prefix_of is_solid rest) ∷ words_of (chunks_of (rest_of is_space (rest_of is_solid rest)))
-next-word chunk [] lead led h = grind (arith, chunks-empty, word-last chunk, nothing-left lead)
-next-word chunk (b ∷ rest) lead led h =
-    grind (arith, chunk-first (b ∷ rest) (solid-start b rest h), solid-start b rest h, word-next)
-
--- the word that is read, with its operand in the next chunk
-pub word-two : (text chunk rest next others : List ℕ) (lead : Lead) (operand : List ℕ) → BeginsWith is_solid text
-    → chunk ≡ prefix_of is_solid text → rest ≡ rest_of is_space (rest_of is_solid text)
-    → (lead, operand) ≡ lead_of chunk → operand ≡ []
-    → next ≡ prefix_of is_solid rest → others ≡ rest_of is_space (rest_of is_solid rest)
-    → words_of (chunks_of text) ≡ (lead, next) ∷ words_of (chunks_of others)
-word-two text chunk rest next others lead operand h first after led none second left =
-    let whole : chunks_of text ≡ chunk ∷ chunks_of rest = grind (arith, chunk-first text h) in
-    let alone : (lead, []) ≡ lead_of chunk = ap (λ (l : List ℕ). (lead, l)) (sym none) ∙ led in
-    grind (
-      arith,
-      next-word chunk rest lead alone (left-solid (rest_of is_solid text) rest after),
-      left-solid (rest_of is_solid text) rest after,
-    )
 
 -- ---- what `is_empty` returns
 

@@ -2,8 +2,8 @@
 use native.Mathlib.Omega.{arith}
 use Rattle.std.proofs.Common.{◌≡◌, ℕ, true, false, List, [], ◌∷◌}
 use Rattle.std.specs.Prelude.{◌⊎◌, Some, None}
-use Rattle.semver_versions.specs.Characters.{BeginsWith, BeginsWithNo}
-use Rattle.semver_versions.specs.Reading.{prefix_of, rest_of}
+use Rattle.semver_texts.specs.Characters.{BeginsWith, BeginsWithNo}
+use Rattle.semver_texts.specs.Reading.{prefix_of, rest_of}
 use Rattle.npm_sets.specs.WordTexts.{chunks_of, is_dash, is_solid, is_space}
 use Rattle.npm_sets.specs.WordTexts.{sides_of}
 use Rattle.npm_sets.proofs.Chunks.ChunkLemmas.{chunk-first, chunks-empty, left-solid, prefix-empty, prefix-step}

@@ -4,13 +4,13 @@ use Rattle.std.proofs.Common.{Ok, ap, arith, length, length-append, refl, sym, s
 use Rattle.std.proofs.lemmas.Option.{same_Some}
 use Rattle.std.specs.Prelude.{IsAscii, IsTrue}
 use Rattle.semver_cuts.specs.Lemmas.TwoSpans.{holds-below}
-use Rattle.semver_versions.specs.Characters.{dot}
-use Rattle.semver_versions.specs.IdentifierValue.{IdentifierValue}
-use Rattle.semver_versions.specs.Lemmas.Public.{version_total}
-use Rattle.semver_versions.specs.Lemmas.Public.{clean_extras}
-use Rattle.semver_versions.specs.Reading.{read_extras}
-use Rattle.semver_versions.specs.Version.{release, without_build}
-use Rattle.semver_versions.specs.declared.TheConstants.{MAX_LENGTH}
+use Rattle.semver_texts.specs.Characters.{dot}
+use Rattle.semver_texts.specs.IdentifierValue.{IdentifierValue}
+use Rattle.semver_texts.specs.Lemmas.Public.{version_total}
+use Rattle.semver_texts.specs.Lemmas.Public.{clean_extras}
+use Rattle.semver_texts.specs.Reading.{read_extras}
+use Rattle.semver_texts.specs.Version.{release, without_build}
+use Rattle.semver_texts.specs.declared.TheConstants.{MAX_LENGTH}
 use Rattle.semver_sets.specs.Comparator.{Comparator}
 use Rattle.semver_sets.specs.FullTexts.{AreInLimit, full_form, full_set, is_full_form}
 use Rattle.semver_sets.specs.Forms.{comparator_of, ends_of}
@@ -31,7 +31,7 @@ use Rattle.npm_sets.specs.Rows.{lead_comparator, lead_row}
 use Rattle.npm_sets.specs.WordTexts.{Word}
 use Rattle.npm_sets.specs.declared.options.NpmOptions.{NpmOptions}
 use Rattle.npm_sets.proofs.Full.FullDivision.{full-ascii, full-piece, full-word, lead_named, mark-chunk, mark-full}
-use Rattle.npm_sets.proofs.Full.FullDivision.{operand-full}
+use Rattle.npm_sets.proofs.Full.FullDivision.{operand-full, operand-numbers}
 use Rattle.npm_sets.proofs.Full.FullPartial.{full-partial, number-begins}
 use Rattle.npm_sets.proofs.PlainSpaces.{ascii-plain}
 use Rattle.npm_sets.proofs.Pieces.SetMeaning.{npm-sets-admit}
@@ -120,10 +120,11 @@ module _ (options : NpmOptions) (text operand second third : List ℕ) (lead : F
       → piece_comparators options (full_mark lead ++ operand) ≡ Some (full_set form major minor patch ∷ [])
   full-comparators out =
       let digit = number-begins options.loose operand (dot ∷ second) major one in
+      let numbers = operand-numbers options.loose operand second third major minor patch one two three in
       let all = operand-full options.loose operand second third major minor patch one two three in
       let partial = with_extras (Some major) (Some minor) (Some patch) [] in
       ap (chunks_comparators options) (mark-chunk lead operand digit all)
-      ∙ ap (comparators_of options) (full-word lead operand digit)
+      ∙ ap (comparators_of options) (full-word lead operand digit numbers)
       ∙ one-word options (lead_named lead, operand) (full_set form major minor patch)
       (word-read options (lead_named lead) operand partial (full_set form major minor patch)
       (full-partial options.loose operand second third major minor patch one two three operand-short)

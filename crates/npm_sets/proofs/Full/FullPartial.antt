@@ -5,12 +5,13 @@ use Rattle.std.proofs.lemmas.Bool.{cases_Bool, le-leb}
 use Rattle.std.proofs.lemmas.Bool.Decides.{nat_tests}
 use Rattle.std.proofs.Common.{arith}
 use Rattle.std.specs.Prelude.{◌&&◌, not}
-use Rattle.semver_versions.specs.Characters.{BeginsWith, BeginsWithNo, dot, is_digit}
-use Rattle.semver_versions.specs.Lemmas.Public.{answer, clean_extras, digit-begins_no_x, number-digit, ok-value}
-use Rattle.semver_versions.specs.Lemmas.Public.{rest_of-none}
-use Rattle.semver_versions.specs.Reading.{Read, ◌>>=◌, read_extras, read_number}
-use Rattle.semver_versions.specs.declared.TheConstants.{MAX_LENGTH}
-use Rattle.npm_sets.specs.PartialTexts.{has_leading_zero, is_mark, number_component, partial_of, read_component}
+use Rattle.semver_texts.specs.Characters.{BeginsWith, BeginsWithNo, dot, is_digit}
+use Rattle.semver_texts.specs.Lemmas.Public.{answer, clean_extras, digit-begins_no_x, number-digit, ok-value}
+use Rattle.semver_texts.specs.Lemmas.Public.{rest_of-none}
+use Rattle.semver_texts.specs.Reading.{Read, ◌>>=◌, read_extras, read_number}
+use Rattle.semver_texts.specs.declared.TheConstants.{MAX_LENGTH}
+use Rattle.npm_sets.specs.PartialTexts.{has_leading_zero, number_component, partial_of, read_component}
+use Rattle.npm_sets.specs.WordTexts.{is_mark}
 use Rattle.npm_sets.specs.PartialTexts.{read_components, with_extras}
 use Rattle.npm_sets.specs.Private.ReadViews.{IsNumberBefore}
 

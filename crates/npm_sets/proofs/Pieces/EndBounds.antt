@@ -1,9 +1,9 @@
 -- The ends of a comparator are cuts that a range can have, since their numbers are small.
 use native.Mathlib.Omega.{arith}
 use Rattle.std.proofs.Common.{[], ◌∷◌, refl}
-use Rattle.semver_versions.specs.IdentifierText.{IsReadIdentifier}
-use Rattle.semver_versions.specs.IdentifierValue.{numeric}
-use Rattle.semver_versions.specs.Lemmas.Public.{extras-takes, prerelease-read}
+use Rattle.semver_texts.specs.IdentifierText.{IsReadIdentifier}
+use Rattle.semver_texts.specs.IdentifierValue.{numeric}
+use Rattle.semver_texts.specs.Lemmas.Public.{extras-takes, prerelease-read}
 use Rattle.semver_sets.specs.RangeSets.{IsRangeCut, IsRangeEnd}
 use Rattle.semver_sets.specs.Lemmas.Forms.{IsReadEnds}
 use Rattle.npm_sets.specs.Private.ReadViews.{AreSmallEnds, IsSmallCut, IsSmallVersion, cut_seen, ends_seen}

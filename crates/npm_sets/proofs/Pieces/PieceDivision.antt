@@ -3,7 +3,7 @@ use Rattle.std.proofs.Common.{◌≡◌, ◌∙◌, ℕ, false, List, [], ◌∷
 use Rattle.std.proofs.Common.{ap, inl, inr, refl}
 use Rattle.std.specs.Prelude.{◌==◌, ◌&&◌}
 use Rattle.std.proofs.lemmas.Bool.{and_parts, cases_Bool, eqb-true}
-use Rattle.semver_versions.specs.Characters.{bar}
+use Rattle.semver_texts.specs.Characters.{bar}
 use Rattle.semver_sets.specs.Division.{EndsInBar, HasBars}
 use Rattle.npm_sets.specs.WordTexts.{before_first, pieces_of}
 

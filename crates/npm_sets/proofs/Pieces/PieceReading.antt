@@ -5,10 +5,10 @@ use Rattle.std.proofs.Common.{subst, sym}
 use Rattle.std.proofs.lemmas.List.{append-nil}
 use Rattle.semver_cuts.specs.Ends.{Ends}
 use Rattle.semver_cuts.specs.Lemmas.ChosenEnds.{chosen_lower-some}
-use Rattle.semver_versions.specs.Characters.{BeginsWith}
-use Rattle.semver_versions.specs.Lemmas.Public.{version_total}
-use Rattle.semver_versions.specs.Reading.{rest_of}
-use Rattle.semver_versions.specs.Version.{VersionValue}
+use Rattle.semver_texts.specs.Characters.{BeginsWith}
+use Rattle.semver_texts.specs.Lemmas.Public.{version_total}
+use Rattle.semver_texts.specs.Reading.{rest_of}
+use Rattle.semver_texts.specs.Version.{VersionValue}
 use Rattle.semver_sets.specs.Comparator.{Comparator}
 use Rattle.semver_sets.specs.Lemmas.Merging.{merged-gives}
 use Rattle.semver_sets.specs.Merging.{AreSetsOf, IsCommonSpan, IsSetOf, IsSpanOf, all_cuts, no_more, none, one_more}

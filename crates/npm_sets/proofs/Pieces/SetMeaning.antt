@@ -5,8 +5,8 @@ use Rattle.std.specs.List.{AllByRecursion}
 use Rattle.semver_cuts.specs.declared.cut.Cut.TheVariants.{Before}
 use Rattle.semver_cuts.specs.Ends.{Ends}
 use Rattle.semver_cuts.specs.Lemmas.Lists.{all_middle}
-use Rattle.semver_versions.specs.Lemmas.Public.{Less-version, none-below_first}
-use Rattle.semver_versions.specs.Version.{VersionValue, least_of}
+use Rattle.semver_texts.specs.Lemmas.Public.{Less-version, none-below_first}
+use Rattle.semver_texts.specs.Version.{VersionValue, least_of}
 use Rattle.semver_sets.specs.Comparator.{Comparator}
 use Rattle.semver_sets.specs.Lemmas.Merging.{inside-set, merged-admits, merged-gives}
 use Rattle.semver_sets.specs.Meaning.{AnyByRecursion, GiveSet, IsInside}

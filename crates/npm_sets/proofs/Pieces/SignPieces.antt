@@ -3,12 +3,12 @@ use Rattle.std.proofs.Common.{◌≡◌, ℕ, Bool, true, false, List, ◌∷◌
 use Rattle.std.proofs.lemmas.Bool.{cases_Bool}
 use Rattle.std.proofs.lemmas.Bool.Decides.{nat_tests}
 use Rattle.std.specs.Prelude.{◌==◌, None}
-use Rattle.semver_versions.specs.Characters.{is_digit, is_x}
-use Rattle.semver_versions.specs.Lemmas.Public.{rest_of-none}
-use Rattle.semver_versions.specs.Reading.{begins, is_hyphen, missing, prefix_of, read_number}
+use Rattle.semver_texts.specs.Characters.{is_digit, is_x}
+use Rattle.semver_texts.specs.Lemmas.Public.{rest_of-none}
+use Rattle.semver_texts.specs.Reading.{begins, is_hyphen, missing, prefix_of, read_number}
 use Rattle.npm_sets.specs.NpmMeaning.{hyphen_range}
-use Rattle.npm_sets.specs.PartialTexts.{is_mark, partial_of}
-use Rattle.npm_sets.specs.WordTexts.{chunks_of, is_dash, is_solid, sides_of}
+use Rattle.npm_sets.specs.PartialTexts.{partial_of}
+use Rattle.npm_sets.specs.WordTexts.{chunks_of, is_dash, is_mark, is_solid, sides_of}
 use Rattle.npm_sets.specs.declared.options.NpmOptions.{NpmOptions}
 use Rattle.npm_sets.specs.Private.ReadViews.{is_sign}
 use Rattle.npm_sets.proofs.Chunks.ChunkLemmas.{chunk-first, prefix-step}

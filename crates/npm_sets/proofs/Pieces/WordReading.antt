@@ -6,10 +6,10 @@ use Rattle.std.specs.List.{AllByRecursion}
 use Rattle.std.proofs.lemmas.List.{append-nil, append_assoc}
 use Rattle.semver_cuts.specs.declared.cut.Cut.{Cut}
 use Rattle.semver_cuts.specs.Ends.{span_between}
-use Rattle.semver_versions.specs.Characters.{BeginsWithNo}
-use Rattle.semver_versions.specs.Lemmas.Public.{answer}
-use Rattle.semver_versions.specs.Version.{VersionValue}
-use Rattle.semver_versions.specs.declared.parse.fault.Fault.{Fault}
+use Rattle.semver_texts.specs.Characters.{BeginsWithNo}
+use Rattle.semver_texts.specs.Lemmas.Public.{answer}
+use Rattle.semver_texts.specs.Version.{VersionValue}
+use Rattle.semver_texts.specs.declared.parse.fault.Fault.{Fault}
 use Rattle.semver_sets.specs.Comparator.{Comparator}
 use Rattle.semver_sets.specs.Merging.{IsCommonSpan}
 use Rattle.semver_sets.specs.PartialText.{Partial}
@@ -25,6 +25,7 @@ use Rattle.npm_sets.specs.WordTexts.{Word, chunks_of, is_space, words_of}
 use Rattle.npm_sets.specs.declared.options.NpmOptions.{NpmOptions}
 use Rattle.npm_sets.specs.declared.words.Lead.{Lead}
 use Rattle.npm_sets.proofs.Chunks.ChunkLemmas.{chunks-empty}
+use Rattle.npm_sets.proofs.Chunks.Joins.{words-end}
 
 -- ---- lists
 
@@ -84,10 +85,6 @@ comparators-step options word words = refl
 pub comparators-end : (options : NpmOptions) → comparators_of options [] ≡ Some []
 unfolding comparators_of
 comparators-end options = refl
-
-pub words-end : words_of [] ≡ []
-unfolding words_of
-words-end = refl
 
 -- ---- the words so far
 

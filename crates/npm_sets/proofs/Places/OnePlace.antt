@@ -6,7 +6,7 @@ use Rattle.std.specs.List.{AllByRecursion}
 use Rattle.std.proofs.lemmas.Bool.{cases_Bool}
 use Rattle.std.proofs.lemmas.List.{append-nil, map-append}
 use Rattle.std.proofs.lemmas.Str.{encodes-append, length-le-encodes}
-use Rattle.semver_versions.specs.Characters.{bar}
+use Rattle.semver_texts.specs.Characters.{bar}
 use Rattle.npm_sets.specs.NpmMeaning.{IsNpmRefused, piece_comparators, pieces_alternatives}
 use Rattle.npm_sets.specs.NpmMeaning.{word_comparator}
 use Rattle.npm_sets.specs.Private.RefusedViews.{AreComparators}

@@ -1,30 +1,27 @@
 -- Whether a piece is read, from its words.
 use native.Mathlib.Omega.{arith}
 use Rattle.std.proofs.Common.{◌≡◌, ◌∙◌, ℕ, false, List, [], ◌∷◌, Option, Some, None, ap, sym, subst}
-use Rattle.semver_versions.specs.Characters.{BeginsWith}
-use Rattle.semver_versions.specs.Reading.{rest_of}
+use Rattle.semver_texts.specs.Characters.{BeginsWith}
+use Rattle.semver_texts.specs.Reading.{rest_of}
 use Rattle.semver_sets.specs.Comparator.{Comparator}
 use Rattle.npm_sets.specs.NpmMeaning.{comparators_of, hyphen_range, piece_comparators}
 use Rattle.npm_sets.specs.Private.RefusedViews.{AreComparators, IsEndOf, IsPieceEnd, IsReadPiece, IsWordsEnd}
-use Rattle.npm_sets.specs.WordTexts.{Word, chunks_of, is_solid, is_space, lead_of, sides_of, words_of}
+use Rattle.npm_sets.specs.WordTexts.{Word, chunks_of, ending_of, is_solid, is_space, lead_of, sides_of}
+use Rattle.npm_sets.specs.WordTexts.{words_of}
 use Rattle.npm_sets.specs.declared.options.NpmOptions.{NpmOptions}
-use Rattle.npm_sets.proofs.Chunks.ChunkLemmas.{chunks-skip, word-last, word-led, word-next}
+use Rattle.npm_sets.proofs.Chunks.ChunkLemmas.{chunks-skip}
+use Rattle.npm_sets.proofs.Chunks.Joins.{from-some, words-first}
 use Rattle.npm_sets.proofs.Chunks.SideLemmas.{chunks-some}
 use Rattle.npm_sets.proofs.Pieces.PieceReading.{piece-empty, piece-words}
 use Rattle.npm_sets.proofs.Pieces.WordReading.{text_comparators}
 use Rattle.npm_sets.proofs.Places.RefusedWords.{place-words, some-read, words-refused}
-use Rattle.std.proofs.Common.{inl, inr}
-use Rattle.std.proofs.lemmas.Bool.{cases_Bool}
-use Rattle.npm_sets.specs.WordTexts.{is_empty}
 
 -- a chunk gives a word
 pub words-some : (chunk : List ℕ) (chunks : List (List ℕ))
     → (word : Word) × (words : List Word) × (words_of (chunk ∷ chunks) ≡ word ∷ words)
-words-some chunk [] = (lead_of chunk, words_of [], word-last chunk)
-words-some chunk (next ∷ chunks) = elim (cases_Bool (is_empty (lead_of chunk).1)) [
-  | inl alone ↦ (((lead_of chunk).0, next), words_of chunks, word-next chunk next chunks alone)
-  | inr led ↦ (lead_of chunk, words_of (next ∷ chunks), word-led chunk (next ∷ chunks) led)
-]
+words-some chunk chunks =
+    let from = from-some (lead_of chunk) (ending_of chunk) chunks in
+    (from.0, from.1, words-first chunk chunks ∙ from.2)
 
 module _ (options : NpmOptions) (piece text : List ℕ) (skipped : text ≡ rest_of is_space piece) where
   same-chunks : chunks_of piece ≡ chunks_of text

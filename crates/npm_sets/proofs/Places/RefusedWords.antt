@@ -7,21 +7,25 @@ use Rattle.std.specs.Prelude.{is_ok}
 use Rattle.std.specs.List.{AllByRecursion}
 use Rattle.std.proofs.lemmas.Bool.{cases_Bool}
 use Rattle.std.proofs.lemmas.List.{append-nil, append_assoc}
-use Rattle.semver_versions.specs.Characters.{BeginsWith, BeginsWithNo}
-use Rattle.semver_versions.specs.Reading.{prefix_of, rest_of}
-use Rattle.semver_versions.specs.Lemmas.Public.{prefix_of-all, prefix_of-rest_of, rest_of-no}
-use Rattle.semver_versions.specs.declared.parse.fault.Fault.{Fault}
+use Rattle.semver_texts.specs.Characters.{BeginsWith, BeginsWithNo}
+use Rattle.semver_texts.specs.Reading.{prefix_of, rest_of}
+use Rattle.semver_texts.specs.Lemmas.Public.{prefix_of-all, prefix_of-rest_of, rest_of-no}
+use Rattle.semver_texts.specs.declared.parse.fault.Fault.{Fault}
 use Rattle.semver_sets.specs.Comparator.{Comparator}
 use Rattle.npm_sets.specs.NpmMeaning.{comparators_of, with_word, word_comparator}
 use Rattle.npm_sets.specs.PartialTexts.{partial_of}
 use Rattle.npm_sets.specs.Private.RefusedViews.{AreComparators, IsBorder, IsEndOf, IsReadWord}
 use Rattle.npm_sets.specs.RefusedPlace.{IsFirstRefused, ends_in_space}
-use Rattle.npm_sets.specs.WordTexts.{Word, chunks_of, is_empty, is_solid, is_space, lead_of, words_of}
+use Rattle.npm_sets.specs.WordTexts.{Word, chunks_of, ended, ending_of, is_joined, is_solid, is_space, lead_of, word_and}
+use Rattle.npm_sets.specs.WordTexts.{words_from, words_of}
+use Rattle.npm_sets.specs.Private.WordViews.{ends_word}
+use Rattle.npm_sets.specs.declared.words.Ending.{Ending}
+use Rattle.npm_sets.specs.declared.words.Ending.TheVariants.{Comparison, NoOperator, Sign, TildeGreater}
 use Rattle.npm_sets.specs.declared.options.NpmOptions.{NpmOptions}
 use Rattle.npm_sets.specs.declared.words.Lead.{Lead}
 use Rattle.npm_sets.proofs.Chunks.Borders.{border-append, border-less, chunks-none, chunks-split, ends-all}
-use Rattle.npm_sets.proofs.Chunks.ChunkLemmas.{word-last, word-led, word-next}
-use Rattle.npm_sets.proofs.Pieces.WordReading.{comparators-end, comparators-step, with-refused, words-end}
+use Rattle.npm_sets.proofs.Chunks.Joins.{from-apart, from-end, from-ended, from-joined, no-operator, words-end, words-first}
+use Rattle.npm_sets.proofs.Pieces.WordReading.{comparators-end, comparators-step, with-refused}
 
 -- ---- lists
 
@@ -40,26 +44,49 @@ no-operand : (options : NpmOptions) (lead : Lead) → IsOk (word_comparator opti
 unfolding partial_of rest_of
 no-operand options lead ok = cc ok
 
--- a word that is a comparator has its operand
-pub has-operand : (options : NpmOptions) (word : Word) → IsOk (word_comparator options word) → is_empty word.1 ≡ false
-has-operand options (lead, []) ok = absurd (no-operand options lead ok)
-has-operand options (lead, b ∷ operand) ok = refl
+-- a word that is a comparator ends with no operator
+not-open : (options : NpmOptions) (word : Word) (ending : Ending) → IsOk (word_comparator options (ended word ending))
+    → ending ≡ NoOperator
+not-open options word NoOperator ok = refl
+not-open options word Comparison ok = absurd (no-operand options word.0 ok)
+not-open options word TildeGreater ok = absurd (no-operand options word.0 ok)
+not-open options word Sign ok = absurd (no-operand options word.0 ok)
 
--- so no word goes on behind them
+-- so no chunk goes on with it
+from-append : (options : NpmOptions) (word : Word) (ending : Ending) (chunks more : List (List ℕ))
+    → AreComparators options (words_from word ending chunks)
+    → words_from word ending (chunks ++ more) ≡ words_from word ending chunks ++ words_of more
+from-append options word ending [] more all =
+    let here : AreComparators options (ended word ending ∷ []) =
+    subst (AreComparators options) (from-end word ending) all in
+    let ends = not-open options word ending here.0 in
+    from-ended word ending more (ap (λ (e : Ending). ends_word e more) ends ∙ no-operator more)
+    ∙ ap (λ (l : List Word). l ++ words_of more) (sym (from-end word ending))
+from-append options word ending (chunk ∷ chunks) more all = elim (cases_Bool (is_joined ending chunk)) [
+  | inl joined ↦
+      let step = from-joined word ending chunk chunks joined in
+      from-joined word ending chunk (chunks ++ more) joined
+      ∙ from-append options (word_and word chunk) (ending_of chunk) chunks more
+      (subst (AreComparators options) step all)
+      ∙ ap (λ (l : List Word). l ++ words_of more) (sym step)
+  | inr apart ↦
+      let step = from-apart word ending chunk chunks apart in
+      let parts : AreComparators options (ended word ending ∷ words_from (lead_of chunk) (ending_of chunk) chunks) =
+      subst (AreComparators options) step all in
+      from-apart word ending chunk (chunks ++ more) apart
+      ∙ ap (λ (l : List Word). ended word ending ∷ l)
+      (from-append options (lead_of chunk) (ending_of chunk) chunks more parts.1)
+      ∙ ap (λ (l : List Word). l ++ words_of more) (sym step)
+]
+
 pub words-append : (options : NpmOptions) (chunks more : List (List ℕ)) → AreComparators options (words_of chunks)
     → words_of (chunks ++ more) ≡ words_of chunks ++ words_of more
 words-append options [] more all = ap (λ (l : List Word). l ++ words_of more) (sym words-end)
-words-append options (chunk ∷ []) more all = grind (arith, word-last chunk, word-led, has-operand, words-end)
-words-append options (chunk ∷ next ∷ rest) more all = elim (cases_Bool (is_empty (lead_of chunk).1)) [
-  | inl alone ↦
-      let step = word-next chunk next rest alone in
-      let parts : AreComparators options (((lead_of chunk).0, next) ∷ words_of rest) =
-      grind arith in grind (arith, word-next, words-append options rest more parts.1)
-  | inr led ↦
-      let step = word-led chunk (next ∷ rest) led in
-      let parts : AreComparators options (lead_of chunk ∷ words_of (next ∷ rest)) =
-      grind arith in grind (arith, word-led, words-append options (next ∷ rest) more parts.1)
-]
+words-append options (chunk ∷ chunks) more all =
+    let first = words-first chunk chunks in
+    words-first chunk (chunks ++ more)
+    ∙ from-append options (lead_of chunk) (ending_of chunk) chunks more (subst (AreComparators options) first all)
+    ∙ ap (λ (l : List Word). l ++ words_of more) (sym first)
 
 -- ---- the words so far
 

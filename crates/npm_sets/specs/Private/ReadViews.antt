@@ -6,11 +6,11 @@ use Rattle.std.specs.List.{AllByRecursion}
 use Rattle.semver_cuts.specs.declared.cut.Cut.{Cut}
 use Rattle.semver_cuts.specs.declared.cut.Cut.TheVariants as Cuts
 use Rattle.semver_cuts.specs.Ends.{Ends}
-use Rattle.semver_versions.specs.Characters.{caret, tilde}
-use Rattle.semver_versions.specs.Reading.{Read, read_extras}
-use Rattle.semver_versions.specs.Version.{VersionValue, least_of, release}
-use Rattle.semver_versions.specs.declared.TheConstants.{MAX_SAFE_INTEGER}
-use Rattle.semver_versions.specs.declared.parse.fault.Fault.{Fault}
+use Rattle.semver_texts.specs.Characters.{caret, tilde}
+use Rattle.semver_texts.specs.Reading.{Read, read_extras}
+use Rattle.semver_texts.specs.Version.{VersionValue, least_of, release}
+use Rattle.semver_texts.specs.declared.TheConstants.{MAX_SAFE_INTEGER}
+use Rattle.semver_texts.specs.declared.parse.fault.Fault.{Fault}
 use Rattle.semver_sets.specs.Comparator.{Comparator}
 use Rattle.semver_sets.specs.Lemmas.Forms.{IsReadEnds}
 use Rattle.semver_sets.specs.Merging.{AreSetsOf, IsCommonSpan}

@@ -3,7 +3,7 @@ use Rattle.std.specs.Prelude.{◌≡◌, ◌⊎◌, ℕ, ◌<◌, true, List, []
 use Rattle.std.specs.Prelude.{encode_utf8_all}
 use Rattle.std.specs.Prelude.{length}
 use Rattle.std.specs.List.{AllByRecursion}
-use Rattle.semver_versions.specs.Characters.{BeginsWithNo}
+use Rattle.semver_texts.specs.Characters.{BeginsWithNo}
 use Rattle.semver_sets.specs.Comparator.{Comparator}
 use Rattle.npm_sets.specs.NpmMeaning.{piece_comparators, word_comparator}
 use Rattle.npm_sets.specs.RefusedPlace.{IsFirstRefused, IsRefusedFrom, ends_in_space}

@@ -3,14 +3,14 @@
 //!
 //! `#[inline(always)]`: the numbers stay in registers.
 ghost use Rattle.std.specs.Prelude.{◌≡◌, ◌∷◌, ◌++◌, ◌≤◌, [], IfSome};
-ghost use Rattle.semver_versions.specs.Characters.{dot};
+ghost use Rattle.semver_texts.specs.Characters.{dot};
 ghost use Rattle.npm_sets.specs.FullTexts.{IsNpmFullText};
 ghost use Rattle.npm_sets.specs.Private.ReadViews.{IsNumberBefore, full_mark};
 
 use crate::NpmOptions;
 use crate::partial::read_number_component;
 use semver_sets::read::full::{Form, FullLead, full_form};
-use semver_versions::{MAX_LENGTH, MAX_SAFE_INTEGER};
+use semver_texts::{MAX_LENGTH, MAX_SAFE_INTEGER};
 
 // `^` and `1.2.3` of `^1.2.3`
 #[inline(always)]

@@ -8,7 +8,7 @@ use Rattle.semver_pairs.specs.declared.run_error.RunError.TheVariants.{Endless, 
 use Rattle.semver_pairs.specs.Output.{AreAnswers}
 use Rattle.semver_pairs.specs.Pairs.{pairs_read}
 use Rattle.semver_sets.specs.Meaning.{TextAdmits}
-use Rattle.semver_versions.specs.Version.{VersionValue}
+use Rattle.semver_texts.specs.Version.{VersionValue}
 use Rattle.semver_versions.specs.ErrorLocation.{newline}
 
 -- the range line is a good one, and exactly the versions that its text admits are admitted

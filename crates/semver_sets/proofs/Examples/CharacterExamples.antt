@@ -1,8 +1,8 @@
 -- Worked examples: which of the bytes from 0 to 127 belong to each class of characters.
 use Rattle.std.proofs.Common.{◌≡◌, ℕ, ◌+◌, zero, suc, List, [], ◌∷◌, codes, refl}
 use Rattle.std.specs.List.{filter}
-use Rattle.semver_versions.specs.Characters.{is_blank, is_digit, is_identifier_character, is_partial_mark}
-use Rattle.semver_versions.specs.Characters.{is_version_mark, is_x}
+use Rattle.semver_texts.specs.Characters.{is_blank, is_digit, is_identifier_character, is_partial_mark}
+use Rattle.semver_texts.specs.Characters.{is_version_mark, is_x}
 
 -- so many numbers from the first one on: 3 of 5 are 5, 6 and 7
 abbrev counted : ℕ → ℕ → List ℕ

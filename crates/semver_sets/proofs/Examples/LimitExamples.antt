@@ -4,11 +4,11 @@ use Rattle.std.proofs.Common.{◌≡◌, ℕ, ◌+◌, ◌≤◌, List, [], ◌�
 use Rattle.std.specs.Fmt.{decimal, digits}
 use Rattle.semver_cuts.specs.declared.cut.Cut.TheVariants.{Before}
 use Rattle.semver_cuts.specs.Ends.{Ends}
-use Rattle.semver_versions.specs.declared.TheConstants.{MAX_SAFE_INTEGER}
+use Rattle.semver_texts.specs.declared.TheConstants.{MAX_SAFE_INTEGER}
 use Rattle.semver_sets.specs.Comparator.{with_major}
 use Rattle.semver_sets.specs.Merging.{AreSetsOfText}
 use Rattle.semver_sets.specs.RangeSets.{IsRangeEnd}
-use Rattle.semver_versions.specs.Version.{VersionValue, least_of}
+use Rattle.semver_texts.specs.Version.{VersionValue, least_of}
 use Rattle.semver_sets.proofs.Examples.SetComputing.{merged-by, sets_in}
 
 -- the greatest number that a text may write, as it is written

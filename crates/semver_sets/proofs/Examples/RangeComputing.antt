@@ -8,21 +8,21 @@ use Rattle.std.specs.Prelude.{map, ◌&&◌, not}
 use Rattle.semver_cuts.specs.declared.cut.Cut.{Cut}
 use Rattle.semver_cuts.specs.Cut.{cut_cmp}
 use Rattle.semver_cuts.specs.Lemmas.Ends.{at_most-below, lt-from_below}
-use Rattle.semver_versions.specs.Characters.{is_blank}
+use Rattle.semver_texts.specs.Characters.{is_blank}
 use Rattle.semver_sets.specs.Comparator.{Comparator}
 use Rattle.semver_sets.specs.Division.{IsAlternative, IsWritten}
 use Rattle.semver_sets.specs.Meaning.{AnyByRecursion, GiveSet, IsRefused}
 use Rattle.semver_sets.specs.Meaning.{TextAdmits}
-use Rattle.semver_versions.specs.Comparison.{version_cmp}
-use Rattle.semver_versions.specs.Lemmas.Public.{version_total}
+use Rattle.semver_texts.specs.Comparison.{version_cmp}
+use Rattle.semver_texts.specs.Lemmas.Public.{version_total}
 use Rattle.semver_sets.specs.Lemmas.Deciding.{Holds, admit, admit-iff, all-iff, any-iff, elements-iff, has_elements}
 use Rattle.semver_sets.specs.Lemmas.Deciding.{holds}
 use Rattle.semver_sets.specs.Lemmas.Deciding.{holds-iff}
 use Rattle.semver_sets.specs.Private.PieceReading.{piece_at}
-use Rattle.semver_versions.specs.Reading.{list_prefix, list_rest, prefix_of, read_build, read_extras}
-use Rattle.semver_versions.specs.Reading.{read_number}
-use Rattle.semver_versions.specs.Reading.{read_prerelease, rest_of, skip_one, skip_plus}
-use Rattle.semver_versions.specs.Version.{VersionValue}
+use Rattle.semver_texts.specs.Reading.{list_prefix, list_rest, prefix_of, read_build, read_extras}
+use Rattle.semver_texts.specs.Reading.{read_number}
+use Rattle.semver_texts.specs.Reading.{read_prerelease, rest_of, skip_one, skip_plus}
+use Rattle.semver_texts.specs.Version.{VersionValue}
 use Rattle.semver_sets.specs.Private.WordReading.{leading_or_none, read_component, read_components, read_hyphen}
 use Rattle.semver_sets.specs.Private.WordReading.{read_lead, read_operator, read_partial, read_right, read_simple}
 use Rattle.semver_sets.specs.Private.WordReading.{read_word}

@@ -1,9 +1,9 @@
 -- Worked examples: what some texts mean, on both sides. Each is computed over the definitions.
 use Rattle.std.proofs.Common.{◌≡◌, ℕ, List, [], ◌∷◌, Some, refl, codes}
 use Rattle.semver_sets.specs.Comparator.{above, at_least, below, exactly, with_major}
-use Rattle.semver_versions.specs.IdentifierValue.{IdentifierValue, alphanumeric, numeric}
+use Rattle.semver_texts.specs.IdentifierValue.{IdentifierValue, alphanumeric, numeric}
 use Rattle.semver_sets.specs.Meaning.{IsRefused, TextAdmits}
-use Rattle.semver_versions.specs.Version.{VersionValue, release}
+use Rattle.semver_texts.specs.Version.{VersionValue, release}
 use Rattle.semver_sets.proofs.Examples.RangeComputing.{admits-by, alternatives_in, refused-by}
 use Rattle.semver_sets.proofs.Examples.RangeComputing.{turns_away-by, written-by}
 

@@ -5,12 +5,12 @@ use Rattle.semver_cuts.specs.declared.cut.Cut.TheVariants.{Before}
 use Rattle.semver_cuts.specs.Starts.{count_of_starts}
 use Rattle.semver_cuts.specs.Lemmas.Ends.{at_most-from_le, below-from_lt}
 use Rattle.semver_sets.specs.Comparator.{at_least, below, from_up_to, with_major}
-use Rattle.semver_versions.specs.Comparison.{version_cmp}
-use Rattle.semver_versions.specs.IdentifierValue.{alphanumeric, numeric}
-use Rattle.semver_sets.specs.Meaning.{IsInside, SetAdmits}
+use Rattle.semver_texts.specs.Comparison.{version_cmp}
+use Rattle.semver_texts.specs.IdentifierValue.{alphanumeric, numeric}
+use Rattle.semver_sets.specs.Meaning.{IsInside, RangeContains, SetAdmits}
 use Rattle.semver_sets.specs.Merging.{AreSetsOfText}
-use Rattle.semver_sets.specs.Searching.{HasDigits, IsShortSearch, count_of_opening}
-use Rattle.semver_versions.specs.Version.{IsPrerelease, VersionValue, least_of, release}
+use Rattle.semver_sets.specs.Searching.{HasDigits, IsShortSearch, IsShortSearchInside, count_of_opening}
+use Rattle.semver_texts.specs.Version.{IsPrerelease, VersionValue, least_of, release}
 use Rattle.semver_sets.proofs.Examples.SetComputing.{Sets, merged-by, sets_in}
 
 -- ---- releases: the binary digits of how many spans there are, and one more
@@ -113,3 +113,16 @@ uncounted n search =
     record { inside = third-inside; opened = λ pre. absurd (pre refl) } in
     let twice = search.admitted (inr (inl inside)) in
     absurd (omega (arith, twice))
+
+-- ---- with prereleases: as for releases, whatever the ends are
+
+-- `1 || 3 || 5`: three comparisons at most for any version, and two at least for one that the range contains
+inside-apart : (v : VersionValue) (before after : ℕ)
+    → IsShortSearchInside (with_major 1 ∷ with_major 3 ∷ with_major 5 ∷ []) v before after
+    → (before ≤ after) × (after ≤ before + 3)
+inside-apart v before after search = (search.adds, let short = search.short 2 (omega arith) in omega arith)
+
+contained-apart : (v : VersionValue) (before after : ℕ)
+    → IsShortSearchInside (with_major 1 ∷ with_major 3 ∷ with_major 5 ∷ []) v before after
+    → RangeContains (with_major 1 ∷ with_major 3 ∷ with_major 5 ∷ []) v → before + 2 ≤ after
+contained-apart v before after search inside = search.contained inside

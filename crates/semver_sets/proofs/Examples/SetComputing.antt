@@ -11,10 +11,10 @@ use Rattle.semver_cuts.specs.Ends.{Ends, IsCutAtMost, IsCutBelow, span_between}
 use Rattle.semver_cuts.specs.ChosenEnds.{IsChosenEnd, IsFirstLeastUpper, IsLastGreatestLower}
 use Rattle.semver_cuts.specs.Lemmas.Ends.{at_most-from_le, below-from_lt, le-from_at_most, lt-from_below}
 use Rattle.semver_sets.specs.Comparator.{Comparator}
-use Rattle.semver_versions.specs.Comparison.{version_cmp}
+use Rattle.semver_texts.specs.Comparison.{version_cmp}
 use Rattle.semver_sets.specs.Merging.{AreSetsOf, AreSetsOfText, no_more, none, one_more}
 use Rattle.semver_sets.specs.RangePrint.{range_text}
-use Rattle.semver_versions.specs.Version.{VersionValue}
+use Rattle.semver_texts.specs.Version.{VersionValue}
 use Rattle.semver_sets.proofs.Examples.RangeComputing.{alternatives_in, are_crossed, first-same, gives-by}
 use Rattle.semver_sets.specs.Lemmas.Deciding.{all-iff}
 use Rattle.semver_sets.proofs.Examples.RangeComputing.{lies_in, none-by, written-by}

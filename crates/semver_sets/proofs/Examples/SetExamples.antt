@@ -3,11 +3,11 @@ use Rattle.std.proofs.Common.{◌≡◌, ℕ, List, [], ◌∷◌, true, false, 
 use Rattle.std.specs.Fmt.{digits}
 use Rattle.semver_cuts.specs.declared.cut.Cut.TheVariants.{Before, After}
 use Rattle.semver_sets.specs.Comparator.{Comparator, above, at_least, at_most, below, exactly, from_up_to, with_major}
-use Rattle.semver_versions.specs.IdentifierValue.{alphanumeric}
+use Rattle.semver_texts.specs.IdentifierValue.{alphanumeric}
 use Rattle.semver_sets.specs.Merging.{all_cuts}
 use Rattle.semver_sets.specs.RangeEquality.{are_same_cuts}
 use Rattle.semver_sets.specs.RangePrint.{range_text}
-use Rattle.semver_versions.specs.Version.{VersionValue, least_of, release}
+use Rattle.semver_texts.specs.Version.{VersionValue, least_of, release}
 use Rattle.semver_sets.proofs.Examples.SetComputing.{AreComputed, AreMerged, Row, all-merged, sets_in}
 
 -- `1.2.3-rc`

@@ -3,8 +3,8 @@ use Rattle.std.proofs.Common.{ℕ, List, [], ◌∷◌, refl, codes}
 use Rattle.semver_cuts.specs.declared.cut.Cut.TheVariants.{Before, After}
 use Rattle.semver_sets.specs.Comparator.{Comparator, above, at_least, at_most, below, exactly, from_up_to, with_major}
 use Rattle.semver_sets.specs.Comparator.{with_minor}
-use Rattle.semver_versions.specs.IdentifierValue.{alphanumeric}
-use Rattle.semver_versions.specs.Version.{VersionValue, least_of, release}
+use Rattle.semver_texts.specs.IdentifierValue.{alphanumeric}
+use Rattle.semver_texts.specs.Version.{VersionValue, least_of, release}
 use Rattle.semver_sets.proofs.Examples.RangeComputing.{AreComputed, AreWritten, all-written, alternatives_in}
 
 -- `1.2.3-a`

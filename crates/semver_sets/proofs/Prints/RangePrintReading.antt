@@ -9,7 +9,7 @@ use Rattle.semver_sets.specs.Merging.{AreSetsOf, AreSetsOfText, none, one_more}
 use Rattle.semver_sets.specs.RangeEquality.{AreSameCuts}
 use Rattle.semver_sets.specs.RangePrint.{range_text, set_text}
 use Rattle.semver_sets.specs.RangeSets.{IsRangeSet, IsRangeValue}
-use Rattle.semver_versions.specs.Version.{VersionValue}
+use Rattle.semver_texts.specs.Version.{VersionValue}
 use Rattle.semver_sets.specs.Lemmas.Merging.{merged-gives}
 use Rattle.semver_sets.proofs.Words.NoBars.{no_bars-of_none, no_end-of_none}
 use Rattle.semver_sets.proofs.Sets.SetLemmas.{empty-from_refused, one-merging}

@@ -9,18 +9,18 @@ use Rattle.semver_cuts.specs.declared.cut.Cut.TheVariants.{Start, Before, After,
 use Rattle.semver_cuts.specs.Ends.{AreSameEnds, Ends, HoldsCut, IsCutBelow, span_between}
 use Rattle.semver_cuts.specs.Lemmas.TwoSpans.{holds-below}
 use Rattle.semver_cuts.specs.Lemmas.CutOrder.{cut_total}
-use Rattle.semver_versions.specs.Characters.{BeginsWith}
+use Rattle.semver_texts.specs.Characters.{BeginsWith}
 use Rattle.semver_sets.specs.Comparator.{Comparator, above, at_least, at_most, below, exactly}
-use Rattle.semver_versions.specs.Comparison.{version_cmp}
+use Rattle.semver_texts.specs.Comparison.{version_cmp}
 use Rattle.semver_sets.specs.Division.{IsAlternative}
-use Rattle.semver_versions.specs.Characters.{IsCleanEnd}
-use Rattle.semver_versions.specs.Lemmas.Public.{IsTextVersion, begins-append, version_total}
+use Rattle.semver_texts.specs.Characters.{IsCleanEnd}
+use Rattle.semver_texts.specs.Lemmas.Public.{IsTextVersion, begins-append, version_total}
 use Rattle.semver_sets.specs.Merging.{IsSetOf}
 use Rattle.semver_sets.specs.Operators.{greater, greater_or_equal, less, less_or_equal}
-use Rattle.semver_versions.specs.Print.{version_text}
+use Rattle.semver_texts.specs.Print.{version_text}
 use Rattle.semver_sets.specs.RangePrint.{both_text, ends_text, lower_text, set_text, upper_text}
 use Rattle.semver_sets.specs.RangeSets.{IsRangeCut, IsRangeSet}
-use Rattle.semver_versions.specs.Version.{VersionValue}
+use Rattle.semver_texts.specs.Version.{VersionValue}
 use Rattle.semver_sets.specs.Private.WordReading.{is_not_blank}
 use Rattle.semver_sets.specs.Lemmas.Merging.{set-one, set-push}
 use Rattle.semver_sets.proofs.Words.NoBars.{HasNoBar, none-append}

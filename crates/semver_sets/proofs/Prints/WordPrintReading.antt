@@ -4,25 +4,25 @@ use Rattle.std.proofs.Common.{◌≡◌, ◌∙◌, ℕ, List, [], ◌++◌, Som
 use Rattle.std.proofs.Common.{subst}
 use Rattle.std.proofs.lemmas.Bool.{cases_Bool, eqb-true}
 use Rattle.std.specs.Prelude.{◌==◌}
-use Rattle.semver_versions.specs.Characters.{BeginsWith, BeginsWithNo, is_blank, is_digit}
+use Rattle.semver_texts.specs.Characters.{BeginsWith, BeginsWithNo, is_blank, is_digit}
 use Rattle.semver_sets.specs.Comparator.{Comparator, exactly}
 use Rattle.semver_sets.specs.Division.{IsSimpleText, IsWord, NoneAt, by_operator, plain, simple}
-use Rattle.semver_versions.specs.Characters.{IsCleanEnd}
+use Rattle.semver_texts.specs.Characters.{IsCleanEnd}
 use Rattle.semver_sets.specs.HyphenRanges.{IsHyphenText}
 use Rattle.semver_sets.specs.Operators.{Operator}
 use Rattle.semver_sets.specs.Forms.{by_row}
 use Rattle.semver_sets.specs.Operators.{operator_row, operator_text}
 use Rattle.semver_sets.specs.PartialText.{IsPartialText, IsUnmarkedPartial, Partial}
-use Rattle.semver_versions.specs.Print.{version_text}
-use Rattle.semver_versions.specs.Version.{VersionValue}
+use Rattle.semver_texts.specs.Print.{version_text}
+use Rattle.semver_texts.specs.Version.{VersionValue}
 use Rattle.semver_sets.specs.Private.WordReading.{Lead, is_not_blank, operator, read_hyphen, read_lead, read_partial}
 use Rattle.semver_sets.specs.Private.WordReading.{with_left}
 use Rattle.semver_sets.proofs.Words.HyphenReading.{left-ends, right-none}
 use Rattle.semver_sets.proofs.Words.LeadReading.{lead-not_partial, lead-operator}
 use Rattle.semver_sets.proofs.Words.NoBars.{HasNoBar, simple-none}
 use Rattle.semver_sets.proofs.Words.PartialReading.{partial-again}
-use Rattle.semver_versions.specs.Lemmas.Public.{IsTextVersion, begins-append, digit-no_blank, print-begins}
-use Rattle.semver_versions.specs.Lemmas.Public.{three-printed, unmarked}
+use Rattle.semver_texts.specs.Lemmas.Public.{IsTextVersion, begins-append, digit-no_blank, print-begins}
+use Rattle.semver_texts.specs.Lemmas.Public.{three-printed, unmarked}
 use Rattle.semver_sets.proofs.Words.WordLemmas.{hyphen-with_left, no-hyphen, right-no_blank}
 
 -- ---- the print of a version as a partial

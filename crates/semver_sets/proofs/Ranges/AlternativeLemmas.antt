@@ -2,16 +2,16 @@
 use Rattle.std.proofs.Common.{◌≡◌, ◌<◌, ℕ, zero, suc, List, [], ◌∷◌, ◌++◌, length, Option, Some, None, append_assoc}
 use Rattle.std.proofs.Common.{arith, refl, sym, subst}
 use Rattle.std.proofs.lemmas.List.{append-nil}
-use Rattle.semver_versions.specs.Characters.{is_blank}
+use Rattle.semver_texts.specs.Characters.{is_blank}
 use Rattle.semver_sets.specs.Comparator.{Comparator}
 use Rattle.semver_sets.specs.Division.{AreAlternatives, AreLaterAlternatives, IsAlternative, IsLaterAlternative}
 use Rattle.semver_sets.specs.Division.{IsPieces, IsWritten}
 use Rattle.semver_sets.specs.Private.PieceReading.{piece_at}
-use Rattle.semver_versions.specs.Reading.{rest_of}
+use Rattle.semver_texts.specs.Reading.{rest_of}
 use Rattle.semver_sets.proofs.Ranges.DivisionLemmas.{alternative-exists, alternative-unique}
 use Rattle.semver_sets.proofs.Ranges.PieceLemmas.{before-more, piece-first, piece-last, piece-shorter, pieces-exist}
 use Rattle.semver_sets.proofs.Ranges.PieceLemmas.{pieces-unique}
-use Rattle.semver_versions.specs.Lemmas.Public.{prefix_of-all, prefix_of-rest_of, rest_of-again, rest_of-no}
+use Rattle.semver_texts.specs.Lemmas.Public.{prefix_of-all, prefix_of-rest_of, rest_of-again, rest_of-no}
 
 -- ---- a piece after the first
 

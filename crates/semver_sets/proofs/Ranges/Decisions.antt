@@ -9,10 +9,10 @@ use Rattle.semver_cuts.specs.Ends.{Ends, HoldsCut}
 use Rattle.semver_cuts.specs.Lemmas.Ends.{below-from_lt, lt-from_below}
 use Rattle.semver_cuts.specs.Lemmas.TwoSpans.{holds-below}
 use Rattle.semver_sets.specs.Comparator.{Comparator}
-use Rattle.semver_versions.specs.Comparison.{version_cmp}
-use Rattle.semver_versions.specs.Lemmas.Public.{version_total}
+use Rattle.semver_texts.specs.Comparison.{version_cmp}
+use Rattle.semver_texts.specs.Lemmas.Public.{version_total}
 use Rattle.semver_sets.specs.Meaning.{GiveSet, IsRefused, TextAdmits}
-use Rattle.semver_versions.specs.Version.{VersionValue}
+use Rattle.semver_texts.specs.Version.{VersionValue}
 use Rattle.semver_sets.proofs.Ranges.AlternativeLemmas.{written-exists}
 use Rattle.semver_sets.proofs.Ranges.MeaningLemmas.{refused-from_none, none-from_refused}
 use Rattle.semver_sets.specs.Lemmas.Merging.{merged-gives, one-set}

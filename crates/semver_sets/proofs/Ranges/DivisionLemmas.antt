@@ -3,18 +3,18 @@ use Rattle.std.proofs.Common.{◌≡◌, ◌<◌, ℕ, zero, suc, List, [], ◌�
 use Rattle.std.proofs.Common.{append_assoc, length-append, arith, refl, sym, ap, subst, ◌∙◌, inl, inr}
 use Rattle.std.proofs.lemmas.Bool.{cases_Bool}
 use Rattle.std.proofs.lemmas.List.{append-nil}
-use Rattle.semver_versions.specs.Characters.{AreAll, BeginsWith, BeginsWithNo, is_blank}
+use Rattle.semver_texts.specs.Characters.{AreAll, BeginsWith, BeginsWithNo, is_blank}
 use Rattle.semver_sets.specs.Comparator.{Comparator}
 use Rattle.semver_sets.specs.Division.{IsAlternative, IsDivision, IsWord, comparators_of}
-use Rattle.semver_versions.specs.Reading.{rest_of, skip_one}
+use Rattle.semver_texts.specs.Reading.{rest_of, skip_one}
 use Rattle.semver_sets.specs.Private.WordReading.{ReadPartial, Word, leading_or_none, read_component, read_components}
 use Rattle.semver_sets.specs.Private.WordReading.{read_hyphen, read_lead, read_partial, read_right, read_simple}
 use Rattle.semver_sets.specs.Private.WordReading.{read_word}
 use Rattle.semver_sets.specs.Private.WordViews.{listed}
-use Rattle.semver_versions.specs.Lemmas.Public.{prefix_of-all, prefix_of-rest_of}
-use Rattle.semver_versions.specs.Lemmas.Public.{rest_of-short}
-use Rattle.semver_versions.specs.Lemmas.Public.{rest_of-again}
-use Rattle.semver_versions.specs.Lemmas.Public.{rest_of-no}
+use Rattle.semver_texts.specs.Lemmas.Public.{prefix_of-all, prefix_of-rest_of}
+use Rattle.semver_texts.specs.Lemmas.Public.{rest_of-short}
+use Rattle.semver_texts.specs.Lemmas.Public.{rest_of-again}
+use Rattle.semver_texts.specs.Lemmas.Public.{rest_of-no}
 use Rattle.semver_sets.proofs.Words.WordLemmas.{HasWord, has-word, word-after_blanks, word-again, word-is, word-leading}
 
 -- ---- all words

@@ -2,10 +2,10 @@
 use native.Mathlib.Omega.{arith}
 use Rattle.std.proofs.Common.{◌≡◌, ℕ, List, ◌∷◌, Option, Some, refl, sym, ap, ◌∙◌}
 use Rattle.std.specs.Prelude.{IsTrue}
-use Rattle.semver_versions.specs.Characters.{BeginsWith, caret, is_digit, tilde}
-use Rattle.semver_versions.specs.Lemmas.Public.{digit-no_blank}
-use Rattle.semver_versions.specs.Reading.{rest_of}
-use Rattle.semver_versions.specs.Version.{release}
+use Rattle.semver_texts.specs.Characters.{BeginsWith, caret, is_digit, tilde}
+use Rattle.semver_texts.specs.Lemmas.Public.{digit-no_blank}
+use Rattle.semver_texts.specs.Reading.{rest_of}
+use Rattle.semver_texts.specs.Version.{release}
 use Rattle.semver_sets.specs.Forms.{comparator_of}
 use Rattle.semver_sets.specs.FullTexts.{IsFullText, full_form, full_set, is_full_form}
 use Rattle.semver_sets.specs.declared.read.full.FullLead.TheVariants.{Caret, Nothing, Tilde}

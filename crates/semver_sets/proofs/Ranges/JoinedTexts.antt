@@ -2,12 +2,12 @@
 use native.Mathlib.Omega.{arith}
 use Rattle.std.proofs.Common.{◌≡◌, ℕ, List, [], ◌∷◌, ◌++◌, append_assoc}
 use Rattle.semver_cuts.specs.Ends.{Ends}
-use Rattle.semver_versions.specs.Characters.{BeginsWithNo, bar, is_blank}
+use Rattle.semver_texts.specs.Characters.{BeginsWithNo, bar, is_blank}
 use Rattle.semver_sets.specs.Comparator.{Comparator}
 use Rattle.semver_sets.specs.Division.{AreAlternatives, AreLaterAlternatives, EndsInBar, IsPieces}
 use Rattle.semver_sets.specs.Merging.{AreSetsOf, AreSetsOfText, none, one_more, no_more}
 use Rattle.semver_sets.specs.Union.{AreJoinable, joined_text}
-use Rattle.semver_versions.specs.Version.{VersionValue}
+use Rattle.semver_texts.specs.Version.{VersionValue}
 
 -- ---- pieces
 

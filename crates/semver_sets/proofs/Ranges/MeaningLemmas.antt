@@ -5,7 +5,7 @@ use Rattle.std.specs.List.{AllByRecursion}
 use Rattle.semver_sets.specs.Comparator.{Comparator}
 use Rattle.semver_sets.specs.Division.{IsWritten}
 use Rattle.semver_sets.specs.Meaning.{Admit, GiveSet, IsRefused}
-use Rattle.semver_versions.specs.Version.{VersionValue}
+use Rattle.semver_texts.specs.Version.{VersionValue}
 use Rattle.semver_sets.proofs.Ranges.AlternativeLemmas.{written-unique}
 
 -- the alternative is not empty, and its comparators admit the version

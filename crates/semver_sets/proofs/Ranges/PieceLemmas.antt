@@ -7,7 +7,7 @@ use Rattle.std.specs.Borrow.{Bor}
 use Rattle.std.proofs.lemmas.Bool.{and_parts, cases_Bool, eqb-true}
 use Rattle.std.proofs.lemmas.List.{append-nil, drop_all, drop_more, get_or-drop, take_all, take_more}
 use Rattle.memchr.specs.Find.{Nowhere, Passes, is_byte}
-use Rattle.semver_versions.specs.Characters.{bar}
+use Rattle.semver_texts.specs.Characters.{bar}
 use Rattle.semver_sets.specs.Division.{EndsInBar, HasBars, HasFirstPiece, IsPieces}
 use Rattle.semver_sets.specs.Private.PieceReading.{Piece, bars_after, behind, piece_at, some_seen}
 

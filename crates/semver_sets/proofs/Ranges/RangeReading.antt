@@ -10,7 +10,7 @@ use Rattle.semver_sets.specs.Merging.{AreSetsOf, AreSetsOfText, none}
 use Rattle.semver_sets.specs.RangeSets.{IsRangeValue, sets_of_some, sets_seen}
 use Rattle.semver_sets.specs.declared.read.Unread.{Unread}
 use Rattle.semver_sets.specs.declared.set_list.Sets.{Sets}
-use Rattle.semver_versions.specs.Version.{VersionValue}
+use Rattle.semver_texts.specs.Version.{VersionValue}
 use Rattle.semver_sets.specs.Private.PieceReading.{piece_at}
 use Rattle.semver_sets.specs.Private.RangeViews.{IsReadResult, IsSetOfAlternative}
 use Rattle.semver_sets.specs.Private.RangeViews.{listed_set}

@@ -3,10 +3,10 @@ use Rattle.std.proofs.Common.{◌≡◌, ◌↔◌, ℕ, List, Option, Some, Non
 use Rattle.std.specs.Prelude.{IfSome, IsSome}
 use Rattle.semver_cuts.specs.Ends.{Ends, HoldsCut}
 use Rattle.semver_sets.specs.Comparator.{Comparator}
-use Rattle.semver_versions.specs.Comparison.{version_cmp}
+use Rattle.semver_texts.specs.Comparison.{version_cmp}
 use Rattle.semver_sets.specs.Division.{IsAlternative}
 use Rattle.semver_sets.specs.Merging.{IsSetOf}
-use Rattle.semver_versions.specs.Version.{VersionValue}
+use Rattle.semver_texts.specs.Version.{VersionValue}
 use Rattle.semver_sets.specs.Private.RangeViews.{IsCommonSpan, IsSetOfAlternative, IsSpanOf, IsSpanOfAlternative}
 use Rattle.semver_sets.specs.Private.RangeViews.{given, not_given}
 use Rattle.semver_sets.specs.Lemmas.Merging.{merged-gives}

@@ -8,10 +8,10 @@ use Rattle.semver_cuts.specs.declared.cut.Cut.{Cut}
 use Rattle.semver_cuts.specs.Ends.{Ends, IsCutBelow, span_between}
 use Rattle.semver_cuts.specs.Lemmas.TwoSpans.{holds-below}
 use Rattle.semver_sets.specs.Comparator.{Comparator}
-use Rattle.semver_versions.specs.Comparison.{version_cmp}
-use Rattle.semver_versions.specs.Lemmas.Public.{version_total}
+use Rattle.semver_texts.specs.Comparison.{version_cmp}
+use Rattle.semver_texts.specs.Lemmas.Public.{version_total}
 use Rattle.semver_sets.specs.Private.RangeViews.{IsSpanOf, common_seen}
-use Rattle.semver_versions.specs.Version.{VersionValue}
+use Rattle.semver_texts.specs.Version.{VersionValue}
 
 lt-less : (o : Ordering) → is_lt o ≡ true → o ≡ Less
 lt-less o h1 = grind arith

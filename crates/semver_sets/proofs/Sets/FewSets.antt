@@ -7,7 +7,7 @@ use Rattle.std.proofs.lemmas.List.Sums.{count_by_more_no, count_by_more_yes, sum
 use Rattle.semver_cuts.specs.Ends.{Ends}
 use Rattle.semver_sets.specs.Meaning.{HasOpenEnd}
 use Rattle.semver_sets.specs.Searching.{count_of_opening, has_open_end}
-use Rattle.semver_versions.specs.Version.{VersionValue}
+use Rattle.semver_texts.specs.Version.{VersionValue}
 use Rattle.semver_sets.specs.Lemmas.Deciding.{open_end-iff}
 
 -- the first sets have no more that open the triple than all sets

@@ -5,8 +5,8 @@ use Rattle.std.proofs.Common.{◌↔◌, ℕ, ◌+◌, ◌≤◌, ◌<◌, ◌^�
 use Rattle.semver_cuts.specs.declared.cut.Cut.TheVariants.{Before}
 use Rattle.semver_cuts.specs.Ends.{Ends}
 use Rattle.semver_cuts.specs.SpanLists.{IsInSome}
-use Rattle.semver_versions.specs.Comparison.{version_cmp}
-use Rattle.semver_versions.specs.Version.{VersionValue}
+use Rattle.semver_texts.specs.Comparison.{version_cmp}
+use Rattle.semver_texts.specs.Version.{VersionValue}
 use Rattle.semver_sets.specs.Meaning.{IsInside, RangeContains}
 use Rattle.semver_sets.specs.Searching.{IsShortSearchInside}
 use Rattle.semver_sets.proofs.Sets.Openings.{some-digit, starts-once}

@@ -12,12 +12,12 @@ use Rattle.std.proofs.lemmas.List.{append-nil, get_or_default, take-append-drop,
 use Rattle.std.proofs.lemmas.List.Elements.{filter-append}
 use Rattle.std.proofs.lemmas.List.Sorted.{searchable_from_sorted}
 use Rattle.semver_cuts.specs.Lemmas.Lists.{all-append}
-use Rattle.semver_versions.specs.Lemmas.Public.{triple_total}
-use Rattle.semver_versions.specs.Version.{VersionValue}
+use Rattle.semver_texts.specs.Lemmas.Public.{triple_total}
+use Rattle.semver_texts.specs.Version.{VersionValue}
 use Rattle.semver_sets.specs.Private.SearchViews.{is_opening_of, same_triples}
-use Rattle.semver_versions.specs.Triple.{triple_cmp, triple_of}
+use Rattle.semver_texts.specs.Triple.{triple_cmp, triple_of}
 use Rattle.semver_sets.specs.declared.set_list.opened.Opening.{Opening}
-use Rattle.semver_versions.specs.declared.triple.Triple.{Triple}
+use Rattle.semver_texts.specs.declared.triple.Triple.{Triple}
 
 -- ---- triples
 

@@ -16,18 +16,18 @@ use Rattle.semver_cuts.specs.Lemmas.Lists.{any-at, none-more}
 use Rattle.semver_cuts.specs.SpanLists.{IsInSome}
 use Rattle.semver_cuts.specs.Starts.{count_of_starts}
 use Rattle.semver_cuts.specs.Lemmas.Ends.{cut_cmp-refl}
-use Rattle.semver_versions.specs.Comparison.{version_cmp}
+use Rattle.semver_texts.specs.Comparison.{version_cmp}
 use Rattle.semver_sets.specs.Lemmas.Deciding.{open_end-iff}
 use Rattle.semver_sets.specs.Meaning.{HasOpenEnd, IsInside, RangeAdmits, SetAdmits}
-use Rattle.semver_versions.specs.Lemmas.Public.{version_total}
+use Rattle.semver_texts.specs.Lemmas.Public.{version_total}
 use Rattle.semver_sets.specs.Searching.{IsShortSearch, count_of_opening, has_open_end}
 use Rattle.semver_sets.specs.Searching.{opens}
-use Rattle.semver_versions.specs.Version.{IsPrerelease, VersionValue}
+use Rattle.semver_texts.specs.Version.{IsPrerelease, VersionValue}
 use Rattle.semver_sets.specs.Private.SearchViews.{is_opening_of, opening_at, openings_from, openings_of, other_than}
 use Rattle.semver_sets.specs.Private.SearchViews.{places_opening, same_triples, triple_at}
-use Rattle.semver_versions.specs.Triple.{triple_of}
+use Rattle.semver_texts.specs.Triple.{triple_of}
 use Rattle.semver_sets.specs.declared.set_list.opened.Opening.{Opening}
-use Rattle.semver_versions.specs.declared.triple.Triple.{Triple}
+use Rattle.semver_texts.specs.declared.triple.Triple.{Triple}
 use Rattle.semver_sets.proofs.Sets.SomeElement.{all-at}
 
 -- ---- the openings of one set

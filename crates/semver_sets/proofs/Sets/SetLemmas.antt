@@ -8,7 +8,7 @@ use Rattle.semver_sets.specs.Comparator.{Comparator}
 use Rattle.semver_sets.specs.Division.{IsAlternative}
 use Rattle.semver_sets.specs.Meaning.{AnyByRecursion, GiveSet, IsRefused, RangeAdmits, TextAdmits}
 use Rattle.semver_sets.specs.Merging.{AreSetsOf, AreSetsOfText, no_more, none, one_more}
-use Rattle.semver_versions.specs.Version.{VersionValue}
+use Rattle.semver_texts.specs.Version.{VersionValue}
 use Rattle.semver_sets.specs.Private.RangeViews.{IsSetOfAlternative, listed_set}
 use Rattle.semver_sets.proofs.Ranges.AlternativeLemmas.{written-unique}
 use Rattle.semver_sets.proofs.Ranges.MeaningLemmas.{AdmitSome, NoneGive, none-from_refused, refused-from_none}

@@ -3,11 +3,11 @@ use native.Mathlib.Omega.{arith}
 use Rattle.std.proofs.Common.{◌≡◌, ℕ, true, List, ◌++◌, Some}
 use Rattle.std.proofs.lemmas.Bool.{cases_Bool}
 use Rattle.std.proofs.lemmas.Option.{same_Some}
-use Rattle.semver_versions.specs.Characters.{BeginsWith, is_blank}
-use Rattle.semver_versions.specs.Characters.{IsCleanEnd}
+use Rattle.semver_texts.specs.Characters.{BeginsWith, is_blank}
+use Rattle.semver_texts.specs.Characters.{IsCleanEnd}
 use Rattle.semver_sets.specs.PartialText.{Partial}
 use Rattle.semver_sets.specs.Private.WordReading.{ReadPartial, up_to_clean}
-use Rattle.semver_versions.specs.Reading.{is_clean_end}
+use Rattle.semver_texts.specs.Reading.{is_clean_end}
 
 -- the fact, and the test
 pub true-clean : (rest : List ℕ) → IsCleanEnd rest → is_clean_end rest ≡ true

@@ -5,11 +5,11 @@ use Rattle.std.proofs.Common.{if◌then◌else◌, length, sym, true}
 use Rattle.std.specs.Ordering.{eq_by_cmp}
 use Rattle.semver_cuts.specs.declared.cut.Cut.TheVariants.{Before, After, End}
 use Rattle.semver_cuts.specs.Ends.{Ends}
-use Rattle.semver_versions.specs.Comparison.{version_cmp}
-use Rattle.semver_versions.specs.Print.{version_text}
-use Rattle.semver_versions.specs.Lemmas.Public.{whole_text}
+use Rattle.semver_texts.specs.Comparison.{version_cmp}
+use Rattle.semver_texts.specs.Print.{version_text}
+use Rattle.semver_texts.specs.Lemmas.Public.{whole_text}
 use Rattle.semver_sets.specs.RangePrint.{ends_text, set_text}
-use Rattle.semver_versions.specs.Version.{VersionValue}
+use Rattle.semver_texts.specs.Version.{VersionValue}
 
 -- the same of a text that may not have been put
 pub whole_if_put : (put : Option ℕ) (line new text wanted : List ℕ) → length line ≤ 176 → text ≡ wanted

@@ -4,11 +4,11 @@ use Rattle.std.proofs.Common.{◌≡◌, ℕ, List, [], ◌∷◌, ◌++◌, Opt
 use Rattle.std.proofs.Common.{subst}
 use Rattle.std.proofs.lemmas.Bool.{cases_Bool}
 use Rattle.std.proofs.lemmas.Option.{same_Some}
-use Rattle.semver_versions.specs.Characters.{BeginsWith, BeginsWithNo, is_digit, is_x}
+use Rattle.semver_texts.specs.Characters.{BeginsWith, BeginsWithNo, is_digit, is_x}
 use Rattle.semver_sets.specs.PartialText.{IsComponentText}
-use Rattle.semver_versions.specs.Reading.{Read, read_number}
+use Rattle.semver_texts.specs.Reading.{Read, read_number}
 use Rattle.semver_sets.specs.Private.WordReading.{number_component, read_component}
-use Rattle.semver_versions.specs.Lemmas.Public.{digit-no_x, number-again, number-takes, x-no_digit}
+use Rattle.semver_texts.specs.Lemmas.Public.{digit-no_x, number-again, number-takes, x-no_digit}
 
 -- A component at the start of a text. A number takes all the digits.
 pub record TakesComponent (text : List ℕ) (component : Option ℕ) (rest : List ℕ) : Type 0 where

@@ -5,16 +5,16 @@ use Rattle.std.proofs.Common.{append_assoc}
 use Rattle.std.proofs.lemmas.Bool.{cases_Bool, eqb-true}
 use Rattle.std.proofs.lemmas.Option.{same_Some}
 use Rattle.std.specs.Prelude.{◌==◌}
-use Rattle.semver_versions.specs.Characters.{dot, is_digit}
-use Rattle.semver_versions.specs.Characters.{IsCleanEnd}
+use Rattle.semver_texts.specs.Characters.{dot, is_digit}
+use Rattle.semver_texts.specs.Characters.{IsCleanEnd}
 use Rattle.semver_sets.specs.PartialText.{IsComponentText, IsUnmarkedPartial, Partial, one, plain_partial, three, two}
-use Rattle.semver_versions.specs.Reading.{read_extras}
+use Rattle.semver_texts.specs.Reading.{read_extras}
 use Rattle.semver_sets.specs.Private.WordReading.{Component, ReadPartial, read_component, read_components}
 use Rattle.semver_sets.specs.Private.WordReading.{read_from_minor, read_from_patch, with_extras, with_first}
 use Rattle.semver_sets.specs.Private.WordReading.{with_second, with_third}
 use Rattle.semver_sets.proofs.Words.ComponentReading.{component-again, component-takes}
-use Rattle.semver_versions.specs.Lemmas.Public.{clean-ends_extras, clean-no_digit, extras-again, extras-takes}
-use Rattle.semver_versions.specs.Lemmas.Public.{no-append, prefix_of-no, regroup}
+use Rattle.semver_texts.specs.Lemmas.Public.{clean-ends_extras, clean-no_digit, extras-again, extras-takes}
+use Rattle.semver_texts.specs.Lemmas.Public.{no-append, prefix_of-no, regroup}
 
 -- one to three components, at the start of a text
 pub record TakesComponents (text : List ℕ) (p : Partial) (rest : List ℕ) : Type 0 where

@@ -5,18 +5,18 @@ use Rattle.std.proofs.Common.{subst, append_assoc}
 use Rattle.std.proofs.lemmas.Bool.{cases_Bool, eqb-true}
 use Rattle.std.proofs.lemmas.Option.{same_Some}
 use Rattle.std.specs.Prelude.{◌==◌}
-use Rattle.semver_versions.specs.Characters.{AreBlanks, BeginsWithNo, hyphen, is_blank}
+use Rattle.semver_texts.specs.Characters.{AreBlanks, BeginsWithNo, hyphen, is_blank}
 use Rattle.semver_sets.specs.Comparator.{Comparator}
-use Rattle.semver_versions.specs.Characters.{IsCleanEnd}
+use Rattle.semver_texts.specs.Characters.{IsCleanEnd}
 use Rattle.semver_sets.specs.HyphenRanges.{IsHyphenText, IsLeftText, hyphen_comparator}
 use Rattle.semver_sets.specs.PartialText.{IsPartialText, Partial}
-use Rattle.semver_versions.specs.Reading.{begins, prefix_of, rest_of}
+use Rattle.semver_texts.specs.Reading.{begins, prefix_of, rest_of}
 use Rattle.semver_sets.specs.Private.WordReading.{ReadPartial, Word, or_else, read_hyphen, read_partial, read_right}
 use Rattle.semver_sets.specs.Private.WordReading.{right_at, said_hyphen, with_left}
 use Rattle.semver_sets.proofs.Texts.CleanEnds.{blanks-clean, true-clean, up_to_clean-takes}
 use Rattle.semver_sets.proofs.Words.PartialReading.{partial-again, partial-no, partial-takes, partial-unblanked}
-use Rattle.semver_versions.specs.Lemmas.Public.{begins-append, begins-with, prefix_of-all, prefix_of-begins}
-use Rattle.semver_versions.specs.Lemmas.Public.{prefix_of-rest_of, rest_of-again, rest_of-all, with-begins}
+use Rattle.semver_texts.specs.Lemmas.Public.{begins-append, begins-with, prefix_of-all, prefix_of-begins}
+use Rattle.semver_texts.specs.Lemmas.Public.{prefix_of-rest_of, rest_of-again, rest_of-all, with-begins}
 
 -- ---- from the blanks before a hyphen on
 

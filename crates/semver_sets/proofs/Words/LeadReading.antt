@@ -5,15 +5,15 @@ use Rattle.std.proofs.Common.{◌≡◌, ℕ, List, [], ◌∷◌, ◌++◌, Opt
 use Rattle.std.proofs.Common.{subst, append_assoc}
 use Rattle.std.proofs.lemmas.Bool.{cases_Bool, eqb-true}
 use Rattle.std.specs.Prelude.{◌==◌}
-use Rattle.semver_versions.specs.Characters.{AreAll, BeginsWithNo, caret, greater_sign, is_blank, tilde}
+use Rattle.semver_texts.specs.Characters.{AreAll, BeginsWithNo, caret, greater_sign, is_blank, tilde}
 use Rattle.semver_sets.specs.Operators.{Operator, operator_text}
 use Rattle.semver_sets.specs.PartialText.{Partial}
-use Rattle.semver_versions.specs.Reading.{prefix_of, rest_of}
+use Rattle.semver_texts.specs.Reading.{prefix_of, rest_of}
 use Rattle.semver_sets.specs.Private.WordReading.{Lead, caret_lead, no_lead, operator, operator_lead}
 use Rattle.semver_sets.specs.Private.WordReading.{read_lead, read_operator, read_partial, tilde_at, tilde_greater_lead}
 use Rattle.semver_sets.specs.Private.WordReading.{tilde_lead}
 use Rattle.semver_sets.proofs.Words.PartialReading.{partial-no}
-use Rattle.semver_versions.specs.Lemmas.Public.{prefix_of-all, prefix_of-rest_of, rest_of-again}
+use Rattle.semver_texts.specs.Lemmas.Public.{prefix_of-all, prefix_of-rest_of, rest_of-again}
 
 -- ---- no lead
 

@@ -6,18 +6,18 @@ use Rattle.std.proofs.lemmas.Bool.{and_from, and_parts, cases_Bool, eqb-true}
 use Rattle.std.proofs.lemmas.List.Folds.{list_all-append}
 use Rattle.std.specs.Prelude.{◌==◌, not}
 use Rattle.std.specs.List.{AllByRecursion, list_all}
-use Rattle.semver_versions.specs.Characters.{AreAll, bar, caret, dot, greater_sign, is_blank}
-use Rattle.semver_versions.specs.Characters.{is_partial_mark, mark_of, tilde}
+use Rattle.semver_texts.specs.Characters.{AreAll, bar, caret, dot, greater_sign, is_blank}
+use Rattle.semver_texts.specs.Characters.{is_partial_mark, mark_of, tilde}
 use Rattle.semver_sets.specs.Comparator.{Comparator}
 use Rattle.semver_sets.specs.Division.{EndsInBar, HasBars, IsSimpleText, by_caret, by_operator, by_tilde, plain}
-use Rattle.semver_versions.specs.IdentifierText.{IsBuildText, IsExtrasText, IsIdentifierList, IsIdentifierText}
-use Rattle.semver_versions.specs.IdentifierText.{IsPrereleaseText, parts_of}
-use Rattle.semver_versions.specs.IdentifierValue.{IdentifierValue}
+use Rattle.semver_texts.specs.IdentifierText.{IsBuildText, IsExtrasText, IsIdentifierList, IsIdentifierText}
+use Rattle.semver_texts.specs.IdentifierText.{IsPrereleaseText, parts_of}
+use Rattle.semver_texts.specs.IdentifierValue.{IdentifierValue}
 use Rattle.semver_sets.specs.Operators.{Operator, operator_text}
 use Rattle.semver_sets.specs.PartialText.{IsComponentText, IsLed, IsPartialText, IsUnmarkedPartial, Partial, one, three}
 use Rattle.semver_sets.specs.PartialText.{two}
 use Rattle.semver_sets.specs.TildeRanges.{with_tilde, with_tilde_greater}
-use Rattle.semver_versions.specs.Lemmas.Public.{parts-dot, parts-other, parts-shape}
+use Rattle.semver_texts.specs.Lemmas.Public.{parts-dot, parts-other, parts-shape}
 
 -- ---- texts whose characters are all no `|`
 

@@ -1,11 +1,11 @@
 -- What a partial that is read holds, and its version.
 use Rattle.std.proofs.Common.{◌≤◌, ℕ, List, Option, Some, None, arith}
 use Rattle.std.specs.List.{AllByRecursion}
-use Rattle.semver_versions.specs.declared.TheConstants.{MAX_SAFE_INTEGER}
+use Rattle.semver_texts.specs.declared.TheConstants.{MAX_SAFE_INTEGER}
 use Rattle.semver_sets.specs.PartialText.{IsLed, IsPartialText, IsUnmarkedPartial, Partial}
 use Rattle.semver_sets.specs.PartialText.{zeroed}
-use Rattle.semver_versions.specs.IdentifierText.{IsReadIdentifier}
-use Rattle.semver_versions.specs.Lemmas.Public.{build-read, prerelease-read}
+use Rattle.semver_texts.specs.IdentifierText.{IsReadIdentifier}
+use Rattle.semver_texts.specs.Lemmas.Public.{build-read, prerelease-read}
 use Rattle.semver_sets.specs.Lemmas.Forms.{IsReadVersion}
 
 -- ---- partials

@@ -3,14 +3,14 @@ use native.Mathlib.Omega.{arith}
 use Rattle.std.proofs.Common.{◌≡◌, ℕ, Bool, true, false, List, [], ◌∷◌, ◌++◌, Some, refl, sym, ap, ◌∙◌}
 use Rattle.std.proofs.lemmas.Bool.{cases_Bool, eqb-true, or_left, or_right}
 use Rattle.std.specs.Prelude.{◌==◌, ◌||◌}
-use Rattle.semver_versions.specs.Characters.{BeginsWith, BeginsWithNo, is_blank, is_digit, is_partial_mark, is_x}
-use Rattle.semver_versions.specs.Characters.{IsCleanEnd}
+use Rattle.semver_texts.specs.Characters.{BeginsWith, BeginsWithNo, is_blank, is_digit, is_partial_mark, is_x}
+use Rattle.semver_texts.specs.Characters.{IsCleanEnd}
 use Rattle.semver_sets.specs.PartialText.{IsPartialText, IsUnmarkedPartial, Partial}
-use Rattle.semver_versions.specs.Reading.{rest_of, skip_one}
+use Rattle.semver_texts.specs.Reading.{rest_of, skip_one}
 use Rattle.semver_sets.specs.Private.WordReading.{read_components, read_partial}
 use Rattle.semver_sets.proofs.Words.DottedReading.{components-again, components-takes, same-read}
-use Rattle.semver_versions.specs.Lemmas.Public.{TakesMarked, begins-append, begins-some, blank-cases, marked-follows}
-use Rattle.semver_versions.specs.Lemmas.Public.{marked-taken, rest_of-none}
+use Rattle.semver_texts.specs.Lemmas.Public.{TakesMarked, begins-append, begins-some, blank-cases, marked-follows}
+use Rattle.semver_texts.specs.Lemmas.Public.{marked-taken, rest_of-none}
 
 -- ---- the first character
 

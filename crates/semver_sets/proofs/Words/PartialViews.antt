@@ -3,16 +3,16 @@ use Rattle.std.proofs.Common.{◌≡◌, ◌≢◌, ◌<◌, ◌≤◌, ℕ, ari
 use Rattle.std.proofs.Common.{Ok, Option, Some, None, refl, sym}
 use Rattle.std.proofs.lemmas.Bool.{ne_eqb}
 use Rattle.std.proofs.lemmas.List.{take_all}
-use Rattle.semver_versions.specs.declared.TheConstants.{MAX_SAFE_INTEGER}
-use Rattle.semver_versions.specs.Lemmas.Public.{clean_extras, digit-begins_no_x, digit-no_blank}
-use Rattle.semver_versions.specs.Lemmas.Public.{digit-no_partial_mark, number-digit, number-takes}
-use Rattle.semver_versions.specs.Characters.{BeginsWith, BeginsWithNo, dot, is_blank, is_digit, is_partial_mark, is_x}
+use Rattle.semver_texts.specs.declared.TheConstants.{MAX_SAFE_INTEGER}
+use Rattle.semver_texts.specs.Lemmas.Public.{clean_extras, digit-begins_no_x, digit-no_blank}
+use Rattle.semver_texts.specs.Lemmas.Public.{digit-no_partial_mark, number-digit, number-takes}
+use Rattle.semver_texts.specs.Characters.{BeginsWith, BeginsWithNo, dot, is_blank, is_digit, is_partial_mark, is_x}
 use Rattle.semver_sets.specs.PartialText.{Partial, plain_partial, zeroed}
 use Rattle.semver_sets.specs.Private.WordViews.{IsSound, partial_seen, written_seen}
 use Rattle.semver_sets.specs.declared.partial.Partial.{Partial as CodePartial}
 use Rattle.semver_sets.specs.Private.RangeViews.{IsFullNumbers}
-use Rattle.semver_versions.specs.Reading.{read_extras, read_number}
-use Rattle.semver_versions.specs.Reading.{rest_of, skip_one}
+use Rattle.semver_texts.specs.Reading.{read_extras, read_number}
+use Rattle.semver_texts.specs.Reading.{rest_of, skip_one}
 use Rattle.semver_sets.specs.Private.WordReading.{after_dot, read_component, read_components, read_from_minor}
 use Rattle.semver_sets.specs.Private.WordReading.{read_from_patch, read_partial, with_extras}
 

@@ -3,8 +3,8 @@ use native.Mathlib.Omega.{arith}
 use Rattle.std.proofs.Common.{◌≡◌, List, ℕ, Option, Some}
 use Rattle.std.proofs.lemmas.Option.{same_Some}
 use Rattle.semver_cuts.specs.Ends.{IsCutBelow}
-use Rattle.semver_versions.specs.Comparison.{version_cmp}
-use Rattle.semver_versions.specs.Version.{VersionValue}
+use Rattle.semver_texts.specs.Comparison.{version_cmp}
+use Rattle.semver_texts.specs.Version.{VersionValue}
 use Rattle.semver_sets.specs.Comparator.{Comparator}
 use Rattle.semver_sets.specs.Division.{IsSimpleText, by_caret, by_operator, by_tilde, plain}
 use Rattle.semver_sets.specs.CaretRanges.{caret_row}

@@ -5,14 +5,14 @@ use Rattle.std.proofs.Common.{append_assoc}
 use Rattle.std.proofs.lemmas.Bool.{and_parts}
 use Rattle.std.proofs.lemmas.Option.{same_Some}
 use Rattle.std.specs.Prelude.{◌==◌}
-use Rattle.semver_versions.specs.Characters.{AreAll, BeginsWithNo, caret, greater_sign, is_blank, tilde}
+use Rattle.semver_texts.specs.Characters.{AreAll, BeginsWithNo, caret, greater_sign, is_blank, tilde}
 use Rattle.semver_sets.specs.Comparator.{Comparator}
 use Rattle.semver_sets.specs.Division.{IsSimpleText, by_caret, by_operator, by_tilde, plain}
-use Rattle.semver_versions.specs.Characters.{IsCleanEnd}
+use Rattle.semver_texts.specs.Characters.{IsCleanEnd}
 use Rattle.semver_sets.specs.Operators.{operator_text}
 use Rattle.semver_sets.specs.PartialText.{IsLed, IsPartialText, Partial}
 use Rattle.semver_sets.specs.TildeRanges.{with_tilde, with_tilde_greater}
-use Rattle.semver_versions.specs.Reading.{rest_of}
+use Rattle.semver_texts.specs.Reading.{rest_of}
 use Rattle.semver_sets.specs.Private.WordReading.{Lead, ReadPartial, Word, caret_lead, lead_comparator, no_lead}
 use Rattle.semver_sets.specs.Private.WordReading.{operator, read_lead, read_partial, read_simple, said}
 use Rattle.semver_sets.specs.Private.WordReading.{tilde_greater_lead, tilde_lead, up_to_clean}
@@ -20,7 +20,7 @@ use Rattle.semver_sets.proofs.Texts.CleanEnds.{up_to_clean-takes}
 use Rattle.semver_sets.proofs.Words.LeadReading.{IsFollowed, StandsBefore, lead-caret, lead-none, lead-operator}
 use Rattle.semver_sets.proofs.Words.LeadReading.{lead-takes, lead-tilde, lead-tilde_greater}
 use Rattle.semver_sets.proofs.Words.PartialReading.{partial-again, partial-no, partial-takes, partial-unblanked}
-use Rattle.semver_versions.specs.Lemmas.Public.{blank-cases, no-append, rest_of-all}
+use Rattle.semver_texts.specs.Lemmas.Public.{blank-cases, no-append, rest_of-all}
 
 -- a text of a word with a clean end after it begins the text
 pub record TakesSimple (text : List ℕ) (comparator : Option Comparator) (rest : List ℕ) : Type 0 where

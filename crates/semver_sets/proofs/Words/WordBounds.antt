@@ -1,7 +1,7 @@
 -- What a word of a range text writes: a comparator with ends that a range can have, or none.
 use native.Mathlib.Omega.{arith}
 use Rattle.std.proofs.Common.{List, ℕ, Option, Some, None, sym, subst}
-use Rattle.semver_versions.specs.Version.{VersionValue}
+use Rattle.semver_texts.specs.Version.{VersionValue}
 use Rattle.semver_sets.specs.Comparator.{Comparator}
 use Rattle.semver_sets.specs.Division.{IsWord, hyphen_range, ignored, simple}
 use Rattle.semver_sets.specs.Forms.{comparator_of}

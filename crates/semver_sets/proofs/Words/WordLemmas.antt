@@ -2,20 +2,20 @@
 use native.Mathlib.Omega.{arith}
 use Rattle.std.proofs.Common.{◌≡◌, ◌⊎◌, ℕ, true, List, ◌∷◌, ◌++◌, Option, Some, None, refl, sym, subst}
 use Rattle.std.proofs.lemmas.Bool.{cases_Bool, eqb-true, or_cases}
-use Rattle.semver_versions.specs.Characters.{BeginsWithNo, is_blank}
+use Rattle.semver_texts.specs.Characters.{BeginsWithNo, is_blank}
 use Rattle.semver_sets.specs.Comparator.{Comparator}
 use Rattle.semver_sets.specs.Division.{IsSimpleText, IsWord, NoneAt, hyphen_range, ignored, simple}
-use Rattle.semver_versions.specs.Characters.{IsCleanEnd}
+use Rattle.semver_texts.specs.Characters.{IsCleanEnd}
 use Rattle.semver_sets.specs.HyphenRanges.{IsHyphenText, hyphen_comparator}
 use Rattle.semver_sets.specs.PartialText.{Partial}
-use Rattle.semver_versions.specs.Reading.{prefix_of, rest_of}
+use Rattle.semver_texts.specs.Reading.{prefix_of, rest_of}
 use Rattle.semver_sets.specs.Private.WordReading.{ReadPartial, Word, is_not_blank, no_lead, or_else, or_ignored}
 use Rattle.semver_sets.specs.Private.WordReading.{read_hyphen, read_lead, read_operator, read_partial, read_right}
 use Rattle.semver_sets.specs.Private.WordReading.{read_simple, read_word, said, up_to_clean, with_left}
 use Rattle.semver_sets.proofs.Words.HyphenReading.{hyphen-again, hyphen-takes}
 use Rattle.semver_sets.proofs.Words.LeadReading.{lead-none}
 use Rattle.semver_sets.proofs.Words.PartialReading.{partial-unblanked}
-use Rattle.semver_versions.specs.Lemmas.Public.{prefix_of-all, prefix_of-rest_of, rest_of-again, rest_of-no}
+use Rattle.semver_texts.specs.Lemmas.Public.{prefix_of-all, prefix_of-rest_of, rest_of-again, rest_of-no}
 use Rattle.semver_sets.proofs.Words.SimpleReading.{simple-again, simple-takes}
 
 -- what begins with no solid character is the end or begins with a blank

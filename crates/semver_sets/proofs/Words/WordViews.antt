@@ -4,9 +4,9 @@ use Rattle.std.proofs.Common.{◌≡◌, ◌≢◌, ◌⊎◌, ◌<◌, ℕ, ari
 use Rattle.std.proofs.Common.{Some, None, refl, ap, inl, inr}
 use Rattle.std.proofs.lemmas.Bool.{and_parts, cases_Bool, leb-true, ne_eqb}
 use Rattle.std.proofs.lemmas.Option.{same_Some}
-use Rattle.semver_versions.specs.Characters.{BeginsWithNo, is_blank, is_digit}
+use Rattle.semver_texts.specs.Characters.{BeginsWithNo, is_blank, is_digit}
 use Rattle.semver_sets.specs.PartialText.{Partial}
-use Rattle.semver_versions.specs.Reading.{begins, read_number, rest_of, skip_one}
+use Rattle.semver_texts.specs.Reading.{begins, read_number, rest_of, skip_one}
 use Rattle.semver_sets.specs.Private.WordReading.{Lead, ReadPartial, Word, lead_comparator, no_lead, operator}
 use Rattle.semver_sets.specs.Private.WordReading.{is_not_blank, or_else, or_ignored, read_component}
 use Rattle.semver_sets.specs.Private.WordReading.{read_components, read_hyphen, read_lead, read_word}
@@ -17,9 +17,9 @@ use Rattle.semver_sets.specs.declared.word.Lead.{Lead as CodeLead}
 use Rattle.semver_sets.specs.declared.word.Lead.TheVariants.{Plain}
 use Rattle.semver_sets.specs.declared.word.ends.Sides.{Sides}
 use Rattle.semver_sets.specs.declared.word.ends.Sides.TheVariants as AllSides
-use Rattle.semver_versions.specs.Version.{VersionValue}
+use Rattle.semver_texts.specs.Version.{VersionValue}
 use Rattle.semver_sets.proofs.Words.LeadReading.{lead-not_partial, lead-plain}
-use Rattle.semver_versions.specs.Lemmas.Public.{with_no-begins}
+use Rattle.semver_texts.specs.Lemmas.Public.{with_no-begins}
 
 -- ---- leads
 

@@ -5,12 +5,12 @@ use Rattle.std.specs.Ordering.{ordering_then}
 use Rattle.semver_cuts.specs.declared.cut.Cut.{Cut}
 use Rattle.semver_cuts.specs.declared.cut.Cut.TheVariants.{Start, Before, After, End}
 use Rattle.semver_cuts.specs.Ends.{IsCutAtMost, IsCutBelow}
-use Rattle.semver_versions.specs.Comparison.{version_cmp}
+use Rattle.semver_texts.specs.Comparison.{version_cmp}
 use Rattle.semver_sets.specs.Meaning.{Opens}
-use Rattle.semver_versions.specs.Order.{IsBelow, IsSame}
-use Rattle.semver_versions.specs.Lemmas.Public.{Equal-version, Less-version, prerelease-below, triple-back}
-use Rattle.semver_versions.specs.Lemmas.Public.{triple-between}
-use Rattle.semver_versions.specs.Version.{HasSameTriple, IsPrerelease, VersionValue}
+use Rattle.semver_texts.specs.Order.{IsBelow, IsSame}
+use Rattle.semver_texts.specs.Lemmas.Public.{Equal-version, Less-version, prerelease-below, triple-back}
+use Rattle.semver_texts.specs.Lemmas.Public.{triple-between}
+use Rattle.semver_texts.specs.Version.{HasSameTriple, IsPrerelease, VersionValue}
 
 pub from-cmp : (v w : VersionValue) → (version_cmp v w ≡ Less) ⊎ (version_cmp v w ≡ Equal) → IsBelow v w ⊎ IsSame v w
 from-cmp v w h1 = grind (arith, Less-version, Equal-version)

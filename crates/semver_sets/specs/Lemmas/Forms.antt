@@ -5,12 +5,12 @@ use Rattle.std.specs.List.{AllByRecursion}
 use Rattle.std.specs.Ordering.{ordering_then}
 use Rattle.std.specs.declared.cmp.Ordering.TheVariants.{Less}
 use Rattle.semver_cuts.specs.Ends.{IsCutBelow}
-use Rattle.semver_versions.specs.Comparison.{version_cmp}
-use Rattle.semver_versions.specs.IdentifierText.{IsReadIdentifier}
-use Rattle.semver_versions.specs.IdentifierValue.{numeric}
-use Rattle.semver_versions.specs.Lemmas.Public.{version-Less, version_total}
-use Rattle.semver_versions.specs.Version.{VersionValue, least_of, release, without_build}
-use Rattle.semver_versions.specs.declared.TheConstants.{MAX_SAFE_INTEGER}
+use Rattle.semver_texts.specs.Comparison.{version_cmp}
+use Rattle.semver_texts.specs.IdentifierText.{IsReadIdentifier}
+use Rattle.semver_texts.specs.IdentifierValue.{numeric}
+use Rattle.semver_texts.specs.Lemmas.Public.{version-Less, version_total}
+use Rattle.semver_texts.specs.Version.{VersionValue, least_of, release, without_build}
+use Rattle.semver_texts.specs.declared.TheConstants.{MAX_SAFE_INTEGER}
 use Rattle.semver_sets.specs.Comparator.{Comparator, exactly}
 use Rattle.semver_sets.specs.Forms.{ends_of, least, next_major, next_minor, next_patch}
 use Rattle.semver_sets.specs.RangeSets.{IsRangeCut, IsRangeEnd}

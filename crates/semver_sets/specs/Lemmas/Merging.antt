@@ -14,12 +14,12 @@ use Rattle.semver_cuts.specs.Lemmas.ChosenEnds.{chosen_lower-some, chosen_lower-
 use Rattle.semver_cuts.specs.Lemmas.ChosenEnds.{chosen_upper-one, chosen_upper-push, chosen_upper-unique, common-holds}
 use Rattle.semver_cuts.specs.Lemmas.ChosenEnds.{in_every-between}
 use Rattle.semver_sets.specs.Comparator.{Comparator}
-use Rattle.semver_versions.specs.Comparison.{version_cmp}
+use Rattle.semver_texts.specs.Comparison.{version_cmp}
 use Rattle.semver_sets.specs.Meaning.{AnyByRecursion, GiveSet, HasOpenEnd, IsInside, Opens}
 use Rattle.semver_sets.specs.Merging.{AdmitsTheSame, AreSetsOf, HasOneSet, IsSetOf, LosesNothing, no_more, none}
 use Rattle.semver_sets.specs.Merging.{one_more}
-use Rattle.semver_versions.specs.Version.{IsPrerelease, VersionValue}
-use Rattle.semver_versions.specs.Lemmas.Public.{version_total}
+use Rattle.semver_texts.specs.Version.{IsPrerelease, VersionValue}
+use Rattle.semver_texts.specs.Lemmas.Public.{version_total}
 use Rattle.semver_sets.specs.Lemmas.Convex.{convex-lower, convex-upper}
 
 -- ---- one comparator more

@@ -3,9 +3,9 @@ use Rattle.std.proofs.Common.{◌≡◌, true, List}
 use Rattle.std.specs.Hash.{items_Alike}
 use Rattle.semver_cuts.specs.Ends.{Ends}
 use Rattle.semver_cuts.specs.Lemmas.Hash.{span_alike}
-use Rattle.semver_versions.specs.Comparison.{version_cmp}
-use Rattle.semver_versions.specs.Lemmas.Public.{version_alike}
-use Rattle.semver_versions.specs.Version.{VersionValue}
+use Rattle.semver_texts.specs.Comparison.{version_cmp}
+use Rattle.semver_texts.specs.Lemmas.Public.{version_alike}
+use Rattle.semver_texts.specs.Version.{VersionValue}
 use Rattle.semver_sets.specs.RangeEquality.{are_same_cuts}
 use Rattle.semver_sets.specs.RangeHash.{range_writes}
 

@@ -1,7 +1,7 @@
 -- What the private readers of alternatives compute: a piece, and what follows the `||` after it.
 use Rattle.std.specs.Prelude.{ℕ, ◌==◌, ◌&&◌, if◌then◌else◌, List, [], ◌∷◌, ◌++◌, Option, Some, None}
 use Rattle.std.specs.Borrow.{Bor}
-use Rattle.semver_versions.specs.Characters.{bar}
+use Rattle.semver_texts.specs.Characters.{bar}
 
 -- a piece and what follows the `||` after it, or none
 abbrev pub Piece : Type 0

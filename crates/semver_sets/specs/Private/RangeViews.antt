@@ -4,15 +4,15 @@ use Rattle.std.specs.Prelude.{Result, Ok, Err}
 use Rattle.semver_cuts.specs.declared.cut.Cut.{Cut}
 use Rattle.semver_cuts.specs.Ends.{Ends, IsCutBelow, span_between}
 use Rattle.semver_sets.specs.Comparator.{Comparator}
-use Rattle.semver_versions.specs.Comparison.{version_cmp}
+use Rattle.semver_texts.specs.Comparison.{version_cmp}
 use Rattle.semver_sets.specs.Division.{HasBars, IsAlternative}
 use Rattle.semver_sets.specs.Meaning.{GiveSet, IsRefused}
 use Rattle.semver_sets.specs.Merging.{AreSetsOfText, IsSetOf}
 pub use Rattle.semver_sets.specs.Merging.{IsCommonSpan, IsSpanOf}
 use Rattle.semver_sets.specs.RangeSets.{IsRangeValue, sets_seen}
 use Rattle.semver_sets.specs.PartialText.{plain_partial}
-use Rattle.semver_versions.specs.Version.{VersionValue, release}
-use Rattle.semver_versions.specs.Characters.{BeginsWith, is_digit}
+use Rattle.semver_texts.specs.Version.{VersionValue, release}
+use Rattle.semver_texts.specs.Characters.{BeginsWith, is_digit}
 use Rattle.semver_sets.specs.Private.PieceReading.{piece_at}
 use Rattle.semver_sets.specs.Private.WordViews.{listed}
 use Rattle.semver_sets.specs.Private.WordReading.{read_partial}

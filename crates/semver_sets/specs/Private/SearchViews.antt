@@ -6,10 +6,10 @@ use Rattle.semver_cuts.specs.declared.cut.Cut.{Cut}
 use Rattle.semver_cuts.specs.declared.cut.Cut.TheVariants.{Start, Before, After, End}
 use Rattle.semver_cuts.specs.Ends.{Ends}
 use Rattle.semver_sets.specs.Searching.{has_identifiers, has_open_end}
-use Rattle.semver_versions.specs.Version.{VersionValue}
+use Rattle.semver_texts.specs.Version.{VersionValue}
 use Rattle.semver_sets.specs.declared.set_list.opened.Opening.{Opening}
-use Rattle.semver_versions.specs.Triple.{triple_cmp, triple_of}
-use Rattle.semver_versions.specs.declared.triple.Triple.{Triple}
+use Rattle.semver_texts.specs.Triple.{triple_cmp, triple_of}
+use Rattle.semver_texts.specs.declared.triple.Triple.{Triple}
 
 -- ---- triples
 

@@ -2,18 +2,18 @@
 -- the words. No public contract uses it.
 use Rattle.std.specs.Prelude.{ℕ, ◌==◌, not, if◌then◌else◌, Bool, List, [], ◌∷◌, Option, Some, None, Ok, Err}
 use Rattle.semver_sets.specs.CaretRanges.{caret_row}
-use Rattle.semver_versions.specs.Characters.{caret, dot, greater_sign, hyphen, is_blank, is_partial_mark, is_x, tilde}
+use Rattle.semver_texts.specs.Characters.{caret, dot, greater_sign, hyphen, is_blank, is_partial_mark, is_x, tilde}
 use Rattle.semver_sets.specs.Comparator.{Comparator}
 use Rattle.semver_sets.specs.HyphenRanges.{hyphen_comparator}
-use Rattle.semver_versions.specs.IdentifierValue.{IdentifierValue}
+use Rattle.semver_texts.specs.IdentifierValue.{IdentifierValue}
 use Rattle.semver_sets.specs.Operators.{Operator, equal, greater, greater_or_equal, less}
 use Rattle.semver_sets.specs.Operators.{less_or_equal, operator_row, plain_row}
 use Rattle.semver_sets.specs.Forms.{by_row}
 use Rattle.semver_sets.specs.declared.word.form.Form.{Form}
 use Rattle.semver_sets.specs.PartialText.{Partial, plain_partial}
 use Rattle.semver_sets.specs.TildeRanges.{tilde_greater_row, tilde_row}
-use Rattle.semver_versions.specs.Reading.{Read, begins, is_clean_end, read_extras, read_number, rest_of}
-use Rattle.semver_versions.specs.Reading.{skip_one}
+use Rattle.semver_texts.specs.Reading.{Read, begins, is_clean_end, read_extras, read_number, rest_of}
+use Rattle.semver_texts.specs.Reading.{skip_one}
 
 -- any character but a blank
 abbrev pub is_not_blank : ℕ → Bool

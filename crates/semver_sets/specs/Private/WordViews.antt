@@ -8,11 +8,11 @@ use Rattle.semver_sets.specs.Operators.{equal, greater, greater_or_equal, less, 
 use Rattle.semver_sets.specs.PartialText.{Partial}
 use Rattle.semver_sets.specs.Forms.{least}
 use Rattle.semver_sets.specs.FullTexts.{AreInLimit}
-use Rattle.semver_versions.specs.Version.{VersionValue, without_build}
-use Rattle.semver_versions.specs.Reading.{read_extras}
+use Rattle.semver_texts.specs.Version.{VersionValue, without_build}
+use Rattle.semver_texts.specs.Reading.{read_extras}
 use Rattle.semver_sets.specs.Private.WordReading as Reading
 use Rattle.semver_sets.specs.Private.WordReading.{ReadPartial, Word, with_extras}
-use Rattle.semver_versions.specs.declared.TheConstants.{MAX_SAFE_INTEGER}
+use Rattle.semver_texts.specs.declared.TheConstants.{MAX_SAFE_INTEGER}
 use Rattle.semver_sets.specs.declared.partial.Component.{Component}
 use Rattle.semver_sets.specs.declared.partial.Partial.{Partial as CodePartial}
 use Rattle.semver_sets.specs.declared.word.ends.WordEnds.{WordEnds}

@@ -7,9 +7,9 @@
 ghost use Rattle.std.specs.Prelude.{◌≡◌, ◌++◌, ◌∷◌, [], IfOk, List, None, OnOk};
 ghost use Rattle.semver_cuts.specs.Ends.{span_between};
 ghost use Rattle.semver_cuts.specs.KeptEnds.{IsEarlierLeast, IsLaterGreatest};
-ghost use Rattle.semver_versions.specs.Characters.{BeginsWithNo, is_blank};
-ghost use Rattle.semver_versions.specs.Comparison.{version_cmp};
-ghost use Rattle.semver_versions.specs.Reading.{rest_of};
+ghost use Rattle.semver_texts.specs.Characters.{BeginsWithNo, is_blank};
+ghost use Rattle.semver_texts.specs.Comparison.{version_cmp};
+ghost use Rattle.semver_texts.specs.Reading.{rest_of};
 ghost use Rattle.semver_sets.specs.Comparator.{Comparator};
 ghost use Rattle.semver_sets.specs.Merging.{IsCommonSpan, IsSpanOf};
 ghost use Rattle.semver_sets.specs.Private.RangeViews.{IsNarrowed, IsSetOfAlternative, IsSpanOfAlternative};
@@ -21,8 +21,8 @@ use crate::word::{
     Sides, WordEnds, begins_comparator, read_leading_hyphen, read_word, skip_to_blank,
 };
 use semver_cuts::{Cut, Span};
-use semver_versions::end::EndVersion;
-use semver_versions::parse::skip_blanks;
+use semver_texts::end::EndVersion;
+use semver_texts::parse::skip_blanks;
 use std::alloc::{AllocError, Global};
 use std::marker::Model;
 
@@ -107,7 +107,7 @@ impl Model for CommonSpan {
     ghost use Rattle.semver_cuts.specs.declared.cut.Cut.TheVariants.{Start, End};
     ghost use Rattle.semver_cuts.specs.Ends.{Ends};
     ghost use Rattle.semver_sets.specs.Private.RangeViews.{common_seen};
-    ghost use Rattle.semver_versions.specs.Version.{VersionValue};
+    ghost use Rattle.semver_texts.specs.Version.{VersionValue};
 
     ghost Value = { Option (Ends VersionValue) };
 

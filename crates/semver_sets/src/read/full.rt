@@ -5,8 +5,8 @@
 ghost use Rattle.std.specs.Prelude.{◌≡◌, IfSome, IsTrue, Some};
 ghost use Rattle.semver_cuts.specs.Ends.{IsCutBelow};
 ghost use Rattle.semver_cuts.specs.declared.cut.Cut.TheVariants.{After, Before};
-ghost use Rattle.semver_versions.specs.Comparison.{version_cmp};
-ghost use Rattle.semver_versions.specs.Version as Versions;
+ghost use Rattle.semver_texts.specs.Comparison.{version_cmp};
+ghost use Rattle.semver_texts.specs.Version as Versions;
 ghost use Rattle.semver_sets.specs.Comparator as Comparators;
 ghost use Rattle.semver_sets.specs.FullTexts as FullTexts;
 ghost use Rattle.semver_sets.specs.FullTexts.{AreInLimit, IsFullText};
@@ -15,8 +15,8 @@ ghost use Rattle.semver_sets.specs.RangeSets.{IsRangeSet};
 pub use crate::word::form::Form;
 use crate::word::{caret_form, plain_form, tilde_form};
 use semver_cuts::{Cut, Span};
-use semver_versions::end::EndVersion;
-use semver_versions::parse::number::read_number;
+use semver_texts::end::EndVersion;
+use semver_texts::parse::number::read_number;
 
 /// What is written before the version.
 #[derive(Clone, Copy)]

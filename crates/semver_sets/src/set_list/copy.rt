@@ -1,12 +1,12 @@
 //! Copies of sets.
 ghost use Rattle.std.specs.Prelude.{◌≡◌, ◌++◌, IfOk, OnOk};
 ghost use Rattle.semver_cuts.specs.Ends.{IsCutBelow, span_between};
-ghost use Rattle.semver_versions.specs.Comparison.{version_cmp};
+ghost use Rattle.semver_texts.specs.Comparison.{version_cmp};
 ghost use Rattle.semver_sets.specs.RangeSets.{sets_seen};
 
 use crate::set_list::Sets;
 use semver_cuts::{Cut, Span};
-use semver_versions::end::EndVersion;
+use semver_texts::end::EndVersion;
 use std::alloc::AllocError;
 
 impl Sets {

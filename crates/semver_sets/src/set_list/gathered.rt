@@ -3,14 +3,14 @@ ghost use Rattle.std.specs.Prelude.{◌≡◌, ◌≢◌, ◌++◌, ◌∷◌, [
 ghost use Rattle.semver_cuts.specs.Ends.{Ends};
 ghost use Rattle.semver_sets.specs.Private.RangeViews.{listed_set};
 ghost use Rattle.semver_sets.specs.RangeSets.{sets_of_some, sets_seen};
-ghost use Rattle.semver_versions.specs.Version.{VersionValue};
+ghost use Rattle.semver_texts.specs.Version.{VersionValue};
 
 use crate::set_list::Sets;
 use crate::set_list::copy::copy_of;
 use crate::set_list::indexed::IndexedSets;
 use semver_cuts::algebra::Gather;
 use semver_cuts::{Cut, Span};
-use semver_versions::end::EndVersion;
+use semver_texts::end::EndVersion;
 use std::alloc::{AllocError, Global};
 use std::marker::Model;
 

@@ -7,10 +7,10 @@ ghost use Rattle.semver_cuts.specs.declared.cut.Cut.TheVariants.{Before};
 ghost use Rattle.semver_cuts.specs.SpanLists.{IsInSome};
 ghost use Rattle.semver_cuts.specs.Places.{IsPlacesOf, span_at};
 ghost use Rattle.semver_cuts.specs.Starts.{count_of_starts};
-ghost use Rattle.semver_versions.specs.Comparison.{version_cmp};
+ghost use Rattle.semver_texts.specs.Comparison.{version_cmp};
 ghost use Rattle.semver_sets.specs.Meaning.{AnyByRecursion, IsInside, RangeAdmits, RangeContains};
 ghost use Rattle.semver_sets.specs.Searching.{HasDigits, IsShortSearch, IsShortSearchInside, count_of_opening};
-ghost use Rattle.semver_versions.specs.Version.{IsPrerelease};
+ghost use Rattle.semver_texts.specs.Version.{IsPrerelease};
 ghost use Rattle.semver_sets.specs.Private.SearchViews.{AreOpeningsOf};
 
 use crate::Counts;
@@ -19,8 +19,8 @@ use crate::set_list::copy::copies_of;
 use crate::set_list::opened::{Opening, openings, openings_at};
 use semver_cuts::Span;
 use semver_cuts::algebra::{MergedSpans, Places};
-use semver_versions::AsVersion;
-use semver_versions::end::EndVersion;
+use semver_texts::AsVersion;
+use semver_texts::end::EndVersion;
 use std::alloc::{AllocError, Global};
 use std::marker::Model;
 
@@ -43,9 +43,9 @@ impl Model for IndexedSets {
     ghost use Rattle.std.specs.Prelude.{◌<◌, List, length};
     ghost use Rattle.semver_cuts.specs.Ends.{Ends};
     ghost use Rattle.semver_cuts.specs.Places.{IsPlacesOf};
-    ghost use Rattle.semver_versions.specs.Comparison.{version_cmp};
+    ghost use Rattle.semver_texts.specs.Comparison.{version_cmp};
     ghost use Rattle.semver_sets.specs.Private.SearchViews.{AreOpeningsOf};
-    ghost use Rattle.semver_versions.specs.Version.{VersionValue};
+    ghost use Rattle.semver_texts.specs.Version.{VersionValue};
     ghost use Rattle.semver_sets.specs.declared.set_list.indexed.TheConstants.{FEW_SETS};
 
     ghost Value = { List (Ends VersionValue) };

@@ -7,11 +7,11 @@ ghost use Rattle.std.specs.List.Sorted.{IsPartitionedBy, IsSortedByKey};
 ghost use Rattle.std.specs.Ordering.{is_le};
 ghost use Rattle.semver_sets.specs.Private.SearchViews.{AreOpeningsOf, opened_triple, openings_of, other_than};
 ghost use Rattle.semver_sets.specs.Private.SearchViews.{same_triples, triple_at};
-ghost use Rattle.semver_versions.specs.Triple.{triple_cmp};
+ghost use Rattle.semver_texts.specs.Triple.{triple_cmp};
 
 use semver_cuts::{Cut, Span};
-use semver_versions::Triple;
-use semver_versions::end::EndVersion;
+use semver_texts::Triple;
+use semver_texts::end::EndVersion;
 use std::alloc::{AllocError, Global};
 
 // A triple, and the place of a set that has a prerelease of this triple at an end.

@@ -5,13 +5,13 @@
 ghost use Rattle.std.specs.Prelude.{◌≡◌, IfOk, IfSome, None, Some};
 ghost use Rattle.semver_cuts.specs.declared.cut.Cut.TheVariants.{Before};
 ghost use Rattle.semver_sets.specs.Comparator as Comparators;
-ghost use Rattle.semver_versions.specs.Version as Versions;
+ghost use Rattle.semver_texts.specs.Version as Versions;
 ghost use Rattle.semver_sets.specs.Private.WordViews.{HasUpperAlone, ends_seen, sides_comparator, with_lower, written_seen};
 
 use semver_cuts::Cut;
-use semver_versions::end::EndVersion;
-use semver_versions::identifier::borrowed::borrow_extras;
-use semver_versions::parse::is_clean_end;
+use semver_texts::end::EndVersion;
+use semver_texts::identifier::borrowed::borrow_extras;
+use semver_texts::parse::is_clean_end;
 use std::alloc::{AllocError, Global};
 
 // A version as a word writes it: a triple, and the text that begins with its extras.
@@ -62,7 +62,7 @@ pub(crate) struct WordEnds<'a> {
 
 // `1.2.3`
 #[inline(always)]
-#[tactic(auto, using(semver_versions::specs::Lemmas::Public::no_extras))]
+#[tactic(auto, using(semver_texts::specs::Lemmas::Public::no_extras))]
 pub(crate) fn release(major: u64, minor: u64, patch: u64) -> WrittenVersion<'static>
     ensures { written_seen result ≡ Versions.release major minor patch }
 {
@@ -202,7 +202,7 @@ impl<'a> WordEnds<'a> {
 impl<'a> WrittenVersion<'a> {
     // Builds the version. Most have no extras, and then nothing is allocated.
     #[inline(always)]
-    #[tactic(auto, using(semver_versions::specs::Lemmas::Public::clean_extras))]
+    #[tactic(auto, using(semver_texts::specs::Lemmas::Public::clean_extras))]
     fn end(&self, alloc: Global) -> Result<EndVersion, AllocError>
         ensures { IfOk result (λ e. e ≡ written_seen self.now) }
     {
@@ -215,7 +215,7 @@ impl<'a> WrittenVersion<'a> {
 
     // The same without the build.
     #[inline(always)]
-    #[tactic(auto, using(semver_versions::specs::Lemmas::Public::clean_extras))]
+    #[tactic(auto, using(semver_texts::specs::Lemmas::Public::clean_extras))]
     fn bare_end(&self, alloc: Global) -> Result<EndVersion, AllocError>
         ensures { IfOk result (λ e. e ≡ Versions.without_build (written_seen self.now)) }
     {
@@ -236,7 +236,7 @@ impl<'a> WrittenVersion<'a> {
 
     // `inline(never)`: few versions have extras, and the others then need no stack for them.
     #[inline(never)]
-    #[tactic(auto, unfolding(semver_versions::specs::Reading::read_extras))]
+    #[tactic(auto, unfolding(semver_texts::specs::Reading::read_extras))]
     fn end_with_extras(&self, alloc: Global) -> Result<EndVersion, AllocError>
         ensures { IfOk result (λ e. e ≡ written_seen self.now) }
     {
@@ -251,7 +251,7 @@ impl<'a> WrittenVersion<'a> {
 
     // The same without the build. `inline(never)`: few versions have extras, as at `end_with_extras`.
     #[inline(never)]
-    #[tactic(auto, unfolding(semver_versions::specs::Reading::read_extras))]
+    #[tactic(auto, unfolding(semver_texts::specs::Reading::read_extras))]
     fn end_with_prerelease(&self, alloc: Global) -> Result<EndVersion, AllocError>
         ensures { IfOk result (λ e. e ≡ Versions.without_build (written_seen self.now)) }
     {

@@ -4,7 +4,7 @@
 //! function of one line: the toolchain clears the place of a result where the calling function begins, and so only if
 //! it is called.
 ghost use Rattle.std.specs.Prelude.{◌≡◌, ◌∷◌, IfSome, IsTrue, Some, None};
-ghost use Rattle.semver_versions.specs.Characters.{hyphen};
+ghost use Rattle.semver_texts.specs.Characters.{hyphen};
 ghost use Rattle.semver_sets.specs.HyphenRanges as HyphenRanges;
 ghost use Rattle.semver_sets.specs.Private.WordReading as Reading;
 ghost use Rattle.semver_sets.specs.Private.WordViews.{HasUpperAlone, IsSound, ends_seen, is_upper, partial_seen};
@@ -13,7 +13,7 @@ ghost use Rattle.semver_sets.specs.Private.WordViews.{read_partial_seen, word_se
 use crate::partial::{Components, Partial, read_clean_partial};
 use crate::word::ends::{WordEnds, nothing};
 use crate::word::form::Form;
-use semver_versions::parse::skip_some_blanks;
+use semver_texts::parse::skip_some_blanks;
 
 // `3` and ` <5` of ` - 3 <5`: the right side of a hyphen range, with the blanks around the hyphen
 #[inline(always)]

@@ -2,8 +2,8 @@
 //!
 //! `#[inline(always)]`: see `partial.rt`.
 ghost use Rattle.std.specs.Prelude.{◌≡◌};
-ghost use Rattle.semver_versions.specs.Characters.{is_blank};
-ghost use Rattle.semver_versions.specs.Reading.{rest_of};
+ghost use Rattle.semver_texts.specs.Characters.{is_blank};
+ghost use Rattle.semver_texts.specs.Reading.{rest_of};
 ghost use Rattle.semver_sets.specs.TildeRanges.{tilde_greater_row, tilde_row};
 ghost use Rattle.semver_sets.specs.Private.WordReading as Reading;
 ghost use Rattle.semver_sets.specs.Private.WordViews.{lead_seen};
@@ -11,7 +11,7 @@ ghost use Rattle.semver_sets.specs.Private.WordViews.{lead_seen};
 use crate::partial::Components;
 use crate::word::Lead;
 use crate::word::form::Form;
-use semver_versions::parse::skip_blanks;
+use semver_texts::parse::skip_blanks;
 
 // `> 1.2` of `~ > 1.2`: which tilde it is, and the rest without its leading blanks
 #[inline(always)]

@@ -1,8 +1,8 @@
 -- Worked examples: what the definitions of a version text and of a fault say of some texts.
 use Rattle.std.proofs.Common.{◌≡◌, ℕ, ◌-◌, List, [], ◌∷◌, length, refl, ap, arith, codes, subst}
-use Rattle.semver_versions.specs.IdentifierValue.{IdentifierValue, alphanumeric, numeric}
-use Rattle.semver_versions.specs.Version.{VersionValue}
-use Rattle.semver_versions.specs.VersionText.{IsVersionText}
+use Rattle.semver_texts.specs.IdentifierValue.{IdentifierValue, alphanumeric, numeric}
+use Rattle.semver_texts.specs.Version.{VersionValue}
+use Rattle.semver_texts.specs.VersionText.{IsVersionText}
 use Rattle.semver_versions.specs.Error.{Kind, context, max_int, max_length, other, parse_int}
 use Rattle.semver_versions.specs.Fault.{IsFault, too_long}
 use Rattle.semver_versions.specs.Lemmas.Versions.Computing.{computed, is-computed, is-version_in, version_in}

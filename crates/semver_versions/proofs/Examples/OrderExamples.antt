@@ -1,13 +1,13 @@
 -- Examples of the order, computed from its definitions: SemVer 2.0.0, sections 10 and 11.
 use Rattle.std.proofs.Common.{◌≡◌, ℕ, List, [], ◌∷◌, codes, refl}
 use Rattle.std.specs.declared.cmp.Ordering.TheVariants.{Less, Equal, Greater}
-use Rattle.semver_versions.specs.IdentifierValue.{IdentifierValue, numeric, alphanumeric}
-use Rattle.semver_versions.specs.Version.{VersionValue, release}
-use Rattle.semver_versions.specs.Order.{IsBelow, IsSame}
-use Rattle.semver_versions.specs.Comparison.{version_cmp}
+use Rattle.semver_texts.specs.IdentifierValue.{IdentifierValue, numeric, alphanumeric}
+use Rattle.semver_texts.specs.Version.{VersionValue, release}
+use Rattle.semver_texts.specs.Order.{IsBelow, IsSame}
+use Rattle.semver_texts.specs.Comparison.{version_cmp}
 use Rattle.semver_versions.specs.BuildOrder.{IsBelowWithBuild, version_build_cmp}
 use Rattle.semver_versions.specs.Lemmas.BuildOrder.{version_build_cmp-means}
-use Rattle.semver_versions.specs.Lemmas.Order.{version_cmp-means}
+use Rattle.semver_texts.specs.Lemmas.Order.{version_cmp-means}
 
 -- `1.0.0` with these prerelease identifiers
 abbrev one : List IdentifierValue → VersionValue

@@ -4,14 +4,14 @@ use Rattle.std.proofs.Common.{inl, inr, arith, length-append}
 use Rattle.std.proofs.lemmas.Bool.{cases_Bool}
 use Rattle.std.specs.Prelude.{◌==◌, ◌&&◌, not}
 use Rattle.std.specs.List.{list_all, onto_first, take_while}
-use Rattle.semver_versions.specs.Characters.{BeginsWithNo, dot}
+use Rattle.semver_texts.specs.Characters.{BeginsWithNo, dot}
 use Rattle.semver_versions.specs.Fault.{with_dots}
-use Rattle.semver_versions.specs.IdentifierText.{parts_of}
-use Rattle.semver_versions.specs.Reading.{prefix_of, rest_of}
+use Rattle.semver_texts.specs.IdentifierText.{parts_of}
+use Rattle.semver_texts.specs.Reading.{prefix_of, rest_of}
 use Rattle.semver_versions.specs.Private.StrictViews.{IsStrictUpTo, IsUnstrictFrom, are_strict, is_inner, is_listed}
 use Rattle.semver_versions.specs.Private.StrictViews.{is_strict, strict_offset}
 use Rattle.semver_versions.specs.declared.parse.strict.Part.{Part}
-use Rattle.semver_versions.specs.Lemmas.Texts.Prefixes.{prefix_of-rest_of}
+use Rattle.semver_texts.specs.Lemmas.Texts.Prefixes.{prefix_of-rest_of}
 
 -- of a list of parts, the characters of one part
 abbrev pub inner : (ℕ → Bool) → ℕ → Bool

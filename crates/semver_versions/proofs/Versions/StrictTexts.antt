@@ -4,9 +4,9 @@ use Rattle.std.proofs.Common.{inl, inr, arith, drop, subst, suc, take}
 use Rattle.std.proofs.lemmas.Bool.{cases_Bool}
 use Rattle.std.specs.Prelude.{◌==◌, not}
 use Rattle.std.specs.List.{list_all, prefix_len}
-use Rattle.semver_versions.specs.Characters.{BeginsWithNo, hyphen}
-use Rattle.semver_versions.specs.IdentifierText.{parts_of}
-use Rattle.semver_versions.specs.Reading.{prefix_of, rest_of}
+use Rattle.semver_texts.specs.Characters.{BeginsWithNo, hyphen}
+use Rattle.semver_texts.specs.IdentifierText.{parts_of}
+use Rattle.semver_texts.specs.Reading.{prefix_of, rest_of}
 use Rattle.semver_versions.specs.Private.StrictViews.{IsStrictUpTo, IsUnstrictFrom, is_listed}
 use Rattle.semver_versions.specs.Lemmas.Versions.FaultLemmas.{one_fault, version-no_fault}
 use Rattle.semver_versions.specs.VersionLaws.{HasOneStrictFault, IsNeverStrictAndFaulty}

@@ -2,17 +2,17 @@
 use native.Mathlib.Omega.{arith}
 use Rattle.std.proofs.Common.{◌≡◌, ◌≤◌, ◌⊎◌, ℕ, List, length, Ok, Err, inl, inr}
 use Rattle.std.specs.Prelude.{IfErr, IfOk, Result}
-use Rattle.semver_versions.specs.Print.{version_text}
-use Rattle.semver_versions.specs.Version.{VersionValue}
-use Rattle.semver_versions.specs.VersionText.{IsVersionText}
-use Rattle.semver_versions.specs.declared.TheConstants.{MAX_LENGTH}
+use Rattle.semver_texts.specs.Print.{version_text}
+use Rattle.semver_texts.specs.Version.{VersionValue}
+use Rattle.semver_texts.specs.VersionText.{IsVersionText}
+use Rattle.semver_texts.specs.declared.TheConstants.{MAX_LENGTH}
 use Rattle.semver_versions.specs.Lemmas.Versions.OneReading.{one_reading}
 use Rattle.semver_versions.specs.Error.{IsOutOfMemory}
 use Rattle.semver_versions.specs.Fault.{IsFaultOf}
-use Rattle.semver_versions.specs.ReadingBack.{HasText, VersionReadsBack}
+use Rattle.semver_texts.specs.ReadingBack.{HasText, VersionReadsBack}
 use Rattle.semver_versions.specs.Error.{IsReadAs}
 use Rattle.semver_versions.specs.declared.error.SemverError.{SemverError}
-use Rattle.semver_versions.specs.Lemmas.Versions.PrintReading.{version-print_read, version-reads_back}
+use Rattle.semver_texts.specs.Lemmas.Versions.PrintReading.{version-print_read, version-reads_back}
 use Rattle.semver_versions.specs.Lemmas.Versions.FaultLemmas.{version-no_fault}
 
 -- no other version is the text

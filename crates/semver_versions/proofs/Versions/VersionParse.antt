@@ -5,19 +5,19 @@ use Rattle.std.proofs.Common.{arith, take, drop}
 use Rattle.std.proofs.lemmas.List.{take_rest}
 use Rattle.std.specs.Borrow.{Bor}
 use Rattle.std.specs.Prelude.{IfErr, Result}
-use Rattle.semver_versions.specs.Lemmas.Texts.Prefixes.{begins-append}
-use Rattle.semver_versions.specs.declared.TheConstants.{MAX_LENGTH}
-use Rattle.semver_versions.specs.Characters.{BeginsWith, is_digit}
-use Rattle.semver_versions.specs.Reading.{read_extras}
+use Rattle.semver_texts.specs.Lemmas.Texts.Prefixes.{begins-append}
+use Rattle.semver_texts.specs.declared.TheConstants.{MAX_LENGTH}
+use Rattle.semver_texts.specs.Characters.{BeginsWith, is_digit}
+use Rattle.semver_texts.specs.Reading.{read_extras}
 use Rattle.semver_versions.specs.Private.VersionReading.{read_marked_triple, read_unmarked, read_version}
 use Rattle.semver_versions.specs.Private.VersionReading.{version_of}
-use Rattle.semver_versions.specs.Reading.{seen}
+use Rattle.semver_texts.specs.Reading.{seen}
 use Rattle.semver_versions.specs.Private.VersionReading.{IsBegun}
-use Rattle.semver_versions.specs.declared.parse.fault.Fault.TheVariants.{LeftOver, TooLarge}
-use Rattle.semver_versions.specs.Version.{VersionValue, release}
-use Rattle.semver_versions.specs.VersionText.{IsVersionText}
-use Rattle.semver_versions.specs.declared.parse.fault.Fault.{Fault}
-use Rattle.semver_versions.specs.Lemmas.Texts.ExtrasReading.{no_extras}
+use Rattle.semver_texts.specs.declared.parse.fault.Fault.TheVariants.{LeftOver, TooLarge}
+use Rattle.semver_texts.specs.Version.{VersionValue, release}
+use Rattle.semver_texts.specs.VersionText.{IsVersionText}
+use Rattle.semver_texts.specs.declared.parse.fault.Fault.{Fault}
+use Rattle.semver_texts.specs.Lemmas.Texts.ExtrasReading.{no_extras}
 use Rattle.semver_versions.specs.Lemmas.Versions.OneReading.{read-version}
 use Rattle.semver_versions.specs.Error.{Kind}
 use Rattle.semver_versions.specs.Fault.{IsFault, too_large}

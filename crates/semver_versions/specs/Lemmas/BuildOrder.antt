@@ -7,15 +7,15 @@ use Rattle.std.specs.Cmp.Lexicographic.{lists_total}
 use Rattle.std.specs.FinMap.{slice_cmp-IsAntisymmetric}
 use Rattle.std.specs.declared.cmp.Ordering.{Ordering}
 use Rattle.std.specs.declared.cmp.Ordering.TheVariants.{Less, Equal, Greater}
-use Rattle.semver_versions.specs.Version.{VersionValue}
-use Rattle.semver_versions.specs.Comparison.{identifier_cmp, version_cmp}
-use Rattle.semver_versions.specs.Order.{IsIdentifierBelow, IsSame}
+use Rattle.semver_texts.specs.Version.{VersionValue}
+use Rattle.semver_texts.specs.Comparison.{identifier_cmp, version_cmp}
+use Rattle.semver_texts.specs.Order.{IsIdentifierBelow, IsSame}
 use Rattle.semver_versions.specs.BuildOrder.{build_cmp, version_build_cmp, BuildOrderMeans}
 use Rattle.semver_versions.specs.BuildOrder.{IsBelowWithBuild, by_build, by_precedence}
-use Rattle.semver_versions.specs.Lemmas.Order.{Equal-version, Greater-turned, Less-identifier, Less-list}
-use Rattle.semver_versions.specs.Lemmas.Order.{Less-version, identifier-IsAntisymmetric, identifier-Less}
-use Rattle.semver_versions.specs.Lemmas.Order.{identifier_total, list-Less, then-Less, then-first, then-second}
-use Rattle.semver_versions.specs.Lemmas.Order.{then-tied, version-Equal, version-Less, version_total}
+use Rattle.semver_texts.specs.Lemmas.Order.{Equal-version, Greater-turned, Less-identifier, Less-list}
+use Rattle.semver_texts.specs.Lemmas.Order.{Less-version, identifier-IsAntisymmetric, identifier-Less}
+use Rattle.semver_texts.specs.Lemmas.Order.{identifier_total, list-Less, then-Less, then-first, then-second}
+use Rattle.semver_texts.specs.Lemmas.Order.{then-tied, version-Equal, version-Less, version_total}
 
 pub version_build_total : IsTotalOrder version_build_cmp
 version_build_total = then_total version_total (on_total (λ (v : VersionValue). v.build) (lists_total identifier_total))

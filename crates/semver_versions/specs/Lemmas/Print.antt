@@ -2,10 +2,10 @@
 use native.Mathlib.Omega.{arith}
 use Rattle.std.proofs.Common.{◌≡◌, ℕ, List, [], ◌∷◌, ◌++◌, map, ap, append-nil, flat_map}
 use Rattle.std.specs.List.{join_with_byte}
-use Rattle.semver_versions.specs.Identifier.{value_of, values_of}
-use Rattle.semver_versions.specs.IdentifierValue.{IdentifierValue}
-use Rattle.semver_versions.specs.Print.{identifier_text, marked_text}
-use Rattle.semver_versions.specs.declared.identifier.Identifier.{Identifier}
+use Rattle.semver_texts.specs.Identifier.{value_of, values_of}
+use Rattle.semver_texts.specs.IdentifierValue.{IdentifierValue}
+use Rattle.semver_texts.specs.Print.{identifier_text, marked_text}
+use Rattle.semver_texts.specs.declared.identifier.Identifier.{Identifier}
 
 -- an identifier after a dot
 abbrev pub dotted_text : Identifier → List ℕ

@@ -1,12 +1,10 @@
-pub mod Between
 pub mod Computing
+pub mod DottedReading
 pub mod FaultLemmas
 pub mod FaultReading
 pub mod LargeNumbers
 pub mod LeadingTriple
+pub mod LongestReading
 pub mod OneReading
-pub mod Prereleases
-pub mod PrintReading
-pub mod ReadIdentifiers
 pub mod VersionReading
 pub mod VersionSteps

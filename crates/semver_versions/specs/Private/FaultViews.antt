@@ -1,10 +1,10 @@
 -- What a contract sees of the faults that private readers return.
 use Rattle.std.specs.Prelude.{◌-◌, ◌≤◌, List, ℕ, codes, drop, length}
-use Rattle.semver_versions.specs.Characters.{is_digit}
-use Rattle.semver_versions.specs.NumberText.{number_of}
-use Rattle.semver_versions.specs.Reading.{prefix_of}
-use Rattle.semver_versions.specs.declared.parse.fault.Fault.{Fault}
-use Rattle.semver_versions.specs.declared.parse.fault.Fault.TheVariants.{LeftOver, Missing, TooLarge, TooLong}
+use Rattle.semver_texts.specs.Characters.{is_digit}
+use Rattle.semver_texts.specs.NumberText.{number_of}
+use Rattle.semver_texts.specs.Reading.{prefix_of}
+use Rattle.semver_texts.specs.declared.parse.fault.Fault.{Fault}
+use Rattle.semver_texts.specs.declared.parse.fault.Fault.TheVariants.{LeftOver, Missing, TooLarge, TooLong}
 use Rattle.semver_versions.specs.Error.{Kind, context, max_length, other}
 use Rattle.semver_versions.specs.Fault.{IsFault, too_large}
 

@@ -1,7 +1,7 @@
 -- What a contract sees of the result of a part of `Version::parse`.
 use Rattle.std.specs.Prelude.{◌≡◌, ◌⊎◌, ℕ, List, [], Result, IfOk, IfErr, IsOk}
-use Rattle.semver_versions.specs.Version.{VersionValue}
-use Rattle.semver_versions.specs.VersionText.{IsVersionText}
+use Rattle.semver_texts.specs.Version.{VersionValue}
+use Rattle.semver_texts.specs.VersionText.{IsVersionText}
 use Rattle.semver_versions.specs.Error.{IsOutOfMemory}
 use Rattle.semver_versions.specs.Fault.{IsFaultOf}
 use Rattle.semver_versions.specs.declared.error.SemverError.{SemverError}

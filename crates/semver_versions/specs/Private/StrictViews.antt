@@ -1,9 +1,9 @@
 -- What the private reader of strict texts passes over.
 use Rattle.std.specs.Prelude.{◌≡◌, ◌-◌, ◌≤◌, ℕ, ◌==◌, ◌&&◌, ◌||◌, Bool, true, false, List, length, not}
 use Rattle.std.specs.List.{list_all}
-use Rattle.semver_versions.specs.Characters.{dot, hyphen, plus}
-use Rattle.semver_versions.specs.IdentifierText.{parts_of}
-use Rattle.semver_versions.specs.Reading.{prefix_of, rest_of}
+use Rattle.semver_texts.specs.Characters.{dot, hyphen, plus}
+use Rattle.semver_texts.specs.IdentifierText.{parts_of}
+use Rattle.semver_texts.specs.Reading.{prefix_of, rest_of}
 use Rattle.semver_versions.specs.StrictVersionText.{first_failing, is_strict_identifier, is_strict_number}
 use Rattle.semver_versions.specs.declared.parse.strict.Part.{Part}
 use Rattle.semver_versions.specs.declared.parse.strict.Part.TheVariants.{Identifier, Number}

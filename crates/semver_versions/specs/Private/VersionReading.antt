@@ -1,12 +1,12 @@
 -- What the readers of a version compute: three numbers, and then a prerelease and a build. Lemmas connect it with
 -- `IsVersionText`.
 use Rattle.std.specs.Prelude.{◌≡◌, ◌==◌, ◌≤◌, if◌then◌else◌, ℕ, List, [], ◌∷◌, length, Result, Ok}
-use Rattle.semver_versions.specs.declared.TheConstants.{MAX_LENGTH}
-use Rattle.semver_versions.specs.declared.parse.fault.Fault.{Fault}
-use Rattle.semver_versions.specs.Characters.{dot, is_blank, is_version_mark}
-use Rattle.semver_versions.specs.IdentifierValue.{IdentifierValue}
-use Rattle.semver_versions.specs.Reading.{◌>>=◌, Read, missing, read_extras, read_number, rest_of, skip_one}
-use Rattle.semver_versions.specs.Version.{VersionValue}
+use Rattle.semver_texts.specs.declared.TheConstants.{MAX_LENGTH}
+use Rattle.semver_texts.specs.declared.parse.fault.Fault.{Fault}
+use Rattle.semver_texts.specs.Characters.{dot, is_blank, is_version_mark}
+use Rattle.semver_texts.specs.IdentifierValue.{IdentifierValue}
+use Rattle.semver_texts.specs.Reading.{◌>>=◌, Read, missing, read_extras, read_number, rest_of, skip_one}
+use Rattle.semver_texts.specs.Version.{VersionValue}
 
 -- the text without the dot that it begins with
 unfoldable pub read_dot : List ℕ → Result (List ℕ) Fault

@@ -3,7 +3,7 @@ ghost use Rattle.std.specs.Prelude.{◌≡◌, ◌↔◌, Err, IfOk, IfSome, Non
 ghost use Rattle.serde_json.specs.Data.{string};
 ghost use Rattle.serde_json.specs.Find.{as_str};
 ghost use Rattle.serde_json.specs.View.{view};
-ghost use Rattle.semver_versions.specs.Print.{version_text};
+ghost use Rattle.semver_texts.specs.Print.{version_text};
 ghost use Rattle.semver_versions.specs.declared.json.JsonError.TheVariants.{NotAString};
 ghost use Rattle.semver_versions.specs.Json.{IsVersionAnswer, PassesOn};
 

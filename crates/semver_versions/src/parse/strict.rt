@@ -3,15 +3,15 @@
 //! `#[inline(always)]`: the parts stay in registers.
 ghost use Rattle.std.specs.Prelude.{◌≡◌, ◌-◌, ◌≤◌, ◌==◌, ◌∷◌, IfErr, IfNone, IfOk, IfSome, length};
 ghost use Rattle.std.specs.List.{list_all};
-ghost use Rattle.semver_versions.specs.Characters as Characters;
-ghost use Rattle.semver_versions.specs.Characters.{BeginsWithNo};
+ghost use Rattle.semver_texts.specs.Characters as Characters;
+ghost use Rattle.semver_texts.specs.Characters.{BeginsWithNo};
 ghost use Rattle.semver_versions.specs.Private.StrictViews as StrictViews;
 ghost use Rattle.semver_versions.specs.Private.StrictViews.{IsStrictUpTo, IsUnstrictFrom};
 ghost use Rattle.semver_versions.specs.StrictVersionText as StrictVersionText;
 ghost use Rattle.semver_versions.specs.StrictVersionText.{IsStrictlyWritten, IsUnstrictAt};
 
-use crate::parse::number::is_digit;
-use crate::parse::skip::split;
+use semver_texts::parse::number::is_digit;
+use semver_texts::parse::skip::split;
 
 // What stands between dots.
 #[derive(Clone, Copy)]
@@ -38,7 +38,7 @@ fn are_digits(text: &[u8]) -> bool
 }
 
 #[inline(always)]
-pub(crate) fn has_zero_in_front(text: &[u8]) -> bool
+pub fn has_zero_in_front(text: &[u8]) -> bool
     ensures { result ≡ StrictVersionText.has_zero_in_front text.now }
 {
     matches!(text, [b'0', _, ..])

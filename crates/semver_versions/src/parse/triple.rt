@@ -1,13 +1,13 @@
 ghost use Rattle.std.specs.Prelude.{◌≡◌, IfSome, Ok};
-ghost use Rattle.semver_versions.specs.Characters.{is_blank, is_version_mark};
-ghost use Rattle.semver_versions.specs.Reading as Reading;
+ghost use Rattle.semver_texts.specs.Characters.{is_blank, is_version_mark};
+ghost use Rattle.semver_texts.specs.Reading as Reading;
 ghost use Rattle.semver_versions.specs.Private.VersionReading as VersionReading;
 ghost use Rattle.semver_versions.specs.Private.VersionReading.{read_dotted};
-ghost use Rattle.semver_versions.specs.Reading.{seen};
+ghost use Rattle.semver_texts.specs.Reading.{seen};
 
-use crate::parse::Fault;
-use crate::parse::number::{is_digit, missing, read_number};
-use crate::parse::skip::skip_blanks;
+use semver_texts::parse::Fault;
+use semver_texts::parse::number::{is_digit, missing, read_number};
+use semver_texts::parse::skip::skip_blanks;
 
 // The number after the dot that the text begins with, and the rest: 2 and `.3` for `.2.3`. `inline(always)` in this
 // file: these readers are the usual way of each version, and hand numbers on in registers.
@@ -24,7 +24,7 @@ fn read_dotted(text: &[u8]) -> Result<(u64, &[u8]), Fault>
 
 // The text without the `v` or `V` that it begins with, if it does.
 #[inline(always)]
-#[tactic(auto, unfolding(crate::specs::Reading::skip_one))]
+#[tactic(auto, unfolding(semver_texts::specs::Reading::skip_one))]
 fn skip_version_mark(text: &[u8]) -> &[u8]
     ensures { result.now ≡ Reading.skip_one is_version_mark text.now }
 {

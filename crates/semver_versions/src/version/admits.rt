@@ -1,8 +1,9 @@
 //! What a version can satisfy.
 ghost use Rattle.std.specs.Prelude.{◌↔◌, IsTrue};
-ghost use Rattle.semver_versions.specs.Version.{VersionValue};
+ghost use Rattle.semver_texts.specs.Version.{VersionValue};
 
-use crate::{AsVersion, Version, VersionRef};
+use crate::{Version, VersionRef};
+use semver_texts::AsVersion;
 
 /// A collection of versions that a version can satisfy, such as `node_semver::Range`.
 ///

@@ -1,10 +1,10 @@
 //! Copies of versions.
 
 ghost use Rattle.std.specs.Prelude.{◌≡◌, [], IfOk, IsOk, MatchResult};
-ghost use Rattle.semver_versions.specs.Version.{IsPlain};
+ghost use Rattle.semver_texts.specs.Version.{IsPlain};
 
 use crate::Version;
-use crate::identifier::copy::copies_of;
+use semver_texts::identifier::copy::copies_of;
 use std::alloc::AllocError;
 
 /// Returns a copy of all five fields, including the build.

@@ -2,13 +2,14 @@
 
 ghost use Rattle.std.specs.Prelude.{◌∷◌, ◌++◌, Some, decimal, flat_map};
 ghost use Rattle.std.specs.Fmt.{WritesOnOk};
-ghost use Rattle.semver_versions.specs.Characters.{dot};
-ghost use Rattle.semver_versions.specs.Identifier.{values_of};
-ghost use Rattle.semver_versions.specs.Print.{version_text};
+ghost use Rattle.semver_texts.specs.Characters.{dot};
+ghost use Rattle.semver_texts.specs.Identifier.{values_of};
+ghost use Rattle.semver_texts.specs.Print.{version_text};
 ghost use Rattle.semver_versions.specs.Lemmas.Print.{dotted_text, led_text};
 
-use crate::line::{ROOM, triple_text};
-use crate::{Identifier, Version};
+use crate::Version;
+use semver_texts::Identifier;
+use semver_texts::line::{ROOM, triple_text};
 use std::fmt;
 
 /// Prints major, minor and patch with dots between them, `-` and the prerelease, `+` and the build. Identifiers have

@@ -1,7 +1,7 @@
 //! How versions are hashed.
 
-ghost use Rattle.semver_versions.specs.Hash.{version_writes};
-ghost use Rattle.semver_versions.specs.Lemmas.Hash.{version_alike};
+ghost use Rattle.semver_texts.specs.Hash.{version_writes};
+ghost use Rattle.semver_texts.specs.Lemmas.Hash.{version_alike};
 
 use crate::Version;
 use std::hash::{Hash, Hasher};

@@ -5,12 +5,12 @@
 ghost use Rattle.std.specs.Prelude.{◌≡◌, ◌↔◌, Some, IfSome, IsTrue, refl};
 ghost use Rattle.std.specs.Cmp.{eq_by_cmp_equiv, partial_equiv_from_equiv, po};
 ghost use Rattle.std.specs.Ordering.{eq_by_cmp};
-ghost use Rattle.semver_versions.specs.Order.{IsSame, OrderMeans};
-ghost use Rattle.semver_versions.specs.Comparison.{version_cmp};
-ghost use Rattle.semver_versions.specs.Lemmas.Order.{version_total};
+ghost use Rattle.semver_texts.specs.Order.{IsSame, OrderMeans};
+ghost use Rattle.semver_texts.specs.Comparison.{version_cmp};
+ghost use Rattle.semver_texts.specs.Lemmas.Order.{version_total};
 
 use crate::Version;
-use crate::identifier::order::cmp_prereleases;
+use semver_texts::identifier::order::cmp_prereleases;
 use std::cmp::Ordering;
 
 /// Two versions are equal if their three numbers and their prereleases are equal: `v == w` is true exactly if
@@ -35,7 +35,7 @@ impl PartialEq for Version {
     ghost laws = { partial_equiv_from_equiv (eq_by_cmp_equiv version_total) };
 
     #[inline]
-    #[tactic(auto, using(crate::specs::Lemmas::Order::version_same))]
+    #[tactic(auto, using(semver_texts::specs::Lemmas::Order::version_same))]
     fn eq(&self, other: &Version) -> bool
         ensures answer { result ≡ eq_by_cmp version_cmp self.now other.now }
         ensures same { IsTrue result ↔ IsSame self.now other.now }
@@ -92,7 +92,7 @@ impl Ord for Version {
 
     // `inline(always)`: mostly the three numbers decide.
     #[inline(always)]
-    #[tactic(auto, using(crate::specs::Lemmas::Order::version_order))]
+    #[tactic(auto, using(semver_texts::specs::Lemmas::Order::version_order))]
     fn cmp(&self, other: &Version) -> Ordering
         ensures answer { result ≡ version_cmp self.now other.now }
         ensures order { OrderMeans self.now other.now result }

@@ -1,20 +1,22 @@
 ghost use Rattle.std.specs.Prelude.{◌≡◌, ◌⊎◌, ◌≤◌, [], IfOk, IfErr, IfSome, IsOk, length};
 ghost use Rattle.semver_versions.specs.Private.VersionReading.{IsBegun};
-ghost use Rattle.semver_versions.specs.Print.{version_text};
-ghost use Rattle.semver_versions.specs.declared.TheConstants.{MAX_LENGTH};
-ghost use Rattle.semver_versions.specs.Version.{VersionValue, release};
-ghost use Rattle.semver_versions.specs.VersionText.{IsVersionText};
+ghost use Rattle.semver_texts.specs.Print.{version_text};
+ghost use Rattle.semver_texts.specs.declared.TheConstants.{MAX_LENGTH};
+ghost use Rattle.semver_texts.specs.Version.{VersionValue, release};
+ghost use Rattle.semver_texts.specs.VersionText.{IsVersionText};
 ghost use Rattle.semver_versions.specs.Error.{IsOutOfMemory};
 ghost use Rattle.semver_versions.specs.Fault.{IsFaultOf};
 ghost use Rattle.semver_versions.specs.Private.FaultViews.{IsReadFault};
 ghost use Rattle.semver_versions.specs.Private.ParsedViews.{IsParsed};
-ghost use Rattle.semver_versions.specs.ReadingBack.{HasText, VersionReadsBack};
+ghost use Rattle.semver_texts.specs.ReadingBack.{HasText, VersionReadsBack};
 ghost use Rattle.semver_versions.specs.Error.{IsReadAs};
 
-use crate::parse::{Fault, read_leading_triple};
+use crate::parse::read_leading_triple;
 use crate::version_ref::VersionFault;
 use crate::version_ref::read::{read_numbers, read_rest};
-use crate::{MAX_LENGTH, SemverError, Version};
+use crate::{SemverError, Version};
+use semver_texts::MAX_LENGTH;
+use semver_texts::parse::Fault;
 use std::alloc::Global;
 
 impl Version {

@@ -3,14 +3,15 @@
 ghost use Rattle.std.specs.Prelude.{◌≡◌, ◌↔◌, IfOk, IfSome, IsNone};
 ghost use Rattle.std.specs.List.{AllByRecursion};
 ghost use Rattle.semver_cuts.specs.Steps.{IsLeast, IsNext};
-ghost use Rattle.semver_versions.specs.Comparison.{version_cmp};
-ghost use Rattle.semver_versions.specs.Identifier.{value_of, values_of};
-ghost use Rattle.semver_versions.specs.Version.{least_of};
+ghost use Rattle.semver_texts.specs.Comparison.{version_cmp};
+ghost use Rattle.semver_texts.specs.Identifier.{value_of, values_of};
+ghost use Rattle.semver_texts.specs.Version.{least_of};
 ghost use Rattle.semver_versions.specs.VersionSteps.{HasGreatestPatch, IsIdentifier, IsVersion, next_version};
 
-use crate::identifier::copy::copies_with_zero;
-use crate::{Identifier, Version};
+use crate::Version;
 use semver_cuts::Stepped;
+use semver_texts::Identifier;
+use semver_texts::identifier::copy::copies_with_zero;
 use std::alloc::{AllocError, Global};
 
 /// The versions with any 64-bit numbers and any identifiers, in order. The least one is `0.0.0-0`.

@@ -1,8 +1,9 @@
 //! Copies of a version that borrows its text: with lists of its own, and one that borrows the same text.
 ghost use Rattle.std.specs.Prelude.{◌≡◌, ⊤, IfOk, IsOk};
-ghost use Rattle.semver_versions.specs.Version.{IsPlain};
+ghost use Rattle.semver_texts.specs.Version.{IsPlain};
 
 use crate::{Version, VersionRef};
+use semver_texts::identifier::copy::to_vec_inline;
 use std::alloc::{AllocError, Global};
 
 /// Returns the same version, which borrows the same text, as `copy` does. Always returns `Ok`.
@@ -40,7 +41,7 @@ impl<'a> VersionRef<'a> {
     {
         // In place of two `?`: the lists then stay in registers, which saves 20 instructions.
         match (
-            self.pre_release.to_vec_inline(alloc),
+            to_vec_inline(alloc, &self.pre_release),
             self.build.to_vec(alloc),
         ) {
             (Ok(pre_release), Ok(build)) => Ok(Version {

@@ -1,14 +1,14 @@
 //! How versions that borrow their text are printed.
 ghost use Rattle.std.specs.Prelude.{Some};
 ghost use Rattle.std.specs.Fmt.{WritesOnOk};
-ghost use Rattle.semver_versions.specs.IdentifierText.{IsListed, identifiers_of};
-ghost use Rattle.semver_versions.specs.Print.{version_text};
+ghost use Rattle.semver_texts.specs.IdentifierText.{IsListed, identifiers_of};
+ghost use Rattle.semver_texts.specs.Print.{version_text};
 ghost use Rattle.semver_versions.specs.Lemmas.Print.{led_values};
 
 use crate::VersionRef;
-use crate::identifier::borrowed::borrowed_of;
-use crate::parse::listed::split_first;
 use crate::version::display::write_triple;
+use semver_texts::identifier::borrowed::{borrowed_of, text_of};
+use semver_texts::parse::listed::split_first;
 use std::fmt;
 
 /// Prints what the [`Version`](crate::Version) of the text prints: not the text itself, if that has a mark or leading
@@ -22,8 +22,8 @@ impl<'a> fmt::Display for VersionRef<'a> {
 
     fn fmt<W: fmt::Write>(&self, f: &mut fmt::Formatter<W>) -> fmt::Result {
         write_triple(f, (self.major, self.minor, self.patch))?;
-        write_list(f, "-", self.pre_release.text)?;
-        write_list(f, "+", self.build.text)
+        write_list(f, "-", text_of(&self.pre_release))?;
+        write_list(f, "+", text_of(&self.build))
     }
 }
 

@@ -1,17 +1,18 @@
 //! The fault of a version text, without a copy of the text.
 ghost use Rattle.std.specs.Prelude.{◌≡◌, ◌⊎◌};
-ghost use Rattle.semver_versions.specs.Characters as Characters;
-ghost use Rattle.semver_versions.specs.Characters.{BeginsWith};
+ghost use Rattle.semver_texts.specs.Characters as Characters;
+ghost use Rattle.semver_texts.specs.Characters.{BeginsWith};
 ghost use Rattle.semver_versions.specs.Error.{IsOutOfMemory, IsRefusalAt, kind_of};
 ghost use Rattle.semver_versions.specs.ErrorLocation.{column_at, lines_before};
 ghost use Rattle.semver_versions.specs.Fault as Told;
-ghost use Rattle.semver_versions.specs.NumberText.{number_of};
+ghost use Rattle.semver_texts.specs.NumberText.{number_of};
 ghost use Rattle.semver_versions.specs.Private.FaultViews.{IsReadFault, kind_in};
-ghost use Rattle.semver_versions.specs.Reading as Reading;
+ghost use Rattle.semver_texts.specs.Reading as Reading;
 ghost use Rattle.semver_versions.specs.VersionFault.{IsVersionFault, fault_kind_of};
-ghost use Rattle.semver_versions.specs.declared.parse.fault.Fault.TheVariants.{TooLarge};
+ghost use Rattle.semver_texts.specs.declared.parse.fault.Fault.TheVariants.{TooLarge};
 
-use crate::parse::{Fault, leading_digits};
+use semver_texts::parse::Fault;
+use semver_texts::parse::number::leading_digits;
 
 mod display;
 

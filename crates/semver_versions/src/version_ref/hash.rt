@@ -1,13 +1,13 @@
 //! How versions that borrow their text are hashed.
 ghost use Rattle.std.specs.Prelude.{◌≡◌, flat_map, fold};
-ghost use Rattle.semver_versions.specs.Hash.{identifier_writes, version_writes};
-ghost use Rattle.semver_versions.specs.IdentifierText.{IsListed, identifiers_of};
-ghost use Rattle.semver_versions.specs.Lemmas.Hash.{version_alike};
+ghost use Rattle.semver_texts.specs.Hash.{identifier_writes, version_writes};
+ghost use Rattle.semver_texts.specs.IdentifierText.{IsListed, identifiers_of};
+ghost use Rattle.semver_texts.specs.Lemmas.Hash.{version_alike};
 
 use crate::VersionRef;
-use crate::identifier::borrowed::borrowed_of;
-use crate::identifier::hash::hash_identifier;
-use crate::parse::listed::split_first;
+use semver_texts::identifier::borrowed::{borrowed_of, text_of};
+use semver_texts::identifier::hash::hash_identifier;
+use semver_texts::parse::listed::split_first;
 use std::hash::{Hash, Hasher};
 
 /// Feeds the hasher what the [`Version`](crate::Version) of the text feeds it.
@@ -25,7 +25,7 @@ impl<'a> Hash for VersionRef<'a> {
         self.minor.hash(state);
         self.patch.hash(state);
         state.write_usize(self.pre_release.len());
-        hash_list(self.pre_release.text, state);
+        hash_list(text_of(&self.pre_release), state);
     }
 }
 

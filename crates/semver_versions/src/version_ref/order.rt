@@ -2,13 +2,13 @@
 ghost use Rattle.std.specs.Prelude.{◌≡◌, ◌↔◌, Some, IfSome, IsTrue, refl};
 ghost use Rattle.std.specs.Cmp.{eq_by_cmp_equiv, partial_equiv_from_equiv, po};
 ghost use Rattle.std.specs.Ordering.{eq_by_cmp};
-ghost use Rattle.semver_versions.specs.Order.{IsSame, OrderMeans};
+ghost use Rattle.semver_texts.specs.Order.{IsSame, OrderMeans};
 ghost use Rattle.semver_versions.specs.BuildOrder.{BuildOrderMeans, version_build_cmp};
-ghost use Rattle.semver_versions.specs.Comparison.{version_cmp};
-ghost use Rattle.semver_versions.specs.Lemmas.Order.{version_total};
+ghost use Rattle.semver_texts.specs.Comparison.{version_cmp};
+ghost use Rattle.semver_texts.specs.Lemmas.Order.{version_total};
 
-use crate::identifier::borrowed::{cmp_borrowed, cmp_lists_borrowed, cmp_with_borrowed};
 use crate::{Version, VersionRef};
+use semver_texts::identifier::borrowed::{cmp_borrowed, cmp_lists_borrowed, cmp_with_borrowed};
 use std::cmp::Ordering;
 
 /// Equal as the `Version`s of the texts are: the build is ignored.
@@ -22,7 +22,7 @@ impl<'a> PartialEq for VersionRef<'a> {
     ghost laws = { partial_equiv_from_equiv (eq_by_cmp_equiv version_total) };
 
     #[inline]
-    #[tactic(auto, using(crate::specs::Lemmas::Order::version_same))]
+    #[tactic(auto, using(semver_texts::specs::Lemmas::Order::version_same))]
     fn eq(&self, other: &VersionRef<'a>) -> bool
         ensures answer { result ≡ eq_by_cmp version_cmp self.now other.now }
         ensures same { IsTrue result ↔ IsSame self.now other.now }
@@ -69,7 +69,7 @@ impl<'a> Ord for VersionRef<'a> {
     ghost matches_eq = { λ v w. refl };
 
     #[inline]
-    #[tactic(auto, using(crate::specs::Lemmas::Order::version_order))]
+    #[tactic(auto, using(semver_texts::specs::Lemmas::Order::version_order))]
     fn cmp(&self, other: &VersionRef<'a>) -> Ordering
         ensures answer { result ≡ version_cmp self.now other.now }
         ensures order { OrderMeans self.now other.now result }
@@ -82,7 +82,9 @@ impl<'a> Ord for VersionRef<'a> {
 }
 
 impl<'a> VersionRef<'a> {
-    /// Returns the order with builds, as [`Version::compare_build`] does for the `Version`s of the texts.
+    /// Returns the order with builds: that of `cmp`, and for versions that `cmp` finds equal, that of their builds.
+    ///
+    /// It is the order that `compare_build` of the crate `npm_semver` returns for the `Version`s of the texts.
     ///
     /// # Memory
     ///
@@ -115,7 +117,7 @@ impl Version {
     ///
     /// SemVer 2.0.0, section 11.
     #[inline]
-    #[tactic(auto, using(crate::specs::Lemmas::Order::version_order))]
+    #[tactic(auto, using(semver_texts::specs::Lemmas::Order::version_order))]
     pub fn cmp_ref(&self, other: &VersionRef<'_>) -> Ordering
         ensures answer { result ≡ version_cmp self.now other.now }
         ensures order { OrderMeans self.now other.now result }

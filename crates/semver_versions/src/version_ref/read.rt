@@ -3,15 +3,16 @@
 //! `#[inline(always)]`: the readers hand numbers and slices on in registers.
 ghost use Rattle.std.specs.Prelude.{IfOk, IfErr};
 ghost use Rattle.semver_versions.specs.Private.VersionReading.{IsBegun};
-ghost use Rattle.semver_versions.specs.Version.{VersionValue};
-ghost use Rattle.semver_versions.specs.VersionText.{IsVersionText};
+ghost use Rattle.semver_texts.specs.Version.{VersionValue};
+ghost use Rattle.semver_texts.specs.VersionText.{IsVersionText};
 ghost use Rattle.semver_versions.specs.Private.FaultViews.{IsReadFault};
 ghost use Rattle.semver_versions.specs.VersionFault.{IsBorrowedAs, IsVersionFault};
 
-use crate::identifier::borrowed::borrow_extras;
-use crate::parse::{Fault, read_marked_triple};
+use crate::parse::read_marked_triple;
 use crate::version_ref::{VersionFault, VersionRef};
-use crate::{Identifiers, MAX_LENGTH};
+use semver_texts::identifier::borrowed::borrow_extras;
+use semver_texts::parse::Fault;
+use semver_texts::{Identifiers, MAX_LENGTH};
 
 impl<'a> VersionRef<'a> {
     /// Reads a version from a text, and borrows the text.

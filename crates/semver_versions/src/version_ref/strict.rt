@@ -1,7 +1,7 @@
 //! Reading a strict version that borrows its text.
 ghost use Rattle.std.specs.Prelude.{IfOk, IfErr};
 ghost use Rattle.semver_versions.specs.StrictVersionText.{IsStrictVersionText};
-ghost use Rattle.semver_versions.specs.Version.{VersionValue};
+ghost use Rattle.semver_texts.specs.Version.{VersionValue};
 ghost use Rattle.semver_versions.specs.VersionFault.{IsBorrowedAs, IsStrictVersionFault};
 
 use crate::parse::strict::unstrict_from;

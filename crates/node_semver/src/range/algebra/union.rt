@@ -3,12 +3,12 @@
 ghost use Rattle.std.specs.Prelude.{◌≡◌, ◌⊎◌, ◌↔◌, ◌++◌, ℕ, IfOk, List};
 ghost use Rattle.semver_cuts.specs.declared.cut.Cut.{Cut};
 ghost use Rattle.semver_cuts.specs.SpanLists.{IsInSome};
-ghost use Rattle.semver_versions.specs.Comparison.{version_cmp};
+ghost use Rattle.semver_texts.specs.Comparison.{version_cmp};
 ghost use Rattle.semver_sets.specs.Meaning.{RangeAdmits};
 ghost use Rattle.semver_sets.specs.Merging.{AreSetsOfText};
 ghost use Rattle.semver_sets.specs.RangeSets.{IsRangeValue};
 ghost use Rattle.semver_sets.specs.Union.{AreJoinable, joined_text};
-ghost use Rattle.semver_versions.specs.Version.{VersionValue};
+ghost use Rattle.semver_texts.specs.Version.{VersionValue};
 
 use crate::Range;
 use semver_sets::laws::joined_texts_write_all_sets;

@@ -3,13 +3,13 @@
 //!
 //! `#[inline(always)]`: each function is a few stores or comparisons in the loop over the candidates.
 ghost use Rattle.std.specs.Prelude.{◌≡◌, ◌↔◌, IsTrue};
-ghost use Rattle.semver_versions.specs.Comparison.{prerelease_cmp};
-ghost use Rattle.semver_versions.specs.Version.{least_of, release, without_build};
+ghost use Rattle.semver_texts.specs.Comparison.{prerelease_cmp};
+ghost use Rattle.semver_texts.specs.Version.{least_of, release, without_build};
 ghost use Rattle.node_semver.specs.Private.CandidateViews.{IsBelowBest};
 
 use crate::range::least::unbuilt::Unbuilt;
-use semver_versions::end::{BorrowedIdentifiers, EndVersion};
-use semver_versions::{AsVersion, Triple};
+use semver_texts::end::{BorrowedIdentifiers, EndVersion};
+use semver_texts::{AsVersion, Triple};
 use std::cmp::Ordering;
 
 impl<'a> Unbuilt<'a> {

@@ -5,14 +5,14 @@ ghost use Rattle.std.specs.Prelude.{◌≡◌, ◌↔◌, Bool, true, false, IsT
 ghost use Rattle.semver_cuts.specs.declared.cut.Cut.{Cut};
 ghost use Rattle.semver_cuts.specs.Ends.{Ends};
 ghost use Rattle.semver_sets.specs.RangeSets.{IsRangeSet, IsRangeCut};
-ghost use Rattle.semver_versions.specs.Version.{VersionValue};
+ghost use Rattle.semver_texts.specs.Version.{VersionValue};
 ghost use Rattle.node_semver.specs.Private.CandidateViews.{AreWantedBeyond, AreWantedOfBoth};
 ghost use Rattle.node_semver.specs.Private.LeastViews.{IsInRange};
 
 use crate::{Comparisons, Range};
 use semver_cuts::{Cut, Span};
-use semver_versions::AsVersion;
-use semver_versions::end::EndVersion;
+use semver_texts::AsVersion;
+use semver_texts::end::EndVersion;
 
 // Which versions a range has: those that it admits, or those that it contains. It is a type without values, as a question
 // is.

@@ -6,7 +6,7 @@ ghost use Rattle.std.specs.Prelude.{◌≡◌, ◌↔◌, [], IsTrue};
 ghost use Rattle.std.specs.List.{AllByRecursion};
 ghost use Rattle.semver_cuts.specs.declared.cut.Cut.TheVariants.{After, Before};
 ghost use Rattle.semver_sets.specs.RangeSets.{IsRangeSet, IsRangeCut, IsRangeEnd};
-ghost use Rattle.semver_versions.specs.Version.{release};
+ghost use Rattle.semver_texts.specs.Version.{release};
 ghost use Rattle.node_semver.specs.Private.CandidateViews.{AreEndsTried, AreSetsTried, IsBelowBest, IsCutTrial};
 ghost use Rattle.node_semver.specs.Private.CandidateViews.{IsLeastOpened, IsOpenTrial, IsShut, IsTrial, first_of};
 
@@ -16,8 +16,8 @@ use crate::range::least::unbuilt::Unbuilt;
 use crate::{Comparisons, Range};
 use semver_cuts::{Cut, Span};
 use semver_sets::set::admits;
-use semver_versions::end::EndVersion;
-use semver_versions::{AsVersion, Triple};
+use semver_texts::end::EndVersion;
+use semver_texts::{AsVersion, Triple};
 
 // The least wanted version, as a candidate that is not built: the least of the wanted candidates.
 #[inline(always)]

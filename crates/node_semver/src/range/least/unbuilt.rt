@@ -6,17 +6,17 @@ ghost use Rattle.std.specs.Prelude.{◌≡◌, ◌↔◌, ◌++◌, [], ◌∷�
 ghost use Rattle.std.specs.declared.cmp.Ordering.TheVariants.{Less};
 ghost use Rattle.semver_cuts.specs.Ends.{IsCutBelow};
 ghost use Rattle.semver_cuts.specs.declared.cut.Cut.TheVariants.{Before};
-ghost use Rattle.semver_versions.specs.Comparison.{prerelease_cmp, version_cmp};
-ghost use Rattle.semver_versions.specs.Identifier.{value_of, values_of};
-ghost use Rattle.semver_versions.specs.IdentifierValue.{numeric};
+ghost use Rattle.semver_texts.specs.Comparison.{prerelease_cmp, version_cmp};
+ghost use Rattle.semver_texts.specs.Identifier.{value_of, values_of};
+ghost use Rattle.semver_texts.specs.IdentifierValue.{numeric};
 ghost use Rattle.node_semver.specs.Private.LeastViews.{IsInsideOrNone, with_zeros};
 
 use crate::{Identifier, Version};
 use semver_cuts::Cut;
-use semver_versions::AsVersion;
-use semver_versions::end::{BorrowedIdentifiers, EndVersion, Zero};
-use semver_versions::identifier::copy::{copies_of, copies_with_zero};
-use semver_versions::identifier::order::cmp_prereleases;
+use semver_texts::AsVersion;
+use semver_texts::end::{BorrowedIdentifiers, EndVersion, Zero};
+use semver_texts::identifier::copy::{copies_of, copies_with_zero};
+use semver_texts::identifier::order::cmp_prereleases;
 use std::alloc::{AllocError, Global};
 use std::cmp::Ordering;
 use std::marker::Model;
@@ -33,10 +33,10 @@ pub(crate) struct Unbuilt<'a> {
 }
 
 impl<'a> Model for Unbuilt<'a> {
-    ghost use Rattle.semver_versions.specs.Identifier.{values_of};
-    ghost use Rattle.semver_versions.specs.EndViews.{borrowed_seen};
+    ghost use Rattle.semver_texts.specs.Identifier.{values_of};
+    ghost use Rattle.semver_texts.specs.EndViews.{borrowed_seen};
     ghost use Rattle.node_semver.specs.Private.LeastViews.{with_zeros};
-    ghost use Rattle.semver_versions.specs.Version.{VersionValue};
+    ghost use Rattle.semver_texts.specs.Version.{VersionValue};
 
     ghost Value = { VersionValue };
 

@@ -2,7 +2,7 @@ use Rattle.std.proofs.Common.{List, subst}
 use Rattle.node_semver_c.specs.Answers.{IsMade, IsUnion}
 use Rattle.node_semver_c.proofs.algebra.node_semver_range_union.Goals as goal
 use Rattle.semver_cuts.specs.Ends.{Ends}
-use Rattle.semver_versions.specs.Version.{VersionValue}
+use Rattle.semver_texts.specs.Version.{VersionValue}
 
 pub returns : goal.returns
 returns c =

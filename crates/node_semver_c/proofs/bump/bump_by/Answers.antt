@@ -3,9 +3,9 @@ use Rattle.std.specs.Prelude.{MatchOption, None, Some}
 use Rattle.node_semver_c.specs.Bumped.{no_identifier}
 use Rattle.node_semver_c.proofs.Bumps.{empty-text, filled-text, known, reported-of}
 use Rattle.node_semver_c.proofs.bump.bump_by.Goals as goal
-use Rattle.semver_versions.specs.Identifier.{value_of}
-use Rattle.semver_versions.specs.IdentifierText.{IsIdentifierText, identifier_of}
-use Rattle.semver_versions.specs.declared.identifier.Identifier.{Identifier}
+use Rattle.semver_texts.specs.Identifier.{value_of}
+use Rattle.semver_texts.specs.IdentifierText.{IsIdentifierText, identifier_of}
+use Rattle.semver_texts.specs.declared.identifier.Identifier.{Identifier}
 
 pub returns-then-is_empty : goal.returns-then-is_empty
 returns-then-is_empty c =

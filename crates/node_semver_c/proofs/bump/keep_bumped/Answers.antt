@@ -1,6 +1,6 @@
 use Rattle.node_semver_c.proofs.Bumps.{raised-of}
 use Rattle.node_semver_c.proofs.bump.keep_bumped.Goals as goal
-use Rattle.semver_versions.specs.Bump.{IsBumped, identifier_seen}
+use Rattle.npm_semver.specs.Bump.{IsBumped, identifier_seen}
 
 pub returns-in-Ok : goal.returns-in-Ok
 returns-in-Ok c =

@@ -1,10 +1,10 @@
 use Rattle.std.proofs.Common.{subst}
 use Rattle.std.specs.Option.{option_map}
 use Rattle.node_semver.specs.Lemmas.GreatestViews.{order_of}
-use Rattle.node_semver_c.specs.Greatest.{IsBetterAt}
+use Rattle.node_semver_c.specs.Private.GreatestPlaces.{IsBetterAt}
 use Rattle.node_semver_c.proofs.GreatestPlaces.{taken-place}
 use Rattle.node_semver_c.proofs.greatest.best_of.Goals as goal
-use Rattle.semver_versions.specs.Version.{VersionValue}
+use Rattle.semver_texts.specs.Version.{VersionValue}
 
 pub versions-preserved : goal.versions-preserved
 versions-preserved g c =

@@ -1,7 +1,8 @@
 use Rattle.std.proofs.Common.{take}
 use Rattle.std.specs.Option.{option_map}
 use Rattle.node_semver.specs.Lemmas.GreatestViews.{order_of}
-use Rattle.node_semver_c.specs.Greatest.{IsBestAtOrNone, values}
+use Rattle.node_semver_c.specs.Greatest.{values}
+use Rattle.node_semver_c.specs.Private.GreatestPlaces.{IsBestAtOrNone}
 use Rattle.node_semver_c.proofs.greatest.best_of.Given as goal
 
 abbrev pub invariant-versions : goal.invariant-versions

@@ -3,7 +3,7 @@ use Rattle.node_semver_c.specs.Answers.{IsFound, IsLeastContainedBeyond}
 use Rattle.node_semver_c.proofs.Found.{found_of}
 use Rattle.node_semver_c.proofs.prereleases.least_beyond.Goals as goal
 use Rattle.semver_cuts.specs.Ends.{Ends}
-use Rattle.semver_versions.specs.Version.{VersionValue}
+use Rattle.semver_texts.specs.Version.{VersionValue}
 
 pub returns-in-Ok : goal.returns-in-Ok
 returns-in-Ok c =

@@ -4,7 +4,7 @@ use Rattle.node_semver_c.specs.Sets.{IsCutGiven, IsNoCut}
 use Rattle.node_semver_c.proofs.GivenSets.{span-given}
 use Rattle.node_semver_c.proofs.sets.span_of.Goals as goal
 use Rattle.semver_cuts.specs.declared.cut.Cut.{Cut}
-use Rattle.semver_versions.specs.Version.{VersionValue}
+use Rattle.semver_texts.specs.Version.{VersionValue}
 
 pub returns-in-Some-Some : goal.returns-in-Some-Some
 returns-in-Some-Some c =

@@ -4,7 +4,7 @@ use Rattle.node_semver_c.specs.Sets.{AreSetsGiven, IsNoSet, IsSetGiven}
 use Rattle.node_semver_c.proofs.GivenSets.{given-more, none-given}
 use Rattle.node_semver_c.proofs.sets.spans_of.Goals as goal
 use Rattle.semver_cuts.specs.Ends.{Ends}
-use Rattle.semver_versions.specs.Version.{VersionValue}
+use Rattle.semver_texts.specs.Version.{VersionValue}
 
 pub returns-in_default : goal.returns-in_default
 returns-in_default c =

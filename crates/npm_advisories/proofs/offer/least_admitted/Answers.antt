@@ -2,7 +2,7 @@
 use Rattle.std.proofs.lemmas.Result.{IfOk-weaker}
 use Rattle.std.proofs.Common.{ℕ, List, [], get_or}
 use denote.Ref.{Bor}
-use Rattle.npm_advisories.proofs.Offering.{asked-next, asked-outside-all, none-asked, same-at}
+use Rattle.npm_advisories.proofs.Offering.{asked-next, asked-outside-all, none-asked, outside-joined, same-at}
 use Rattle.npm_advisories.proofs.Results.{same-offer}
 use Rattle.npm_advisories.proofs.offer.least_admitted.Goals as goal
 
@@ -30,5 +30,6 @@ pub returns : goal.returns
 returns c =
     IfOk-weaker c.least_outside.result _ _ (λ found is. same-offer
     (asked-outside-all (λ text. text.now) c.args.asked.now c.args.spans.items c.loop-text.spans.items
-    c.loop-text.text-index c.loop-text-test.false c.loop-text.invariant.exact) found (rw c.deref.ensures.value at is))
-    c.least_outside.ensures
+    c.loop-text.text-index c.loop-text-test.false c.loop-text.invariant.exact) found (same-offer
+    (outside-joined c.loop-text.spans.items c.in_ok-joined.field-0.items c.in_ok-joined.ensures) found
+    (rw c.deref.ensures.value at is))) c.least_outside.ensures

@@ -4,7 +4,7 @@ use Rattle.node_semver.specs.Errors.{Refusal}
 use Rattle.npm_lock.proofs.verdict.range_of.Goals as goal
 
 pub returns-in-Err-2-clause-refused : goal.returns-in-Err-2-clause-refused
-returns-in-Err-2-clause-refused c = elim (rw c.in-Err.is at c.parse_npm.ensures.refused) [
+returns-in-Err-2-clause-refused c = elim (rw c.in-Err.is at c.parse_range.ensures.refused) [
   | inl memory ↦
       let told : c.is_out_of_memory.result ≡ true =
       c.is_out_of_memory.ensures.1 (ap (λ (refusal : Refusal). refusal.kind) memory) in

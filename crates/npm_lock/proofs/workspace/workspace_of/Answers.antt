@@ -1,35 +1,40 @@
--- Each branch is a case of the definition.
-use Rattle.std.proofs.Common.{◌≡◌, ◌==◌, ◌∙◌, ℕ, List, [], ◌∷◌, Bool, true, arith, eqb→eq, length, refl, rules, sym}
-use Rattle.serde_json.specs.View.{items_view}
+-- The index says which case of the definition this is.
+use Rattle.std.proofs.Common.{◌≡◌, false, subst, sym}
+use Rattle.serde_json.specs.View.{view}
 use Rattle.npm_lock.specs.Folders.{IsInstalled}
-use Rattle.npm_lock.specs.Workspaces.{elsewhere, installed, no_patterns, of_root}
+use Rattle.npm_lock.specs.Workspaces.{IsWorkspace, installed}
+use Rattle.npm_lock.specs.declared.workspace.Workspace.{Workspace}
+use Rattle.npm_lock.proofs.PatternSets.{by_match, by_none, by_unread}
 use Rattle.npm_lock.proofs.workspace.workspace_of.Goals as goal
-use Rattle.npm_lock.proofs.workspace.workspace_of.Goals.{then-not-is_empty-via-then-not-is_empty}
-use Rattle.npm_lock.proofs.workspace.workspace_of.Goals.{then-not-is_empty-via-else-not-is_empty+then-is_installed}
 
-no_bytes : (text : List ℕ) (mark : Bool) → mark ≡ (length text == 0) → mark ≡ true → text ≡ []
-no_bytes [] mark is empty = refl
-no_bytes (b ∷ text) mark is empty =
-    let never : (length (b ∷ text) == 0) ≡ true = sym is ∙ empty in
-    let zero : length (b ∷ text) ≡ 0 = eqb→eq _ _ (rw never tt) in
-    absurd (omega (arith, zero))
+pub returns-then-is_installed : goal.returns-then-is_installed
+returns-then-is_installed c = installed (c.is_installed.ensures.0 c.if-is_installed.true)
 
-pub returns-then-not-is_empty : goal.returns-then-not-is_empty
-returns-then-not-is_empty c = elim c.then-not-is_empty.branch [
-  | then-not-is_empty-via-then-not-is_empty w ↦
-      elsewhere (λ empty. search (rules, empty, c.is_empty.ensures, w.if-not-is_empty.true))
-  | then-not-is_empty-via-else-not-is_empty+then-is_installed w ↦
-      installed (w.is_installed.ensures.0 w.if-is_installed.true)
-]
-
-pub returns-in-Some : goal.returns-in-Some
-returns-in-Some c =
-    let empty = no_bytes c.args.asker.folder.now c.is_empty.result c.is_empty.ensures c.if-not-is_empty.false in
+pub returns-then-patterns : goal.returns-then-patterns
+returns-then-patterns c =
     let outside : ¬ IsInstalled c.args.folder.now = λ inside.
-    let yes = c.is_installed.ensures.1 inside in
-    cc (yes, c.if-is_installed.false) in
-    rw (c.by_patterns.ensures, c.deref.ensures.value)
-    (of_root (items_view c.in-Some.patterns.now.items) empty outside (sym c.in-Some.ensures))
+    cc (c.is_installed.ensures.1 inside, c.if-is_installed.false) in
+    let P : Workspace → Type 0 = λ found.
+    IsWorkspace c.args.asker.folder.now (view c.args.asker.member.now) c.args.folder.now found in
+    subst P (by_unread c.args.patterns.now c.args.folder.now c.if-patterns.true)
+    (c.requires c.args.folder.now outside)
 
-pub returns-in-None : goal.returns-in-None
-returns-in-None c = no_patterns (sym c.in-None.ensures)
+pub returns-then-has_matched : goal.returns-then-has_matched
+returns-then-has_matched c =
+    let outside : ¬ IsInstalled c.args.folder.now = λ inside.
+    cc (c.is_installed.ensures.1 inside, c.if-is_installed.false) in
+    let P : Workspace → Type 0 = λ found.
+    IsWorkspace c.args.asker.folder.now (view c.args.asker.member.now) c.args.folder.now found in
+    subst P (by_match c.args.patterns.now c.args.folder.now c.if-patterns.false
+    (rw c.has_matched.ensures at c.if-has_matched.true))
+    (c.requires c.args.folder.now outside)
+
+pub returns-else-has_matched : goal.returns-else-has_matched
+returns-else-has_matched c =
+    let outside : ¬ IsInstalled c.args.folder.now = λ inside.
+    cc (c.is_installed.ensures.1 inside, c.if-is_installed.false) in
+    let P : Workspace → Type 0 = λ found.
+    IsWorkspace c.args.asker.folder.now (view c.args.asker.member.now) c.args.folder.now found in
+    subst P (by_none c.args.patterns.now c.args.folder.now c.if-patterns.false
+    (rw c.has_matched.ensures at c.if-has_matched.false))
+    (c.requires c.args.folder.now outside)

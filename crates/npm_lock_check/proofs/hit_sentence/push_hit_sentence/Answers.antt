@@ -3,7 +3,7 @@ use Rattle.std.proofs.Common.{◌≡◌, ◌∙◌, ◌++◌, ℕ, List, append_
 use Rattle.npm_advisories.specs.Advisories.{about_value}
 use Rattle.npm_advisories.specs.Audit.{found_value}
 use Rattle.npm_lock_check.specs.HitSentence.{hit_sentence, joined, offer_words}
-use Rattle.npm_lock_check.specs.Sentence.{shown}
+use Rattle.npm_lock_check.specs.Shown.{shown}
 use Rattle.npm_lock_check.proofs.Parts.{last, seen_values}
 use Rattle.npm_lock_check.proofs.hit_sentence.push_hit_sentence.Goals as goal
 

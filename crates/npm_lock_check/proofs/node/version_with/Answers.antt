@@ -4,8 +4,8 @@ use Rattle.node_semver.specs.Errors.{Refusal}
 use Rattle.node_semver.specs.Versions.{IsVersionText}
 use Rattle.npm_lock_check.proofs.node.version_with.Goals as goal
 
-pub returns-clause-version : goal.returns-clause-version
-returns-clause-version c = λ v read.
+pub returns : goal.returns
+returns c = λ v read.
     let whole : c.as_str.result.now ≡ c.args.text.now ++ c.args.zeros.now = search rules in
     let here : IsVersionText c.as_str.result.now v = rw whole read in
     let memory = rw c.in-Err.is at (c.parse.ensures.only v here) in

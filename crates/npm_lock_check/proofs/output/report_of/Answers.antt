@@ -2,7 +2,7 @@
 use Rattle.std.proofs.Common.{◌∙◌, inl, map, refl, sym}
 use Rattle.serde_json.specs.View.{view}
 use Rattle.npm_advisories.specs.Audit.{found_value}
-use Rattle.npm_lock_check.specs.Linked.{linked_value}
+use Rattle.npm_lock_check.specs.Linked.{loaded_value}
 use Rattle.npm_lock_check.specs.Report.{manifests_of, placed, wanted_value}
 use Rattle.npm_lock_check.proofs.Auditing.{length_same, refused_audit, refused_check, refused_lock, some_same}
 use Rattle.npm_lock_check.proofs.Stopping.{passed_on}
@@ -16,16 +16,16 @@ returns-in_err-mismatches-clause-refused c =
 pub returns-in_err-lock-clause-refused : goal.returns-in_err-lock-clause-refused
 returns-in_err-lock-clause-refused c =
     let told = refused_lock (view c.args.lock) (placed (view c.args.lock)
-    (manifests_of (wanted_value c.args.wanted).manifest (map linked_value c.args.linked.items)))
-    (map linked_value c.args.linked.items) (wanted_value c.args.wanted) _
+    (manifests_of (wanted_value c.args.wanted).manifest (loaded_value c.args.loaded).linked))
+    (loaded_value c.args.loaded).linked (wanted_value c.args.wanted) _
     (rw c.in_ok-mismatches.ensures.placed at c.in_err-lock.ensures.refused) in
     passed_on c.from_residual-in_err-lock.result _ _ c.from_residual-in_err-lock.ensures.1 (λ error same. rw same told)
 
 pub returns-in_err-problems-clause-refused : goal.returns-in_err-problems-clause-refused
 returns-in_err-problems-clause-refused c =
     let told = refused_check (view c.args.lock) (placed (view c.args.lock)
-    (manifests_of (wanted_value c.args.wanted).manifest (map linked_value c.args.linked.items)))
-    (view c.in_ok-lock.lock) (map linked_value c.args.linked.items) (wanted_value c.args.wanted) _
+    (manifests_of (wanted_value c.args.wanted).manifest (loaded_value c.args.loaded).linked))
+    (view c.in_ok-lock.lock) (loaded_value c.args.loaded).linked (wanted_value c.args.wanted) _
     (rw c.in_ok-mismatches.ensures.placed at c.in_ok-lock.ensures.made)
     (rw c.in_ok-mismatches.ensures.placed at c.in_ok-lock.ensures.sound) c.in_err-problems.ensures.refused in
     passed_on c.from_residual-in_err-problems.result _ _ c.from_residual-in_err-problems.ensures.1
@@ -34,8 +34,8 @@ returns-in_err-problems-clause-refused c =
 pub returns-in-Err-clause-refused : goal.returns-in-Err-clause-refused
 returns-in-Err-clause-refused c =
     refused_audit (view c.args.lock) (placed (view c.args.lock)
-    (manifests_of (wanted_value c.args.wanted).manifest (map linked_value c.args.linked.items)))
-    (view c.in_ok-lock.lock) (map linked_value c.args.linked.items) (wanted_value c.args.wanted) c.in-Err.error
+    (manifests_of (wanted_value c.args.wanted).manifest (loaded_value c.args.loaded).linked))
+    (view c.in_ok-lock.lock) (loaded_value c.args.loaded).linked (wanted_value c.args.wanted) c.in-Err.error
     (rw c.in_ok-mismatches.ensures.placed at c.in_ok-lock.ensures.made)
     (rw c.in_ok-mismatches.ensures.placed at c.in_ok-lock.ensures.sound) c.in-Err.ensures.refused
 
@@ -46,6 +46,8 @@ returns-in-Ok-lines_of-clause-found c =
       record {
         compared = c.is_compared-compared.ensures;
         mismatches = c.in_ok-mismatches.ensures.mismatches;
+        exact = refl;
+        unread = refl;
         problems = rw made at c.in_ok-problems.ensures.found;
         hit = rw made at c.in-Ok.ensures.found;
         audited = c.is_some.ensures ∙ some_same (λ file. view file.now) c.args.wanted.advisories;

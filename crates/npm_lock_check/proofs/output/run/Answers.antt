@@ -1,8 +1,8 @@
 -- The input was read, and a value was refused, or memory ran out, or the lines were not written.
-use Rattle.std.proofs.Common.{IsSome, None, Option, Some, map, refl}
+use Rattle.std.proofs.Common.{IsSome, None, Option, Some, refl}
 use Rattle.std.specs.Fn.{FnOnceReturnsAt}
 use Rattle.std.specs.Option.{option_or}
-use Rattle.npm_lock_check.specs.Linked.{linked_value}
+use Rattle.npm_lock_check.specs.Linked.{loaded_value}
 use Rattle.npm_lock_check.specs.Output.{IsReported}
 use Rattle.npm_lock_check.specs.Report.{wanted_value}
 use Rattle.npm_lock_check.proofs.Stopping.{refused}
@@ -15,8 +15,8 @@ some_of (Some first) second = refl
 pub returns-in-Err-report_of-clause-refused : goal.returns-in-Err-report_of-clause-refused
 returns-in-Err-report_of-clause-refused g c = λ other.
     refused g.R.Read.remaining c.args.reader.now c.read_json.new.reader (FnOnceReturnsAt g.F.FnOnce c.args.load)
-    (wanted_value c.args.wanted) c.in-Ok.lock (map linked_value c.in-Ok-loaded.linked.items) c.in-Ok.ensures.value
-    c.in-Ok-loaded.ensures.found c.in-Err-report_of.error c.in-Err-report_of.ensures.refused
+    (wanted_value c.args.wanted) c.in-Ok.lock (loaded_value c.in-Ok-load_compared.loaded) c.in-Ok.ensures.value
+    c.in-Ok-load_compared.ensures.found c.in-Err-report_of.error c.in-Err-report_of.ensures.refused
 
 pub returns-in-Err-write_all-clause-write : goal.returns-in-Err-write_all-clause-write
 returns-in-Err-write_all-clause-write g c = λ told.
@@ -26,9 +26,9 @@ returns-in-Err-write_all-clause-write g c = λ told.
     let reported : IsReported g.R.Read.remaining c.args.reader.now c.read_json.new.reader
     (FnOnceReturnsAt g.F.FnOnce c.args.load) (wanted_value c.args.wanted) c.in-Ok-report_of.made.0 made.0 = record {
       lock = c.in-Ok.lock;
-      linked = map linked_value c.in-Ok-loaded.linked.items;
+      loaded = loaded_value c.in-Ok-load_compared.loaded;
       input = c.in-Ok.ensures.value;
-      loaded = c.in-Ok-loaded.ensures.found;
+      given = c.in-Ok-load_compared.ensures.found;
       report_of = made.1;
     } in
     (failed, (c.in-Ok-report_of.made.0, made.0, reported))

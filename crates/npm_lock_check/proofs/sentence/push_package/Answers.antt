@@ -1,6 +1,7 @@
 -- Five parts, one after the other.
 use Rattle.std.proofs.Common.{◌≡◌, ◌∙◌, ◌++◌, ℕ, List, Some, append_assoc, codes, option_map, refl, string_bytes}
-use Rattle.npm_lock_check.specs.Sentence.{after, named_asker, shown}
+use Rattle.npm_lock_check.specs.Sentence.{after, named_asker}
+use Rattle.npm_lock_check.specs.Shown.{shown}
 use Rattle.npm_lock_check.proofs.Parts.{last}
 use Rattle.npm_lock_check.proofs.sentence.push_package.Goals as goal
 

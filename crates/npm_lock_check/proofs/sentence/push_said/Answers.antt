@@ -1,7 +1,8 @@
 -- Six parts, one after the other.
 use Rattle.std.proofs.Common.{◌≡◌, ◌∙◌, ◌++◌, ℕ, List, append_assoc, codes, option_map, refl, string_bytes}
 use Rattle.npm_lock.specs.Outcomes.{dependency_value}
-use Rattle.npm_lock_check.specs.Sentence.{after, asker, said, shown, shown_spec}
+use Rattle.npm_lock_check.specs.Sentence.{after, asker, said, shown_spec}
+use Rattle.npm_lock_check.specs.Shown.{shown}
 use Rattle.npm_lock_check.proofs.Parts.{seen, then_same}
 use Rattle.npm_lock_check.proofs.sentence.push_said.Goals as goal
 

@@ -1,5 +1,5 @@
 use Rattle.std.proofs.Common.{sym}
-use Rattle.semver_versions.specs.Lemmas.Public.{number-takes}
+use Rattle.semver_texts.specs.Lemmas.Public.{number-takes}
 use Rattle.npm_sets.proofs.partial.read_number_component.Goals as goal
 
 pub returns-clause-sound : goal.returns-clause-sound

@@ -1,6 +1,6 @@
 use native.Mathlib.Omega.{arith}
 use Rattle.std.proofs.Common.{◌∙◌, inl, inr, refl, sym}
-use Rattle.semver_versions.specs.Reading.{prefix_of, rest_of}
+use Rattle.semver_texts.specs.Reading.{prefix_of, rest_of}
 use Rattle.npm_sets.specs.WordTexts.{is_solid, is_space}
 use Rattle.npm_sets.proofs.Chunks.ChunkLemmas.{left-solid, no-bytes_told, solid-told, some-bytes_told}
 use Rattle.npm_sets.proofs.Chunks.SideLemmas.{both-sides, not-dashed, not-sides, one-chunk, three-chunks}

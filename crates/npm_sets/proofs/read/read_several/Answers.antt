@@ -1,6 +1,6 @@
 use Rattle.std.proofs.Common.{◌<◌, ◌∷◌, [], ℕ, List, Option, Some, ap, refl, subst, sym}
 use Rattle.semver_cuts.specs.Ends.{Ends}
-use Rattle.semver_versions.specs.Version.{VersionValue}
+use Rattle.semver_texts.specs.Version.{VersionValue}
 use Rattle.semver_sets.specs.RangeSets.{sets_seen}
 use Rattle.npm_sets.specs.NpmMeaning.{piece_comparators}
 use Rattle.npm_sets.specs.Private.ReadViews.{some_seen}

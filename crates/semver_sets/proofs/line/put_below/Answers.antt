@@ -1,5 +1,5 @@
 use Rattle.std.proofs.Common.{arith}
-use Rattle.semver_versions.specs.Lemmas.Public.{whole_text}
+use Rattle.semver_texts.specs.Lemmas.Public.{whole_text}
 use Rattle.semver_sets.proofs.line.put_below.Goals as goal
 
 pub returns-clause-text : goal.returns-clause-text

@@ -3,7 +3,7 @@ use Rattle.std.proofs.Common.{take}
 use borrow.Author.Tests.{ltb-true}
 use Rattle.std.proofs.lemmas.List.{length-drop, take_rest}
 use Rattle.memchr.specs.Find.{NoneBefore, Nowhere, Passes, is_byte}
-use Rattle.semver_versions.specs.Characters.{bar}
+use Rattle.semver_texts.specs.Characters.{bar}
 use Rattle.semver_sets.specs.Private.PieceReading.{bars_after}
 use Rattle.semver_sets.proofs.Ranges.PieceLemmas.{Passed, not-bars, pass-to_bar, passed-end, seen-step}
 use Rattle.semver_sets.proofs.Ranges.PieceLemmas.{seen-stop, two-bars}

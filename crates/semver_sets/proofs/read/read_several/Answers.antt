@@ -1,8 +1,8 @@
 use Rattle.std.proofs.Common.{◌≡◌, ◌<◌, ◌∙◌, ℕ, List, [], ◌∷◌, ◌++◌, Option, Some, ap, subst, sym}
 use Rattle.semver_cuts.specs.Ends.{Ends}
-use Rattle.semver_versions.specs.Characters.{is_blank}
-use Rattle.semver_versions.specs.Reading.{rest_of}
-use Rattle.semver_versions.specs.Version.{VersionValue}
+use Rattle.semver_texts.specs.Characters.{is_blank}
+use Rattle.semver_texts.specs.Reading.{rest_of}
+use Rattle.semver_texts.specs.Version.{VersionValue}
 use Rattle.semver_sets.specs.Merging.{AreSetsOf, none}
 use Rattle.semver_sets.specs.Private.PieceReading.{some_seen}
 use Rattle.semver_sets.specs.Private.RangeViews.{IsSetOfAlternative, listed_set}

@@ -1,12 +1,12 @@
 use Rattle.std.proofs.Common.{◌≡◌, ◌<◌, ℕ, Bool, false, List, [], None, length, arith, ap, sym, subst, ◌∙◌}
 use Rattle.std.specs.Prelude.{◌==◌}
-use Rattle.semver_versions.specs.Characters.{is_blank}
+use Rattle.semver_texts.specs.Characters.{is_blank}
 use Rattle.semver_sets.specs.Comparator.{Comparator}
 use Rattle.semver_sets.specs.Division.{IsAlternative}
-use Rattle.semver_versions.specs.Reading.{rest_of}
+use Rattle.semver_texts.specs.Reading.{rest_of}
 use Rattle.semver_sets.specs.Private.WordReading.{is_not_blank, read_word}
 use Rattle.semver_sets.proofs.Ranges.DivisionLemmas.{completes-more, completes-nothing, next-shorter}
-use Rattle.semver_versions.specs.Lemmas.Public.{rest_of-no}
+use Rattle.semver_texts.specs.Lemmas.Public.{rest_of-no}
 use Rattle.semver_sets.proofs.Words.WordViews.{ignored}
 use Rattle.semver_sets.proofs.word.skip_ignored.Goals as goal
 

@@ -3,7 +3,7 @@ use Rattle.std.proofs.lemmas.List.{take_rest}
 use Rattle.std.proofs.lemmas.Bool.{cases_Bool}
 use Rattle.memchr.specs.Find.{Nowhere, Passes, is_byte2}
 use Rattle.semver_sets.specs.Private.WordReading.{is_not_blank}
-use Rattle.semver_versions.specs.Lemmas.Public.{rest_of-each, rest_of-first}
+use Rattle.semver_texts.specs.Lemmas.Public.{rest_of-each, rest_of-first}
 use Rattle.semver_sets.proofs.word.skip_to_blank.Goals as goal
 
 -- there is no blank before place n

@@ -1,16 +1,16 @@
 -- The version and the fault of a text, computed: for worked examples.
 use native.Mathlib.Omega.{arith}
 use Rattle.std.proofs.Common.{◌≡◌, ℕ, ◌≤◌, List, [], ◌∷◌, Ok, Err, Option, Some, None, length}
-use Rattle.semver_versions.specs.declared.TheConstants.{MAX_LENGTH}
+use Rattle.semver_texts.specs.declared.TheConstants.{MAX_LENGTH}
 use Rattle.semver_versions.specs.Error.{Kind}
 use Rattle.semver_versions.specs.Fault.{IsFault}
 use Rattle.semver_versions.specs.Lemmas.Versions.FaultLemmas.{fault-computed, fault_of}
 use Rattle.semver_versions.specs.Lemmas.Versions.OneReading.{read-version}
 use Rattle.semver_versions.specs.Private.VersionReading.{read_dot, read_triple, read_unmarked, read_version}
-use Rattle.semver_versions.specs.Reading.{Read, list_prefix, list_rest, prefix_of, read_build, read_extras, read_number}
-use Rattle.semver_versions.specs.Reading.{read_prerelease, rest_of, skip_one, skip_plus}
-use Rattle.semver_versions.specs.Version.{VersionValue}
-use Rattle.semver_versions.specs.VersionText.{IsVersionText}
+use Rattle.semver_texts.specs.Reading.{Read, list_prefix, list_rest, prefix_of, read_build, read_extras, read_number}
+use Rattle.semver_texts.specs.Reading.{read_prerelease, rest_of, skip_one, skip_plus}
+use Rattle.semver_texts.specs.Version.{VersionValue}
+use Rattle.semver_texts.specs.VersionText.{IsVersionText}
 
 -- the fault of a text, computed
 unfoldable pub computed : List ℕ → Option (Kind × ℕ)

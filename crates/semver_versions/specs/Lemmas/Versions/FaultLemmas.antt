@@ -4,25 +4,27 @@ use Rattle.std.proofs.Common.{◌∙◌, inl, inr, arith, subst, append_assoc, a
 use Rattle.std.proofs.lemmas.Bool.{cases_Bool, cond-false, cond-true, le-leb, leb-false, leb-true, lt-leb}
 use Rattle.std.proofs.lemmas.List.{length-append}
 use Rattle.std.specs.Prelude.{Option, Some, None, Result, ◌==◌, if◌then◌else◌, nat_le}
-use Rattle.semver_versions.specs.declared.TheConstants.{MAX_LENGTH, MAX_SAFE_INTEGER}
-use Rattle.semver_versions.specs.Characters.{BeginsWithNo, dot, is_blank, is_digit, is_version_mark}
-use Rattle.semver_versions.specs.NumberText.{number_of}
-use Rattle.semver_versions.specs.Version.{VersionValue}
-use Rattle.semver_versions.specs.VersionText.{IsMarked, IsUnmarkedVersion, IsVersionText}
-use Rattle.semver_versions.specs.Reading.{rest_of, skip_one, read_extras}
+use Rattle.semver_texts.specs.declared.TheConstants.{MAX_LENGTH, MAX_SAFE_INTEGER}
+use Rattle.semver_texts.specs.Characters.{BeginsWithNo, dot, is_blank, is_digit, is_version_mark}
+use Rattle.semver_texts.specs.NumberText.{number_of}
+use Rattle.semver_texts.specs.Version.{VersionValue}
+use Rattle.semver_texts.specs.VersionText.{IsMarked, IsUnmarkedVersion, IsVersionText}
+use Rattle.semver_texts.specs.Reading.{rest_of, skip_one, read_extras}
 use Rattle.semver_versions.specs.Private.VersionReading.{read_version}
-use Rattle.semver_versions.specs.Reading.{read_number}
+use Rattle.semver_texts.specs.Reading.{read_number}
 use Rattle.semver_versions.specs.Private.VersionReading.{read_triple, read_dot, read_unmarked, version_of}
-use Rattle.semver_versions.specs.declared.parse.fault.Fault.{Fault}
-use Rattle.semver_versions.specs.declared.parse.fault.Fault.TheVariants.{TooLarge}
-use Rattle.semver_versions.specs.Lemmas.Texts.Prefixes.{begins-append, rest_of-again, prefix_of-again, no-append}
-use Rattle.semver_versions.specs.Lemmas.Texts.Prefixes.{with-begins}
-use Rattle.semver_versions.specs.Lemmas.Texts.Prefixes.{with_no-begins}
-use Rattle.semver_versions.specs.Lemmas.Texts.LongestReading.{version-longest}
-use Rattle.semver_versions.specs.Lemmas.Texts.NumberReading.{number-again, dot-again}
-use Rattle.semver_versions.specs.Lemmas.Texts.Marks.{skip_one-mark}
+use Rattle.semver_texts.specs.declared.parse.fault.Fault.{Fault}
+use Rattle.semver_texts.specs.declared.parse.fault.Fault.TheVariants.{TooLarge}
+use Rattle.semver_texts.specs.Lemmas.Texts.Prefixes.{begins-append, rest_of-again, prefix_of-again, no-append}
+use Rattle.semver_texts.specs.Lemmas.Texts.Prefixes.{with-begins}
+use Rattle.semver_texts.specs.Lemmas.Texts.Prefixes.{with_no-begins}
+use Rattle.semver_versions.specs.Lemmas.Versions.LongestReading.{version-longest}
+use Rattle.semver_texts.specs.Lemmas.Texts.NumberReading.{number-again}
+use Rattle.semver_versions.specs.Lemmas.Versions.DottedReading.{dot-again}
+use Rattle.semver_texts.specs.Lemmas.Texts.Marks.{skip_one-mark}
 use Rattle.semver_versions.specs.Lemmas.Versions.OneReading.{read-version, version-read}
-use Rattle.semver_versions.specs.Lemmas.Versions.VersionReading.{numbers-again, regroup, version-follows, version-takes}
+use Rattle.semver_versions.specs.Lemmas.Versions.VersionReading.{numbers-again, version-follows, version-takes}
+use Rattle.semver_texts.specs.Lemmas.Texts.ExtrasReading.{regroup}
 use Rattle.semver_versions.specs.Error.{Kind, max_length, other}
 use Rattle.semver_versions.specs.Fault.{IsAllDigits, IsFault, HasPrefix, large_number, left_over, no_number, no_dot}
 use Rattle.semver_versions.specs.Fault.{too_long, with_dots}

@@ -5,22 +5,23 @@ use Rattle.std.proofs.lemmas.List.{length-append}
 use Rattle.std.proofs.Math.Seq.{drop-append_seam}
 use Rattle.std.specs.Prelude.{Result, ◌==◌, codes}
 use Rattle.std.specs.List.{AllByRecursion}
-use Rattle.semver_versions.specs.declared.TheConstants.{MAX_LENGTH, MAX_SAFE_INTEGER}
-use Rattle.semver_versions.specs.Characters.{BeginsWithNo, dot, is_blank, is_digit, is_version_mark, mark_of}
-use Rattle.semver_versions.specs.NumberText.{IsNumberText, number_of}
-use Rattle.semver_versions.specs.Version.{VersionValue}
-use Rattle.semver_versions.specs.VersionText.{IsVersionText}
-use Rattle.semver_versions.specs.Reading.{◌>>=◌, rest_of, skip_one, prefix_of}
+use Rattle.semver_texts.specs.declared.TheConstants.{MAX_LENGTH, MAX_SAFE_INTEGER}
+use Rattle.semver_texts.specs.Characters.{BeginsWithNo, dot, is_blank, is_digit, is_version_mark, mark_of}
+use Rattle.semver_texts.specs.NumberText.{IsNumberText, number_of}
+use Rattle.semver_texts.specs.Version.{VersionValue}
+use Rattle.semver_texts.specs.VersionText.{IsVersionText}
+use Rattle.semver_texts.specs.Reading.{◌>>=◌, rest_of, skip_one, prefix_of}
 use Rattle.semver_versions.specs.Private.VersionReading.{read_version}
-use Rattle.semver_versions.specs.Reading.{read_number}
+use Rattle.semver_texts.specs.Reading.{read_number}
 use Rattle.semver_versions.specs.Private.VersionReading.{read_triple, read_dot, read_unmarked}
-use Rattle.semver_versions.specs.declared.parse.fault.Fault.{Fault}
-use Rattle.semver_versions.specs.declared.parse.fault.Fault.TheVariants.{LeftOver, Missing, TooLarge}
-use Rattle.semver_versions.specs.Lemmas.Texts.Prefixes.{rest_of-no, prefix_of-rest_of}
-use Rattle.semver_versions.specs.Lemmas.Texts.Prefixes.{prefix_of-again, prefix_of-all, rest-short}
-use Rattle.semver_versions.specs.Lemmas.Texts.LongestReading.{version-longest, version-no_digit}
-use Rattle.semver_versions.specs.Lemmas.Texts.NumberReading.{number-takes, dot-takes}
-use Rattle.semver_versions.specs.Lemmas.Texts.Marks.{mark-skip}
+use Rattle.semver_texts.specs.declared.parse.fault.Fault.{Fault}
+use Rattle.semver_texts.specs.declared.parse.fault.Fault.TheVariants.{LeftOver, Missing, TooLarge}
+use Rattle.semver_texts.specs.Lemmas.Texts.Prefixes.{rest_of-no, prefix_of-rest_of}
+use Rattle.semver_texts.specs.Lemmas.Texts.Prefixes.{prefix_of-again, prefix_of-all, rest-short}
+use Rattle.semver_versions.specs.Lemmas.Versions.LongestReading.{version-longest, version-no_digit}
+use Rattle.semver_texts.specs.Lemmas.Texts.NumberReading.{number-takes}
+use Rattle.semver_versions.specs.Lemmas.Versions.DottedReading.{dot-takes}
+use Rattle.semver_texts.specs.Lemmas.Texts.Marks.{mark-skip}
 use Rattle.semver_versions.specs.Lemmas.Versions.VersionReading.{version-takes}
 use Rattle.semver_versions.specs.Error.{context}
 use Rattle.semver_versions.specs.Fault.{IsAllDigits, IsFault, HasPrefix, large_number, left_over, no_number, no_dot}

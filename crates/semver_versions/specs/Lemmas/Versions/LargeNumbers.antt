@@ -6,10 +6,10 @@ use Rattle.std.proofs.lemmas.Str.Parse.{parse_digits}
 use Rattle.std.specs.Prelude.{Result}
 use Rattle.std.specs.Str.Parse.{ParsesUnsigned}
 use Rattle.std.specs.declared.num.ParseIntError.{ParseIntError}
-use Rattle.semver_versions.specs.Characters.{AreAll, BeginsWith, is_digit}
-use Rattle.semver_versions.specs.NumberText.{number_of}
-use Rattle.semver_versions.specs.Lemmas.Texts.Digits.{digits-numerals}
-use Rattle.semver_versions.specs.Lemmas.Versions.VersionReading.{begins-some}
+use Rattle.semver_texts.specs.Characters.{AreAll, BeginsWith, is_digit}
+use Rattle.semver_texts.specs.NumberText.{number_of}
+use Rattle.semver_texts.specs.Lemmas.Texts.Digits.{digits-numerals}
+use Rattle.semver_texts.specs.Lemmas.Texts.Prefixes.{begins-some}
 use Rattle.semver_versions.specs.Error.{max_int, parse_int}
 use Rattle.semver_versions.specs.Fault.{too_large}
 

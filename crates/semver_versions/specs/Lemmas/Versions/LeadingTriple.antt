@@ -1,22 +1,17 @@
 -- A triple that is read once, at the very start of a version text.
 use native.Mathlib.Omega.{arith}
-use Rattle.std.proofs.Common.{◌≡◌, ℕ, List, Ok, Option, sym}
+use Rattle.std.proofs.Common.{◌≡◌, ℕ, List, Ok, Option}
 use Rattle.std.specs.Borrow.{Bor}
 use Rattle.std.specs.Prelude.{IfSome, Result}
 use Rattle.std.specs.Result.{result_ok}
-use Rattle.semver_versions.specs.Characters.{BeginsWith, is_blank, is_digit, is_version_mark}
-use Rattle.semver_versions.specs.Reading.{read_number}
+use Rattle.semver_texts.specs.Characters.{BeginsWith, is_blank, is_digit, is_version_mark}
+use Rattle.semver_texts.specs.Reading.{read_number}
 use Rattle.semver_versions.specs.Private.VersionReading.{read_marked_triple, read_minor_and_patch}
-use Rattle.semver_versions.specs.Reading.{rest_of, skip_one}
+use Rattle.semver_texts.specs.Reading.{rest_of, skip_one}
 use Rattle.semver_versions.specs.Private.VersionReading.{read_triple}
-use Rattle.semver_versions.specs.Reading.{seen}
-use Rattle.semver_versions.specs.declared.parse.fault.Fault.{Fault}
-use Rattle.semver_versions.specs.Lemmas.Texts.Prefixes.{begins-append}
-use Rattle.semver_versions.specs.Lemmas.Texts.NumberReading.{number-takes}
-
--- a number begins with a digit
-pub number-digit : (text rest : List ℕ) (number : ℕ) → Ok (number, rest) ≡ read_number text → BeginsWith is_digit text
-number-digit text rest number h = grind (arith, number-takes text number rest (sym h), begins-append)
+use Rattle.semver_texts.specs.Reading.{seen}
+use Rattle.semver_texts.specs.declared.parse.fault.Fault.{Fault}
+use Rattle.semver_texts.specs.Lemmas.Texts.NumberReading.{number-digit}
 
 -- a text that begins with a digit begins with no mark and no blank
 pub version-begins : (text : List ℕ) → BeginsWith is_digit text

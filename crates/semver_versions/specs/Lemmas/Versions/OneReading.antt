@@ -1,11 +1,11 @@
 -- A version text has one reading, which the reader returns.
 use native.Mathlib.Omega.{arith}
 use Rattle.std.proofs.Common.{◌≡◌, ◌≤◌, ℕ, List, [], length, Ok, sym, ap, ◌∙◌, append-nil}
-use Rattle.semver_versions.specs.declared.TheConstants.{MAX_LENGTH}
+use Rattle.semver_texts.specs.declared.TheConstants.{MAX_LENGTH}
 use Rattle.semver_versions.specs.Private.VersionReading.{read_version}
-use Rattle.semver_versions.specs.Version.{VersionValue}
-use Rattle.semver_versions.specs.VersionText.{IsVersionText}
-use Rattle.semver_versions.specs.Lemmas.Texts.NumberReading.{ok-value}
+use Rattle.semver_texts.specs.Version.{VersionValue}
+use Rattle.semver_texts.specs.VersionText.{IsVersionText}
+use Rattle.semver_texts.specs.Lemmas.Texts.NumberReading.{ok-value}
 use Rattle.semver_versions.specs.Lemmas.Versions.VersionReading.{version-again, version-takes}
 
 -- a version text is read, and nothing is left

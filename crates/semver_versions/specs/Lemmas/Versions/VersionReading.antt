@@ -1,23 +1,24 @@
 -- Triples and versions: the readers read exactly these texts.
-use Rattle.std.proofs.Common.{◌≡◌, ◌<◌, ℕ, Bool, true, List, ◌∷◌, ◌++◌, arith, get_or, length, Ok, refl}
-use Rattle.std.proofs.Common.{ap, ◌∙◌, append_assoc}
-use Rattle.semver_versions.specs.Characters.{BeginsWith, BeginsWithNo, dot, is_blank, is_digit}
-use Rattle.semver_versions.specs.Characters.{is_version_mark}
-use Rattle.semver_versions.specs.Characters.{IsCleanEnd}
-use Rattle.semver_versions.specs.NumberText.{IsNumberText}
-use Rattle.semver_versions.specs.Version.{VersionValue}
-use Rattle.semver_versions.specs.VersionText.{IsMarked, IsUnmarkedVersion}
-use Rattle.semver_versions.specs.Reading.{read_number}
+use Rattle.std.proofs.Common.{◌≡◌, ◌<◌, ℕ, true, List, ◌∷◌, ◌++◌, arith, get_or, length, Ok, refl}
+use Rattle.std.proofs.Common.{ap, ◌∙◌}
+use Rattle.semver_texts.specs.Characters.{BeginsWith, BeginsWithNo, dot, is_blank, is_digit}
+use Rattle.semver_texts.specs.Characters.{is_version_mark}
+use Rattle.semver_texts.specs.Characters.{IsCleanEnd}
+use Rattle.semver_texts.specs.NumberText.{IsNumberText}
+use Rattle.semver_texts.specs.Version.{VersionValue}
+use Rattle.semver_texts.specs.VersionText.{IsMarked, IsUnmarkedVersion}
+use Rattle.semver_texts.specs.Reading.{read_number}
 use Rattle.semver_versions.specs.Private.VersionReading.{read_dot, read_triple, read_unmarked}
-use Rattle.semver_versions.specs.Reading.{rest_of, skip_one}
+use Rattle.semver_texts.specs.Reading.{rest_of, skip_one}
 use Rattle.semver_versions.specs.Private.VersionReading.{read_version}
-use Rattle.semver_versions.specs.Lemmas.Texts.Marks.{TakesMarked, marked-follows, marked-taken}
-use Rattle.semver_versions.specs.Lemmas.Texts.Prefixes.{begins-append}
-use Rattle.semver_versions.specs.Lemmas.Texts.ExtrasReading.{extras-again, extras-takes}
-use Rattle.semver_versions.specs.Lemmas.Texts.IdentifierReading.{EndsExtras}
-use Rattle.semver_versions.specs.Lemmas.Texts.NumberReading.{bind-ok, number-again, number-takes, dot-again}
-use Rattle.semver_versions.specs.Lemmas.Texts.NumberReading.{dot-takes}
-use Rattle.semver_versions.specs.Lemmas.Texts.Characters.{digit-no_blank}
+use Rattle.semver_texts.specs.Lemmas.Texts.Marks.{TakesMarked, marked-follows, marked-taken}
+use Rattle.semver_texts.specs.Lemmas.Texts.CleanExtras.{clean-ends_extras}
+use Rattle.semver_texts.specs.Lemmas.Texts.Prefixes.{begins-append, begins-some}
+use Rattle.semver_texts.specs.Lemmas.Texts.ExtrasReading.{extras-again, extras-takes, regroup}
+use Rattle.semver_texts.specs.Lemmas.Texts.NumberReading.{bind-ok, number-again, number-takes}
+use Rattle.semver_versions.specs.Lemmas.Versions.DottedReading.{dot-again}
+use Rattle.semver_versions.specs.Lemmas.Versions.DottedReading.{dot-takes}
+use Rattle.semver_texts.specs.Lemmas.Texts.Characters.{digit-no_blank}
 
 -- three numbers with dots between them, at the start of a text
 pub record TakesNumbers (text : List ℕ) (numbers : ℕ × ℕ × ℕ) (rest : List ℕ) : Type 0 where
@@ -64,29 +65,12 @@ pub record TakesUnmarked (text : List ℕ) (v : VersionValue) (rest : List ℕ) 
   pub whole : text ≡ taken ++ rest
   pub read : IsUnmarkedVersion v taken
 
--- the prefix of what begins with no digit begins with none
-pub prefix_of-no : (test : ℕ → Bool) (text rest : List ℕ) → BeginsWithNo test (text ++ rest) → BeginsWithNo test text
-prefix_of-no test text rest h = grind arith
-
--- the pieces of the extras, put after the third part
-pub regroup : (major minor patch extras rest : List ℕ)
-    → major ++ (dot ∷ (minor ++ (dot ∷ (patch ++ (extras ++ rest)))))
-    ≡ (major ++ (dot ∷ (minor ++ (dot ∷ (patch ++ extras))))) ++ rest
-regroup major minor patch extras rest = simp append_assoc
-
 unmarked-takes : (text : List ℕ) (v : VersionValue) (rest : List ℕ) → read_unmarked text ≡ Ok (v, rest)
     → TakesUnmarked text v rest
 unfolding read_unmarked
 unmarked-takes text v rest h =
     let n = bind-ok (read_triple text) _ (v, rest) h in
     grind (arith, numbers-takes text n.0.0 n.0.1 n.1, extras-takes n.0.1, regroup)
-
--- neither a digit nor anything of extras begins at a clean end
-pub clean-no_digit : (rest : List ℕ) → IsCleanEnd rest → BeginsWithNo is_digit rest
-clean-no_digit rest h = grind arith
-
-pub clean-ends_extras : (rest : List ℕ) → IsCleanEnd rest → EndsExtras rest
-clean-ends_extras rest h = grind arith
 
 unmarked-again : (text rest : List ℕ) (v : VersionValue) → IsUnmarkedVersion v text → IsCleanEnd rest
     → read_unmarked (text ++ rest) ≡ Ok (v, rest)
@@ -101,10 +85,6 @@ unmarked-again text rest v h clean = grind (
 -- an unmarked version begins with a digit
 pub unmarked-begins : (text : List ℕ) (v : VersionValue) → IsUnmarkedVersion v text → BeginsWith is_digit text
 unmarked-begins text v h = rw h.whole (begins-append is_digit h.first _ h.major_text.some)
-
--- what begins with a digit is not empty
-pub begins-some : (test : ℕ → Bool) (text : List ℕ) → BeginsWith test text → 0 < length text
-begins-some test text h = grind arith
 
 pub version-takes : (text : List ℕ) (v : VersionValue) (rest : List ℕ) → read_version text ≡ Ok (v, rest)
     → TakesMarked is_version_mark (IsUnmarkedVersion v) text rest

@@ -1,27 +1,20 @@
 -- The least version, and from each version the next one, between which lies none.
-use Rattle.std.proofs.Common.{◌≡◌, ◌≢◌, ◌<◌, ◌+◌, ◌^◌, ℕ, lit<, List, []}
+use Rattle.std.proofs.Common.{◌≡◌, ◌≢◌, ◌<◌, ◌+◌, ◌^◌, lit<, List, []}
 use Rattle.std.proofs.Common.{◌∷◌, ◌++◌, refl, arith, Less}
 use Rattle.std.specs.Cmp.Lexicographic.{slice_cmp}
 use Rattle.std.specs.List.{AllByRecursion}
 use Rattle.semver_cuts.specs.Steps.{IsLeast, IsNext}
-use Rattle.semver_versions.specs.Comparison.{identifier_cmp, version_cmp}
-use Rattle.semver_versions.specs.IdentifierValue.{IdentifierValue, numeric}
-use Rattle.semver_versions.specs.Order.{IsBelow, IsListBelow, IsIdentifierBelow, before_release, by_identifiers}
-use Rattle.semver_versions.specs.Order.{by_major}
-use Rattle.semver_versions.specs.Order.{by_minor, by_patch}
-use Rattle.semver_versions.specs.Version.{HasSameTriple, IsPrerelease, VersionValue, least_of}
-use Rattle.semver_versions.specs.Lemmas.Versions.Between.{prerelease-below, triple-between}
-use Rattle.semver_versions.specs.Lemmas.Order.{Less-version, identifier-Less, identifier_total, list-Less}
-use Rattle.semver_versions.specs.Lemmas.Order.{ends-Less, then-cases, version-Less}
+use Rattle.semver_texts.specs.Comparison.{identifier_cmp, version_cmp}
+use Rattle.semver_texts.specs.IdentifierValue.{IdentifierValue, numeric}
+use Rattle.semver_texts.specs.Order.{IsBelow, IsIdentifierBelow, by_patch}
+use Rattle.semver_texts.specs.Version.{HasSameTriple, IsPrerelease, VersionValue, least_of}
+use Rattle.semver_texts.specs.Lemmas.Versions.Least.{none-below_first, none-below_least, none-below_zeros}
+use Rattle.semver_texts.specs.Lemmas.Versions.Between.{prerelease-below, triple-between}
+use Rattle.semver_texts.specs.Lemmas.Order.{Less-version, identifier-Less, identifier_total, list-Less}
+use Rattle.semver_texts.specs.Lemmas.Order.{ends-Less, then-cases, version-Less}
 use Rattle.semver_versions.specs.VersionSteps.{IsIdentifier, IsVersion, next_version, with_zero}
 
 -- ---- lists of identifiers
-
--- no list with an identifier is below that of 0 alone
-pub none-below_zeros : (x : IdentifierValue) (xs : List IdentifierValue)
-    → ¬ (slice_cmp identifier_cmp (x ∷ xs) (numeric 0 ∷ []) ≡ Less)
-none-below_zeros x [] e = grind (arith, then-cases)
-none-below_zeros x (y ∷ xs) e = grind (arith, then-cases)
 
 -- a list is below itself with a 0 more
 pub zero-above : (xs : List IdentifierValue) → slice_cmp identifier_cmp xs (xs ++ numeric 0 ∷ []) ≡ Less
@@ -37,19 +30,6 @@ none-before_zero (x ∷ xs) (y ∷ ys) e f = grind (arith, none-before_zero xs y
 
 -- ---- versions of one triple
 
--- no version is below the least one of its triple
-pub none-below_least : (w : VersionValue) (m n p : ℕ) → HasSameTriple w (least_of m n p) → ¬ IsBelow w (least_of m n p)
-none-below_least w m n p t (by_major h) = let e : w.major ≡ m = t.major in omega arith
-none-below_least w m n p t (by_minor a h) = let e : w.minor ≡ n = t.minor in omega arith
-none-below_least w m n p t (by_patch a b h) = let e : w.patch ≡ p = t.patch in omega arith
-none-below_least w m n p t (before_release s pre release) = release (λ e. cc e)
-none-below_least w m n p t (by_identifiers s pre _ below) = none-listed w.pre_release pre below
-  where
-    none-listed : (xs : List IdentifierValue) → xs ≢ [] → ¬ IsListBelow IsIdentifierBelow xs (numeric 0 ∷ [])
-    none-listed [] some below = some refl
-    none-listed (x ∷ xs) some below = none-below_zeros x xs
-        (list-Less identifier_cmp identifier_total IsIdentifierBelow identifier-Less (x ∷ xs) (numeric 0 ∷ []) below)
-
 -- a version below another of its triple is a prerelease
 pub prerelease-from_below : (v w : VersionValue) → HasSameTriple v w → IsBelow v w → IsPrerelease v
 prerelease-from_below v w t h4 = grind arith
@@ -59,11 +39,6 @@ lists-below : (v w : VersionValue) → HasSameTriple v w → IsBelow v w → IsP
     → slice_cmp identifier_cmp v.pre_release w.pre_release ≡ Less
 lists-below v w t below pre =
     grind (arith, list-Less identifier_cmp identifier_total IsIdentifierBelow identifier-Less v.pre_release)
-
--- ---- the least version
-
-pub none-below_first : (w : VersionValue) → ¬ IsBelow w (least_of 0 0 0)
-none-below_first w below = grind (arith, none-below_least w 0 0 0)
 
 -- ---- after a release
 

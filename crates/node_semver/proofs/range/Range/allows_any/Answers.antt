@@ -2,7 +2,7 @@ use native.Mathlib.Omega.{arith}
 use Rattle.std.proofs.Common.{rules}
 use Rattle.semver_cuts.specs.Lemmas.CommonSpans.{common_spans-any}
 use Rattle.semver_cuts.specs.Lemmas.Sharing.{shares_cut-back}
-use Rattle.semver_versions.specs.Lemmas.Public.{version_total}
+use Rattle.semver_texts.specs.Lemmas.Public.{version_total}
 use Rattle.node_semver.proofs.range.Range.allows_any.Goals as goal
 
 pub returns-clause-shared : goal.returns-clause-shared

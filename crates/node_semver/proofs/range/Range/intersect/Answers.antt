@@ -3,8 +3,8 @@ use Rattle.std.proofs.Common.{rules}
 use Rattle.semver_cuts.specs.SpanLists.{IsInSome}
 use Rattle.semver_cuts.specs.Lemmas.CommonSpans.{common_spans-cuts}
 use Rattle.semver_cuts.specs.Lemmas.Difference.{common_difference-disjoint, common_difference-together}
-use Rattle.semver_versions.specs.Lemmas.Public.{version_total}
-use Rattle.semver_versions.specs.Comparison.{version_cmp}
+use Rattle.semver_texts.specs.Lemmas.Public.{version_total}
+use Rattle.semver_texts.specs.Comparison.{version_cmp}
 use Rattle.node_semver.proofs.Sets.AlgebraBounds.{common-bounded, none-exactly, some-exactly}
 use Rattle.node_semver.proofs.Sets.RangeAlgebra.{common-admits, common-releases}
 use Rattle.node_semver.proofs.range.Range.intersect.Goals as goal

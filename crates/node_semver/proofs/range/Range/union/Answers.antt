@@ -3,7 +3,7 @@ use Rattle.std.proofs.Common.{rules, inl, inr}
 use Rattle.semver_cuts.specs.Lemmas.InSome.{in_some-either, in_some-left, in_some-right}
 use Rattle.semver_cuts.specs.Lemmas.Lists.{any-either, any-left, any-right}
 use Rattle.semver_sets.specs.Meaning.{SetAdmits}
-use Rattle.semver_versions.specs.Version.{VersionValue}
+use Rattle.semver_texts.specs.Version.{VersionValue}
 use Rattle.semver_cuts.specs.Ends.{Ends}
 use Rattle.node_semver.proofs.range.Range.union.Goals as goal
 

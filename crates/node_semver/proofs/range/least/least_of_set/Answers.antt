@@ -1,8 +1,8 @@
 use Rattle.std.proofs.Common.{[], ◌≡◌, ◌+◌, ◌∙◌, ap, sym, subst}
-use Rattle.semver_versions.specs.EndViews.{build_seen}
-use Rattle.semver_versions.specs.Identifier.{values_of}
-use Rattle.semver_versions.specs.Version.{VersionValue}
-use Rattle.semver_versions.specs.declared.triple.Triple.{Triple}
+use Rattle.semver_texts.specs.EndViews.{build_seen}
+use Rattle.semver_texts.specs.Identifier.{values_of}
+use Rattle.semver_texts.specs.Version.{VersionValue}
+use Rattle.semver_texts.specs.declared.triple.Triple.{Triple}
 use Rattle.node_semver.proofs.Least.LeastLemmas.{before-least, candidate-least, patch-candidate, start-candidate}
 use Rattle.node_semver.proofs.Least.LeastLemmas.{zero-candidate}
 use Rattle.node_semver.specs.Private.LeastViews.{IsInsideOrNone, IsLeastInSet, IsLeastOfTriple}

@@ -2,7 +2,7 @@ use native.Mathlib.Omega.{arith}
 use Rattle.std.proofs.Common.{List, subst}
 use Rattle.std.proofs.lemmas.List.{take_all}
 use Rattle.semver_cuts.specs.Ends.{Ends}
-use Rattle.semver_versions.specs.Version.{VersionValue}
+use Rattle.semver_texts.specs.Version.{VersionValue}
 use Rattle.node_semver.specs.Private.LeastViews.{IsLeastOfSets}
 use Rattle.node_semver.proofs.Least.LeastOfSets.{taken-least}
 use Rattle.node_semver.proofs.range.least.least_of_sets.Goals as goal

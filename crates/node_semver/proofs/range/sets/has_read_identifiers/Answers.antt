@@ -1,9 +1,9 @@
 use native.Mathlib.Omega.{arith}
 use Rattle.std.proofs.Common.{List, [], ◌∷◌}
 use Rattle.std.specs.List.{AllByRecursion}
-use Rattle.semver_versions.specs.Identifier.{value_of, values_of}
-use Rattle.semver_versions.specs.IdentifierText.{IsReadIdentifier}
-use Rattle.semver_versions.specs.declared.identifier.Identifier.{Identifier}
+use Rattle.semver_texts.specs.Identifier.{value_of, values_of}
+use Rattle.semver_texts.specs.IdentifierText.{IsReadIdentifier}
+use Rattle.semver_texts.specs.declared.identifier.Identifier.{Identifier}
 use Rattle.node_semver.proofs.range.sets.has_read_identifiers.Goals as goal
 
 all-values : (is : List Identifier) → AllByRecursion (λ i. IsReadIdentifier (value_of i)) is

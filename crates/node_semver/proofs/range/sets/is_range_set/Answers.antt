@@ -1,6 +1,6 @@
 use Rattle.semver_cuts.specs.Ends.{span_between}
 use Rattle.semver_cuts.specs.Lemmas.TwoSpans.{holds-below}
-use Rattle.semver_versions.specs.Lemmas.Public.{version_total}
+use Rattle.semver_texts.specs.Lemmas.Public.{version_total}
 use Rattle.node_semver.proofs.range.sets.is_range_set.Goals as goal
 
 pub returns-then-is_range_cut : goal.returns-then-is_range_cut

@@ -3,7 +3,7 @@ use Rattle.std.proofs.Common.{◌++◌, ◌∷◌, [], List, if◌then◌else◌
 use Rattle.serde_json.specs.Data.{Data}
 use Rattle.serde_json.specs.View.{view}
 use Rattle.npm_advisories.specs.OsvFaults.{osv_range_fault}
-use Rattle.npm_advisories.specs.OsvForm.{events_of, is_semver, items_at, ranges_of}
+use Rattle.npm_advisories.specs.OsvForm.{events_of, has_versions, items_at, ranges_of}
 use Rattle.npm_advisories.specs.OsvRanges.{EventValue, IsInEvents}
 use Rattle.npm_advisories.specs.Private.VersionTest.{is_version}
 use Rattle.npm_advisories.proofs.OsvSpans.{have-more, have-none}
@@ -11,7 +11,7 @@ use Rattle.npm_advisories.proofs.Walking.{fault-found, fault-passed, read-ended,
 use Rattle.npm_advisories.proofs.osv.affected.spans_of_ranges.Goals as goal
 
 abbrev part : Data → List (List EventValue)
-part range = if is_semver range then events_of (items_at (codes "events") range) ∷ [] else []
+part range = if has_versions range then events_of (items_at (codes "events") range) ∷ [] else []
 
 pub loop-range-init : goal.loop-range-init
 loop-range-init c = record {

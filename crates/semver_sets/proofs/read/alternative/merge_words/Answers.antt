@@ -3,17 +3,17 @@ use Rattle.std.proofs.Common.{◌≡◌, ◌≢◌, ◌<◌, ℕ, Bool, true, fa
 use Rattle.std.proofs.Common.{ap, get_or, refl, rules, sym, subst, ◌∙◌}
 use Rattle.std.specs.Prelude.{◌==◌}
 use Rattle.std.proofs.lemmas.Bool.{eqb-true, ne_eqb}
-use Rattle.semver_versions.specs.Characters.{BeginsWithNo, is_blank}
+use Rattle.semver_texts.specs.Characters.{BeginsWithNo, is_blank}
 use Rattle.semver_sets.specs.Comparator.{Comparator}
 use Rattle.semver_sets.specs.Private.RangeViews.{IsCommonSpan, IsNarrowed}
-use Rattle.semver_versions.specs.Reading.{begins, rest_of}
+use Rattle.semver_texts.specs.Reading.{begins, rest_of}
 use Rattle.semver_sets.specs.Private.WordReading.{is_not_blank, leading_or_none, read_right, read_word}
 use Rattle.semver_sets.specs.Private.WordViews.{listed}
 use Rattle.semver_sets.proofs.Ranges.DivisionLemmas.{Completes, completes-end, completes-leading, completes-more}
 use Rattle.semver_sets.proofs.Ranges.DivisionLemmas.{next-shorter}
 use Rattle.semver_sets.proofs.Sets.Merging.{merged-none}
 use Rattle.semver_sets.proofs.Words.WordViews.{ignored}
-use Rattle.semver_versions.specs.Lemmas.Public.{begins-with_no, rest_of-no, rest_of-none}
+use Rattle.semver_texts.specs.Lemmas.Public.{begins-with_no, rest_of-no, rest_of-none}
 use Rattle.semver_sets.proofs.read.alternative.merge_words.Goals as goal
 use Rattle.semver_sets.proofs.read.alternative.merge_words.Goals.{in-32+in_ok-rest-in-32, in_default, in_default-2}
 

@@ -1,5 +1,5 @@
 use Rattle.std.proofs.Common.{List, length}
-use Rattle.semver_versions.specs.Characters.{BeginsWithNo, is_blank}
+use Rattle.semver_texts.specs.Characters.{BeginsWithNo, is_blank}
 use Rattle.semver_sets.specs.Comparator.{Comparator}
 use Rattle.semver_sets.specs.Private.RangeViews.{IsCommonSpan}
 use Rattle.semver_sets.proofs.Ranges.DivisionLemmas.{Completes}

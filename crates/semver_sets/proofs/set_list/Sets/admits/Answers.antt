@@ -2,7 +2,7 @@ use Rattle.std.proofs.Common.{◌≡◌, List, [], ◌∷◌, ap, subst, sym}
 use Rattle.semver_cuts.specs.Ends.{Ends}
 use Rattle.semver_sets.specs.RangeSets.{sets_seen}
 use Rattle.semver_sets.specs.Searching.{IsShortSearch}
-use Rattle.semver_versions.specs.Version.{VersionValue}
+use Rattle.semver_texts.specs.Version.{VersionValue}
 use Rattle.semver_sets.proofs.Sets.Openings.{only-short}
 use Rattle.semver_sets.proofs.set_list.Sets.admits.Goals as goal
 

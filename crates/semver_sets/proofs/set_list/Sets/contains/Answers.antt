@@ -2,7 +2,7 @@ use Rattle.std.proofs.Common.{◌≡◌, List, [], ◌∷◌, ap, subst, sym}
 use Rattle.semver_cuts.specs.Ends.{Ends}
 use Rattle.semver_sets.specs.RangeSets.{sets_seen}
 use Rattle.semver_sets.specs.Searching.{IsShortSearchInside}
-use Rattle.semver_versions.specs.Version.{VersionValue}
+use Rattle.semver_texts.specs.Version.{VersionValue}
 use Rattle.semver_sets.proofs.Sets.Inside.{only-short-inside}
 use Rattle.semver_sets.proofs.set_list.Sets.contains.Goals as goal
 

@@ -6,7 +6,7 @@ use Rattle.std.specs.Prelude.{◌==◌}
 use Rattle.semver_cuts.specs.Ends.{Ends}
 use Rattle.semver_sets.specs.Comparator.{Comparator}
 use Rattle.semver_sets.specs.Division.{IsAlternative}
-use Rattle.semver_versions.specs.Version.{VersionValue}
+use Rattle.semver_texts.specs.Version.{VersionValue}
 use Rattle.semver_sets.specs.Private.PieceReading.{piece_at, some_seen}
 use Rattle.semver_sets.specs.Private.RangeViews.{IsSetOfAlternative}
 use Rattle.semver_sets.proofs.Ranges.DivisionLemmas.{completes-end, completes-nothing}

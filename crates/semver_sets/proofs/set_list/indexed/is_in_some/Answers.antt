@@ -4,8 +4,8 @@ use Rattle.std.specs.List.{AllByRecursion}
 use Rattle.std.proofs.lemmas.List.{drop_all}
 use Rattle.semver_cuts.specs.declared.cut.Cut.TheVariants.{Before}
 use Rattle.semver_cuts.specs.Ends.{IsCutAtMost, IsCutBelow, span_between}
-use Rattle.semver_versions.specs.Comparison.{version_cmp}
-use Rattle.semver_versions.specs.Lemmas.Public.{version_total}
+use Rattle.semver_texts.specs.Comparison.{version_cmp}
+use Rattle.semver_texts.specs.Lemmas.Public.{version_total}
 use Rattle.semver_sets.proofs.Sets.Searching.{IsLeft, begun_above, begun_below, begun_last, last_begun, left-first}
 use Rattle.semver_sets.proofs.Sets.Searching.{left-step, none-begun, not-begun}
 use Rattle.semver_sets.proofs.set_list.indexed.is_in_some.Goals as goal

@@ -5,7 +5,7 @@ use Rattle.std.specs.Ordering.{is_lt}
 use Rattle.std.proofs.lemmas.Fn.{always_returns_same}
 use Rattle.std.proofs.lemmas.List.{append-nil, drop_all}
 use Rattle.semver_sets.specs.Private.SearchViews.{is_opening_of, openings_from}
-use Rattle.semver_versions.specs.Triple.{triple_cmp, triple_of}
+use Rattle.semver_texts.specs.Triple.{triple_cmp, triple_of}
 use Rattle.semver_sets.specs.declared.set_list.opened.Opening.{Opening}
 use Rattle.std.proofs.lemmas.List.Elements.{filter_agree}
 use Rattle.semver_sets.proofs.Sets.OpeningOrder.{ties-same}

@@ -1,7 +1,7 @@
 use Rattle.std.proofs.Common.{◌∙◌, ap, length, List, ℕ, rules}
 use Rattle.std.specs.Prelude.{◌==◌}
-use Rattle.semver_versions.specs.Characters.{is_digit}
-use Rattle.semver_versions.specs.Lemmas.Texts.Prefixes.{rest_of-empty}
+use Rattle.semver_texts.specs.Characters.{is_digit}
+use Rattle.semver_texts.specs.Lemmas.Texts.Prefixes.{rest_of-empty}
 use Rattle.semver_versions.proofs.parse.strict.are_digits.Goals as goal
 
 pub returns : goal.returns

@@ -1,5 +1,5 @@
 use Rattle.std.proofs.Common.{ap, sym, ◌∙◌}
-use Rattle.semver_versions.specs.Reading.{read_number}
+use Rattle.semver_texts.specs.Reading.{read_number}
 use Rattle.semver_versions.specs.Lemmas.Versions.VersionReading.{digit-first}
 use Rattle.semver_versions.proofs.parse.triple.read_major.Goals as goal
 

@@ -1,5 +1,5 @@
 use native.Mathlib.Omega.{arith}
-use Rattle.semver_versions.specs.Lemmas.Texts.NumberReading.{dotted-both, dotted-first, dotted-second}
+use Rattle.semver_versions.specs.Lemmas.Versions.DottedReading.{dotted-both, dotted-first, dotted-second}
 use Rattle.semver_versions.proofs.parse.triple.read_minor_and_patch.Goals as goal
 
 pub returns-in_err-minor : goal.returns-in_err-minor

@@ -1,5 +1,5 @@
 use Rattle.std.proofs.Common.{rules}
-use Rattle.semver_versions.specs.Lemmas.Order.{triples_decide, version_order}
+use Rattle.semver_texts.specs.Lemmas.Order.{triples_decide, version_order}
 use Rattle.semver_versions.proofs.version.Version.cmp_ref.Goals as goal
 
 pub returns-in-Equal-clause-order : goal.returns-in-Equal-clause-order

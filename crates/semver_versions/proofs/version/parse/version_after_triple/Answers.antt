@@ -1,5 +1,5 @@
 use Rattle.std.proofs.Common.{rules, subst}
-use Rattle.semver_versions.specs.Version.{IsPlain, VersionValue}
+use Rattle.semver_texts.specs.Version.{IsPlain, VersionValue}
 use Rattle.semver_versions.specs.Lemmas.Versions.FaultLemmas.{version-no_fault}
 use Rattle.semver_versions.specs.Lemmas.Versions.OneReading.{one_reading}
 use Rattle.semver_versions.proofs.version.parse.version_after_triple.Goals as goal

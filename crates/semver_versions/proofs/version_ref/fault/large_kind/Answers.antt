@@ -1,7 +1,7 @@
 use native.Mathlib.Omega.{arith}
 use Rattle.std.proofs.lemmas.Str.{IsUtf8-from_ascii}
-use Rattle.semver_versions.specs.Lemmas.Texts.Characters.{ascii-digits}
-use Rattle.semver_versions.specs.Lemmas.Texts.Prefixes.{prefix_of-all, prefix_of-begins}
+use Rattle.semver_texts.specs.Lemmas.Texts.Characters.{ascii-digits}
+use Rattle.semver_texts.specs.Lemmas.Texts.Prefixes.{prefix_of-all, prefix_of-begins}
 use Rattle.semver_versions.specs.Lemmas.Versions.LargeNumbers.{large-err, large-ok}
 use Rattle.semver_versions.proofs.version_ref.fault.large_kind.Goals as goal
 

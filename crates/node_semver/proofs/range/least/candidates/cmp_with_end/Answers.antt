@@ -1,8 +1,8 @@
 use native.Mathlib.Omega.{arith}
 use Rattle.std.proofs.Common.{◌≡◌, Less, Equal, List}
-use Rattle.semver_versions.specs.Comparison.{prerelease_cmp}
-use Rattle.semver_versions.specs.IdentifierValue.{IdentifierValue}
-use Rattle.semver_versions.specs.Lemmas.Public.{Greater-turned, prerelease_total}
+use Rattle.semver_texts.specs.Comparison.{prerelease_cmp}
+use Rattle.semver_texts.specs.IdentifierValue.{IdentifierValue}
+use Rattle.semver_texts.specs.Lemmas.Public.{Greater-turned, prerelease_total}
 use Rattle.node_semver.proofs.range.least.candidates.cmp_with_end.Goals as goal
 
 pub returns-then-is_prerelease_below-2 : goal.returns-then-is_prerelease_below-2

@@ -2,7 +2,7 @@ use native.Mathlib.Omega.{arith}
 use Rattle.std.proofs.Common.{subst}
 use Rattle.std.proofs.lemmas.List.{take_all}
 use Rattle.semver_cuts.specs.declared.cut.Cut.{Cut}
-use Rattle.semver_versions.specs.Version.{VersionValue}
+use Rattle.semver_texts.specs.Version.{VersionValue}
 use Rattle.node_semver.specs.Private.CandidateViews.{IsCutTrial}
 use Rattle.node_semver.proofs.Least.CandidateSteps.{ends-more}
 use Rattle.node_semver.proofs.range.least.search.least_with_others.Goals as goal

@@ -1,7 +1,7 @@
 use native.Mathlib.Omega.{arith}
 use Rattle.std.proofs.Common.{IfOk, List, ◌∙◌, true, subst}
 use Rattle.semver_cuts.specs.Ends.{Ends}
-use Rattle.semver_versions.specs.Version.{VersionValue}
+use Rattle.semver_texts.specs.Version.{VersionValue}
 use Rattle.node_semver.specs.Private.LeastViews.{IsLeastOfSets}
 use Rattle.node_semver.proofs.Least.LeastOfSets.{found-build, found-least, none-found}
 use Rattle.node_semver.proofs.range.prereleases.WithPrereleases.min_version.Goals as goal

@@ -5,10 +5,10 @@ use Rattle.semver_cuts.specs.SpanLists.{IsInSome}
 use Rattle.semver_cuts.specs.Ends.{Ends}
 use Rattle.semver_cuts.specs.Places.{span_at}
 use Rattle.semver_cuts.specs.Starts.{count_of_starts}
-use Rattle.semver_versions.specs.Comparison.{version_cmp}
+use Rattle.semver_texts.specs.Comparison.{version_cmp}
 use Rattle.semver_sets.specs.Meaning.{AnyByRecursion, IsInside}
 use Rattle.semver_sets.specs.Searching.{HasDigits}
-use Rattle.semver_versions.specs.Version.{IsPrerelease, VersionValue}
+use Rattle.semver_texts.specs.Version.{IsPrerelease, VersionValue}
 use Rattle.semver_sets.specs.Private.SearchViews.{is_opening_of, places_opening}
 use Rattle.semver_sets.specs.declared.set_list.opened.Opening.{Opening}
 use Rattle.semver_sets.proofs.Sets.Openings.{found-admits, found-count, found-within, release-admits}

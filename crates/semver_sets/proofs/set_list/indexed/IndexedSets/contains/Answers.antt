@@ -2,9 +2,9 @@ use native.Mathlib.Omega.{arith}
 use Rattle.std.proofs.Common.{List, subst, sym}
 use Rattle.semver_cuts.specs.Ends.{Ends}
 use Rattle.semver_cuts.specs.Starts.{count_of_starts}
-use Rattle.semver_versions.specs.Comparison.{version_cmp}
+use Rattle.semver_texts.specs.Comparison.{version_cmp}
 use Rattle.semver_sets.specs.Searching.{HasDigits}
-use Rattle.semver_versions.specs.Version.{VersionValue}
+use Rattle.semver_texts.specs.Version.{VersionValue}
 use Rattle.semver_sets.proofs.Sets.Inside.{inside-contains}
 use Rattle.semver_sets.proofs.set_list.indexed.IndexedSets.contains.Goals as goal
 

@@ -1,8 +1,8 @@
 use Rattle.std.proofs.Common.{rules, ap, ◌∙◌}
 use Rattle.std.specs.Hash.{fed_along}
-use Rattle.semver_versions.specs.Identifier.{values_of}
-use Rattle.semver_versions.specs.Hash.{version_writes}
-use Rattle.semver_versions.specs.Lemmas.Hash.{version_writes-fields}
+use Rattle.semver_texts.specs.Identifier.{values_of}
+use Rattle.semver_texts.specs.Hash.{version_writes}
+use Rattle.semver_texts.specs.Lemmas.Hash.{version_writes-fields}
 use Rattle.semver_versions.proofs.version.hash.VersionHash.hash.Goals as goal
 
 pub returns : goal.returns

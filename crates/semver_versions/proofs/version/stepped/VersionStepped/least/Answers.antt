@@ -1,8 +1,8 @@
 use Rattle.std.proofs.Common.{◌≡◌, IfOk, Ok, Err, subst, sym}
 use Rattle.std.specs.Prelude.{Result}
 use Rattle.semver_cuts.specs.Steps.{IsLeast}
-use Rattle.semver_versions.specs.Comparison.{version_cmp}
-use Rattle.semver_versions.specs.Version.{VersionValue, least_of}
+use Rattle.semver_texts.specs.Comparison.{version_cmp}
+use Rattle.semver_texts.specs.Version.{VersionValue, least_of}
 use Rattle.semver_versions.specs.VersionSteps.{IsVersion}
 use Rattle.semver_versions.specs.Lemmas.Versions.VersionSteps.{first-least}
 use Rattle.semver_versions.proofs.version.stepped.VersionStepped.least.Goals as goal

@@ -1,4 +1,4 @@
-use Rattle.semver_versions.specs.Reading.{prefix_of}
+use Rattle.semver_texts.specs.Reading.{prefix_of}
 use Rattle.semver_versions.proofs.version_ref.fault.VersionFault.kind.Goals as goal
 
 pub returns-in-Overflow : goal.returns-in-Overflow

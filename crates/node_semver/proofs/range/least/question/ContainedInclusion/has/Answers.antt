@@ -1,6 +1,6 @@
 use Rattle.std.proofs.Common.{◌↔◌, true, IsTrue, List, subst}
 use Rattle.semver_cuts.specs.Ends.{Ends}
-use Rattle.semver_versions.specs.Version.{VersionValue}
+use Rattle.semver_texts.specs.Version.{VersionValue}
 use Rattle.node_semver.specs.Private.LeastViews.{IsInRange}
 use Rattle.node_semver.proofs.range.least.question.ContainedInclusion.has.Goals as goal
 

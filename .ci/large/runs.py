@@ -1,0 +1,152 @@
+"""Runs of the programs on large input: the words, the files, and all that is written, with the status."""
+import os
+
+from lock_files import GROUPS, LEVELS, NAMES, asked, at_root, audits, cases, lock_of, mismatch, osv_audits, text_of
+from versions import LONG, MANY
+
+VERDICTS = {
+    "missing": " is not installed, so nothing satisfies ",
+    "invalid": " does not satisfy ",
+    "engine": " does not satisfy ",
+    "peer local": " is installed inside the package that has it as a peer: ",
+}
+REASONS = {
+    "tag": ": a tag",
+    "location": ": a URL, a repository, a file or a folder",
+    "override": ": overrides that are not read",
+}
+
+
+class Run:
+    """A run of npm_lock_check. Each file is the value of an option. What is not checked is listed and changes no status, and so
+    are mismatches without `--exact`."""
+
+    def __init__(self, lock, words, lines, error, files=(), manifests=(), unchecked=()):
+        self.lock, self.words, self.files, self.manifests = lock, words, dict(files), dict(manifests)
+        self.output = "".join(line + "\n" for line in [*lines, *unchecked])
+        self.error, self.status = error + "\n", 1 if lines else 0
+
+    def arguments(self, folder):
+        """Writes the files, and returns the words."""
+        for at, manifest in self.manifests.items():
+            os.makedirs(os.path.join(folder, at), exist_ok=True)
+            with open(os.path.join(folder, at, "package.json"), "w", encoding="utf-8") as file:
+                file.write(text_of(manifest))
+        words = list(self.words)
+        for option, value in self.files.items():
+            path = os.path.join(folder, f"{option}.json")
+            with open(path, "w", encoding="utf-8") as file:
+                file.write(text_of(value))
+            words += [f"--{option}", path]
+        return words
+
+
+def asker(lock, at):
+    """The package that asks, in a sentence."""
+    if not at:
+        return "the root asks for"
+    version = lock["packages"][at].get("version") if "packages" in lock else "1.0.0"
+    folder, modules, name = at.rpartition("node_modules/")
+    said = f" {version}" if version else ""
+    return f"{name}{said} asks for ({at})" if modules else f"{at}{said} asks for"
+
+
+def sentence(lock, one):
+    """The sentence of a problem, or of a dependency that is not checked."""
+    version = f" {one['version']}" if "version" in one else ""
+    said = VERDICTS[one["problem"]] if "problem" in one else " is not checked against "
+    why = REASONS[one["unchecked"]] if "unchecked" in one else ""
+    return f"{one['name']}{version}{said}{one['spec']}, which {asker(lock, one['from'])}{why}"
+
+
+def hit_sentence(one):
+    advisories = ", and by ".join(f"{it['id']} ({it['severity']}): {it['title']}" for it in one["advisories"])
+    offer = f"{one['least']} is not, but may not satisfy all that ask for it"
+    if "admitted" in one:
+        offer = f"{one['admitted']} is not, and satisfies all that ask for it"
+    return f"{one['name']} {one['version']} is hit by {advisories}; {offer} ({one['folder']})"
+
+
+def side(one, key):
+    return f'"{one[key]}"' if key in one else "absent"
+
+
+def mismatch_sentence(one):
+    manifest = f"{one['from']}/package.json" if one["from"] else "package.json"
+    return f"{one['name']} in {one['group']} is {side(one, 'spec')} in {manifest}, and {side(one, 'locked')} in the lock file"
+
+
+def check_runs():
+    """Each case in both formats, also with what is not checked, and without its kinds of problems."""
+    for case in cases():
+        files = {"manifest": case.manifest} if case.manifest else {}
+        node = ["--node", case.node] if case.node else []
+        of_mismatches = ", 0 mismatches" if case.manifest and case.lock["lockfileVersion"] > 1 else ""
+        for form in ("json", "text"):
+            write = text_of if form == "json" else lambda one: sentence(case.lock, one)
+            problems, unchecked = map(write, case.problems), list(map(write, case.unchecked))
+            lines = list(problems)
+            counts = f"{case.counts}, {len(lines)} problems, {len(unchecked)} not checked"
+            words = ["--format", form, *node]
+            hint = " (see --unchecked)" if unchecked else ""
+            yield Run(case.lock, words, lines, counts + hint + of_mismatches, files)
+            if unchecked:
+                yield Run(case.lock, [*words, "--unchecked"], lines, counts + of_mismatches, files, unchecked=unchecked)
+        if lines:
+            kinds = [one["problem"].replace(" ", "-") for one in case.problems]
+            ignored = [word for kind in sorted(set(kinds)) for word in ("--ignore", kind)]
+            yield Run(case.lock, [*node, *ignored], [], f"{case.counts}, 0 problems, 0 not checked{of_mismatches}", files)
+
+
+def audit_runs():
+    for advisories, lock, level, hits in [*audits(), *osv_audits()]:
+        packages = len(lock["packages"])
+        dependencies = sum(len(one.get("dependencies", {})) for one in lock["packages"].values())
+        counts = f"{packages} packages, {dependencies} dependencies, "
+        if "1.7.0" in text_of(lock):
+            # (the one that asks for more than is installed is a problem too; a row of npm_memory has this audit)
+            continue
+        for form in ("json", "text"):
+            lines = [text_of(one) if form == "json" else hit_sentence(one) for one in hits]
+            words = ["--format", form, "--severity", level]
+            yield Run(lock, words, lines, f"{counts}0 problems, 0 not checked, {len(hits)} hit", {"advisories": advisories})
+
+
+def manifest_runs():
+    """Mismatches of the root's manifest, and of the manifests of many workspaces."""
+    installed = at_root("1.0.0")
+    for group in GROUPS[:1]:
+        lock = lock_of(asked("^1.0.0", group), installed)
+        found = [mismatch(name, group, locked="^1.0.0", spec="^1") for name in NAMES]
+        counts = f"{MANY + 1} packages, {MANY} dependencies, 0 problems, 0 not checked, {MANY} mismatches"
+        for form in ("json", "text"):
+            lines = [text_of(one) if form == "json" else mismatch_sentence(one) for one in found]
+            files = {"manifest": asked("^1", group)}
+            yield Run(lock, ["--format", form, "--exact"], lines, counts, files)
+            yield Run(lock, ["--format", form], [], counts, files, unchecked=lines)
+    names = [f"w{number:05}" for number in range(MANY)]
+    root = {"workspaces": [f"w/{name}" for name in names]}
+    links = {f"node_modules/{name}": {"link": True, "resolved": f"w/{name}"} for name in names}
+    workspaces = {f"w/{name}": {"version": "1.0.0", "dependencies": {"d": "1"}} for name in names}
+    lock = lock_of(root, {**links, **workspaces, "node_modules/d": {"version": "1.0.0"}})
+    manifests = {f"w/{name}": {"name": name, "version": "1.0.0", "dependencies": {"d": "^1"}} for name in names}
+    found = [mismatch("d", "dependencies", f"w/{name}", locked="1", spec="^1") for name in names]
+    counts = f"{MANY + 2} packages, {MANY} dependencies, 0 problems, 0 not checked, {MANY} mismatches"
+    yield Run(lock, ["--format", "json", "--exact"], list(map(text_of, found)), counts, {"manifest": root}, manifests)
+
+
+def lock_runs():
+    yield from check_runs()
+    yield from audit_runs()
+    yield from manifest_runs()
+
+
+def pair_runs():
+    """Pairs of lines, and their answers."""
+    lines, answers = [], []
+    for number in range(MANY):
+        lines += [f"^{number}.1.0", f"{number}.{number % 3}.0", f"<={number}.0.0-rc || foo", f"{number}.0.0-b"]
+        answers += ["yes" if number % 3 else "no", "yes"]
+    yield lines, answers
+    many = "||".join(f"{number}.0.0" for number in range(MANY))
+    yield [many, f"{MANY - 1}.0.0", "f" * LONG, "1.0.0", "1.2.3", "1" * LONG], ["yes", "bad range", "bad version"]

@@ -1,0 +1,219 @@
+// Compares the status of npm_lock_check --manifest with what `npm ci` checks before it installs: it builds the tree that
+// package.json and the lock file ask for, and looks for each of its packages in the lock file. npm's node_modules are in
+// NODE_PATH, and the packages come from a registry in this process.
+//
+//     node .ci/lock_files_ci.js PROGRAM COUNT
+//
+// COUNT lock files are made by npm, each from a manifest and its workspaces, of which one is then changed. The last line
+// counts the pairs, those that `npm ci` refuses, those on which the two differ as the README says, and those on which they
+// differ otherwise: there is none. SEED is another start of the numbers.
+'use strict'
+const { spawn } = require('node:child_process')
+const { createHash } = require('node:crypto')
+const fs = require('node:fs')
+const http = require('node:http')
+const os = require('node:os')
+const path = require('node:path')
+const Arborist = require('@npmcli/arborist')
+const mapWorkspaces = require('@npmcli/map-workspaces')
+const semver = require('semver')
+const validateLockfile = require(path.join(process.env.NODE_PATH, '../lib/utils/validate-lockfile.js'))
+
+// Numbers in a fixed order, so that a run can be repeated.
+let seed = Number(process.env.SEED || 20111)
+const below = n => {
+  seed = (Math.imul(seed, 1103515245) + 12345) & 0x7fffffff
+  return Math.floor(seed / 65536) % n
+}
+const pick = list => list[below(list.length)]
+
+const groups = ['dependencies', 'devDependencies', 'optionalDependencies', 'peerDependencies']
+const published = {
+  a: { '1.0.0': {}, '1.2.0': { dependencies: { b: '^1' } }, '2.0.0': { dependencies: { b: '^2', c: '^1' } } },
+  b: { '1.0.0': {}, '1.1.0': { dependencies: { c: '^1.0.0' } }, '2.0.0': { dependencies: { c: '^2' } } },
+  c: { '1.0.0': {}, '1.4.2': {}, '2.0.0': {}, '3.0.0-rc.1': {} },
+  d: { '1.0.0': { peerDependencies: { c: '1 || 2' } }, '2.0.0': { peerDependencies: { c: '^2' } } },
+  e: { '1.0.0': { optionalDependencies: { c: '^1' } }, '1.1.0': { optionalDependencies: { b: '1' } } },
+  '@s/f': { '0.3.4': { dependencies: { '@s/g': '*' } } },
+  '@s/g': { '1.0.0': {} }
+}
+const names = Object.keys(published)
+const specs = ['^1.0.0', '^1', '~1.2', '1.x', '*', '', '1.0.0', '>=1 <3', '^2', '^1 || ^2']
+
+// Of two packages with the same integrity npm takes one for the other.
+const integrity = (name, version) => `sha512-${createHash('sha512').update(`${name}@${version}`).digest('base64')}`
+const packument = (name, address) => ({
+  name,
+  'dist-tags': { latest: Object.keys(published[name]).filter(version => !version.includes('-')).pop() },
+  versions: Object.fromEntries(Object.entries(published[name]).map(([version, more]) =>
+    [version, { name, version, ...more, dist: { tarball: `${address}/${name}/-/x-${version}.tgz`, integrity: integrity(name, version) } }]))
+})
+const serve = () => new Promise(resolve => {
+  const server = http.createServer((request, response) => {
+    const name = decodeURIComponent(request.url.slice(1))
+    response.statusCode = published[name] ? 200 : 404
+    response.setHeader('content-type', 'application/json')
+    response.end(JSON.stringify(published[name] ? packument(name, `http://localhost:${server.address().port}`) : {}))
+  })
+  server.listen(0, () => resolve(server))
+})
+
+const specOf = name => (name === '@s/f' ? pick(['*', '^0.3.0']) : pick(specs))
+const group = most => Object.fromEntries(Array.from({ length: below(most) }, () => {
+  const name = pick(names)
+  return [name, specOf(name)]
+}))
+const member = () => {
+  const made = {}
+  for (const name of groups) if (below(name === 'dependencies' ? 1 : 3) === 0) made[name] = group(4)
+  return made
+}
+
+// A root, perhaps with workspaces in `w` and below `packages`.
+const makeProject = () => {
+  const project = { '': { name: 'root', version: '1.0.0', ...member() } }
+  if (below(2)) {
+    project[''].workspaces = pick([['w', 'packages/*'], ['/w', './packages/**'], ['packages/*'], { packages: ['packages/**', 'w'] }])
+    for (const folder of ['w', 'packages/one', 'packages/two']) {
+      if (below(2)) project[folder] = { name: path.basename(folder), version: '1.0.0', ...(below(2) ? member() : {}) }
+    }
+  }
+  return project
+}
+
+// One change of the manifest of the root, or of a workspace.
+const changes = [
+  manifest => {
+    const name = pick(names)
+    for (const group of groups) if (manifest[group]?.[name] !== undefined) manifest[group][name] = specOf(name)
+  },
+  manifest => {
+    const from = pick(groups)
+    const to = pick(groups)
+    const name = pick(Object.keys(manifest[from] || { c: 0 }))
+    if (manifest[from]?.[name] === undefined) return
+    const spec = manifest[from][name]
+    delete manifest[from][name]
+    manifest[to] = { ...manifest[to], [name]: spec }
+  },
+  manifest => {
+    const from = pick(groups)
+    if (manifest[from]) delete manifest[from][pick(Object.keys(manifest[from])) || '']
+  },
+  manifest => {
+    const to = pick(groups)
+    const name = pick(names)
+    manifest[to] = { ...manifest[to], [name]: specOf(name) }
+  },
+  manifest => { manifest.name = pick(['renamed', '@t/renamed']) },
+  manifest => { manifest.version = pick(['1.0.0', '1.1.0', '2.0.0']) },
+  (manifest, project) => {
+    const folder = pick(['packages/three', 'packages/four', 'v'])
+    project[folder] = { name: path.basename(folder), version: '1.0.0', ...(below(2) ? member() : {}) }
+  },
+  (manifest, project) => { project[''].workspaces = pick([['w'], ['packages/*'], ['w', 'packages/*', 'v'], ['*'], ['packages/**']]) },
+  (manifest, project) => {
+    const folder = pick(Object.keys(project))
+    if (folder) delete project[folder]
+  }
+]
+const changed = project => {
+  const made = JSON.parse(JSON.stringify(project))
+  for (let i = 1 + below(2); i > 0; i--) pick(changes)(made[pick(Object.keys(made))], made)
+  return made
+}
+
+const write = (root, project) => {
+  for (const [folder, manifest] of Object.entries(project)) {
+    fs.mkdirSync(path.join(root, folder), { recursive: true })
+    fs.writeFileSync(path.join(root, folder, 'package.json'), JSON.stringify(manifest))
+  }
+}
+
+// What `npm ci` says, or `undefined` if it fails otherwise, as for peers that cannot be met.
+const npmErrors = async (root, options) => {
+  const arborist = new Arborist({ ...options, path: root })
+  try {
+    await arborist.loadVirtual()
+    const inventory = new Map(arborist.virtualTree.inventory)
+    await arborist.buildIdealTree()
+    return validateLockfile(inventory, arborist.idealTree.inventory)
+  } catch (error) {
+    return error.code === 'ERESOLVE' || error.code === 'EDUPLICATEWORKSPACE' ? undefined : [error.message]
+  }
+}
+
+const run = (program, root) => new Promise(resolve => {
+  const child = spawn(program, ['--manifest', path.join(root, 'package.json'), '--format', 'json', path.join(root, 'package-lock.json')])
+  let text = ''
+  child.stdout.on('data', data => { text += data })
+  child.on('close', status => resolve({ status, text, lines: text.split('\n').filter(line => line).map(line => JSON.parse(line)) }))
+})
+
+// Whether the README says that the two differ here. Where `npm ci` refuses: a workspace that the lock file does not link
+// under its name, or an optional dependency of the root or a workspace that is not installed. Where it does not: an
+// optional dependency of the wrong version, for which the registry may have no other, a package that is no workspace any
+// more, or a package of the wrong version where the root has a right one.
+const isKnown = async (root, project, lock, errors, lines) => {
+  const workspaces = [...await mapWorkspaces({ cwd: root, pkg: project[''] })].map(([name, folder]) => [name, path.relative(root, folder)])
+  const isLeft = folder => folder && !folder.includes('node_modules') && !workspaces.some(([, other]) => other === folder)
+  const isElsewhere = ({ problem, name, spec, to }) => problem === 'invalid' && to !== `node_modules/${name}` &&
+    semver.satisfies(lock.packages[`node_modules/${name}`]?.version, spec)
+  if (!errors.length) return lines.every(line => line.problem === 'group' || line.optional || isLeft(line.from) || isElsewhere(line))
+  const isLinked = ([name, folder]) => lock.packages[`node_modules/${name}`]?.resolved === folder
+  const isInstalled = (folder, name) => [`node_modules/${name}`, `${folder}/node_modules/${name}`].some(place => lock.packages[place])
+  return !workspaces.every(isLinked) || !['', ...workspaces.map(([, folder]) => folder)].every(folder =>
+    Object.keys(project[folder]?.optionalDependencies || {}).every(name => isInstalled(folder, name)))
+}
+
+const main = async () => {
+  const [program, count] = process.argv.slice(2)
+  const server = await serve()
+  const room = fs.mkdtempSync(path.join(os.tmpdir(), 'lock_files_ci-'))
+  const options = { registry: `http://localhost:${server.address().port}/`, cache: path.join(room, 'cache'), audit: false, packumentCache: new Map() }
+  let pairs = 0, refused = 0, known = 0, differ = 0
+  for (let i = 0; pairs < Number(count) && i < 10 * Number(count); i++) {
+    const root = path.join(room, `p${i}`)
+    const project = makeProject()
+    write(root, project)
+    const arborist = new Arborist({ ...options, path: root })
+    try {
+      await arborist.buildIdealTree()
+    } catch {
+      continue
+    }
+    const lock = path.join(root, 'package-lock.json')
+    const text = String(arborist.idealTree.meta)
+    const other = changed(project)
+    fs.rmSync(root, { recursive: true })
+    write(root, other)
+    fs.writeFileSync(lock, text)
+    const errors = await npmErrors(root, options)
+    if (errors === undefined) {
+      fs.rmSync(root, { recursive: true })
+      continue
+    }
+    pairs++
+    if (errors.length) refused++
+    const ran = await run(program, root)
+    const isSame = ran.status === (errors.length ? 1 : 0)
+    if (!isSame && ran.status < 2 && await isKnown(root, other, JSON.parse(text), errors, ran.lines)) {
+      known++
+    } else if (!isSame) {
+      differ++
+      if (differ <= Number(process.env.SHOWN || 5)) {
+        console.log(`WRONG: pair ${i}: status ${ran.status}, and npm ci: ${errors.join('; ') || 'nothing'}`)
+        console.log(JSON.stringify(project))
+        console.log(JSON.stringify(other))
+        console.log(ran.text)
+      }
+    }
+    fs.rmSync(root, { recursive: true })
+  }
+  fs.rmSync(room, { recursive: true, force: true })
+  server.close()
+  console.log(`npm ci: ${pairs} pairs, ${refused} refused, ${known} differ as the README says, ${differ} differ otherwise`)
+  process.exit(differ || !refused || refused === pairs ? 1 : 0)
+}
+
+main()

@@ -1,0 +1,201 @@
+"""The public functions that can run out of memory, of all libraries: those whose signature has an allocator or an
+`AllocError`.
+
+A script that has to call each of them in a row gives the names of its rows to `lacking`. `THROUGH` says of a function that
+stands in no row which call makes it, with all that it is given. A name is the type and the function, or the crate and a
+function that has no type.
+"""
+import os
+import re
+
+from crates import CRATES, is_program, listed
+
+# Libraries that no user calls.
+SCRIPTS = {"memory_trials": "makes the calls", "node_semver_callers": "examples"}
+
+# A function, and the call that makes it.
+THROUGH = {
+    "Gather::gather": "Range::intersect",
+    "MergedSpans::common_with": "Range::intersect",
+    "MergedSpans::subtract_from": "Range::difference",
+    "Places::none": "Range::parse",
+    "Places::of": "Range::parse",
+    "Places::clone": "Range::clone",
+    "Stepped::least": "Version::least",
+    "Stepped::next": "Version::next",
+    "EndVersion::with_extras": "Range::parse",
+    "EndVersion::with_copies": "Range::from_sets",
+    "EndVersion::copy": "Range::clone",
+    "semver_texts::copies_of": "Version::clone",
+    "semver_texts::copies_with_zero": "Version::next",
+    "semver_texts::read_identifier": "Version::parse",
+    "semver_texts::to_vec_inline": "Identifiers::to_vec",
+    "Sets::read": "Range::parse",
+    "Sets::copy": "Range::clone",
+    "Sets::union": "Range::union",
+    "Gathered::new": "Range::from_sets",
+    "Gathered::add": "Range::from_sets",
+    "Gathered::gather": "Range::intersect",
+    "Gathered::into_sets": "Range::intersect",
+    "npm_sets::read_npm": "npm_semver::parse_range",
+    "npm_sets::read_npm_text": "npm_semver::parse_range",
+    "npm_sets::refused_offset": "npm_semver::parse_range",
+    "Mismatch::to_json": "npm_lock::mismatches_of",
+    "Problem::to_json": "npm_lock::check",
+    "Unchecked::to_json": "npm_lock::check",
+    "npm_advisories::audit": "npm_advisories::audit_lock",
+    "Found::to_json": "npm_advisories::audit_lock",
+}
+
+# A function that returns nothing but an error, and one that frees.
+NEEDLESS = {"SemverError::out_of_memory", "node_semver_c::node_semver_range_free", "node_semver_c::node_semver_version_free"}
+
+FUNCTION = re.compile(r"\b(pub\s+)?(?:unsafe\s+|const\s+|extern\s+\"\"\s+)*fn\s+(\w+)")
+BLOCK = re.compile(r"\b(impl|trait)\b([^;{]*)\{")
+OUT_OF_MEMORY = re.compile(r"\bGlobal\b|\bAllocGlobal\b|\bAllocError\b|\bAllocator\b|(?<![\w:])Result<(?:[^<>,]|<[^<>]*>|\([^()]*\))*>\s*$")
+
+# A source, and its public functions that can run out of memory.
+MADE_UP = [
+    ("""
+pub use std::alloc::Global; // pub fn no(alloc: Global) {}
+/// Returns `pub fn neither(alloc: Global)`.
+pub fn one(alloc: Global, ends: [u8; { 2 * 2 }]) -> usize
+    ensures { IsOf { first: 1 } result }
+{
+    let brace = '{';
+    let text = "pub fn none(alloc: Global) {";
+    0
+}
+pub(crate) fn two(alloc: Global) {}
+pub fn three(text: &str) -> Result<usize, Fault> {}
+pub fn four(&mut self) -> Result<(), AllocError> { fn inner(alloc: Global) {} }
+pub fn five<'a>(text: &'a str) -> Result<Vec<&'a str>> {}
+#[unsafe(no_mangle)]
+pub extern "C" fn six(
+    alloc: Global,
+    at: *const u8,
+) -> u32 {}
+""", {"made_up::one", "made_up::four", "made_up::five", "made_up::six"}),
+    ("""
+impl<'a, T: Ord + Into<Vec<u8>>> Thing<'a, T>
+where
+    T: Drop,
+{
+    pub fn one(&self, alloc: Global) -> usize { 0 }
+    fn two(&self, alloc: Global) -> usize { 0 }
+}
+impl<T> Clone for crate::thing::Other<T> {
+    fn clone(&self) -> Result<Other<T>, AllocError> {}
+}
+impl<W> fmt::Display for Other<W> {
+    fn fmt(&self) -> fmt::Result {}
+}
+impl From<AllocError> for Other<u8> {
+    fn from(error: AllocError) -> Other<u8> {}
+}
+pub trait Made {
+    fn made(alloc: Global) -> Self;
+}
+""", {"Thing::one", "Other::clone", "Made::made"}),
+]
+
+
+def blanked(text):
+    """A source without comments, and without what stands in quotes."""
+    quoted = r'r#"(?:.|\n)*?"#|"(?:\\.|[^"\\])*"|\'(?:\\(?:u\{\w+\}|.)|[^\'\\\n])\''
+    return re.sub(rf"//[^\n]*|/\*(?:.|\n)*?\*/|{quoted}", lambda it: '""' if it[0][0] in "\"'r" else "", text)
+
+
+def blanked_in_place(text):
+    """The same with each letter where it was: blanks stand for what is left out."""
+    quoted = r'r#"(?:.|\n)*?"#|"(?:\\.|[^"\\])*"|\'(?:\\(?:u\{\w+\}|.)|[^\'\\\n])\''
+    return re.sub(rf"//[^\n]*|{quoted}", lambda it: re.sub(r"[^\n]", " ", it[0]), text)
+
+
+def end_of_block(text, at):
+    """Where the block ends that begins at a brace."""
+    depth = 0
+    for place in range(at, len(text)):
+        depth += (text[place] == "{") - (text[place] == "}")
+        if depth == 0:
+            return place + 1
+    raise ValueError("a block has no end")
+
+
+def signature(text, at):
+    """What stands between a function's name and its clauses or its body."""
+    depth = 0
+    for place in range(at, len(text)):
+        letter = text[place]
+        depth += (letter in "([") - (letter in ")]")
+        if depth == 0 and (letter in "{;" or re.match(r"\b(?:requires|ensures|where)\b", text[place:])):
+            return text[at:place]
+    raise ValueError("a function has no end")
+
+
+def blocks(text):
+    """The blocks of types and traits: where they begin and end, the type, and the trait if there is one."""
+    for block in BLOCK.finditer(text):
+        head = block[2]
+        while re.search(r"<[^<>]*>", head.replace("->", "")):
+            head = re.sub(r"<[^<>]*>", "", head.replace("->", ""))
+        head = re.sub(r"\bwhere\b(?:.|\n)*", "", head).split(":")[0] if block[1] == "trait" else re.sub(r"\bwhere\b(?:.|\n)*", "", head)
+        words = [part.strip().split("::")[-1].strip() for part in re.split(r"\bfor\b", head)]
+        trait = words[0] if len(words) > 1 or block[1] == "trait" else None
+        yield block.start(), end_of_block(text, block.end() - 1), words[-1].lstrip("&").strip(), trait
+
+
+def calls_of(text, crate):
+    """The public functions of a source that can run out of memory, by their names."""
+    text, found, after = blanked(text), set(), 0
+    within = list(blocks(text))
+    for function in FUNCTION.finditer(text):
+        if function.start() < after:
+            continue
+        said = signature(text, function.end())
+        body = function.end() + len(said)
+        start = re.compile(r"[^{;]*?(?:(?:requires|ensures)\s*\w*\s*\{|[{;])").match(text, body)
+        while start and re.search(r"(?:requires|ensures)\s*\w*\s*\{$", start[0]):
+            start = re.compile(r"[^{;]*?(?:(?:requires|ensures)\s*\w*\s*\{|[{;])").match(text, end_of_block(text, start.end() - 1))
+        after = end_of_block(text, start.end() - 1) if start and start[0].endswith("{") else function.end()
+        owner = next((it for it in within if it[0] < function.start() < it[1]), None)
+        is_public = bool(function[1]) or owner is not None and owner[3] not in (None, "From")
+        if is_public and OUT_OF_MEMORY.search(said) and "fmt::Result" not in said:
+            found.add(f"{owner[2] if owner else crate}::{function[2]}")
+    return found
+
+
+def libraries():
+    """The libraries that users call."""
+    given = listed()
+    return [name for name in given if not is_program(name) and not name.endswith("_tests") and name not in SCRIPTS]
+
+
+def of_crate(crate):
+    found = set()
+    for at, _, names in os.walk(os.path.join(CRATES, crate, "src")):
+        for name in sorted(names):
+            if name.endswith(".rt"):
+                with open(os.path.join(at, name), encoding="utf-8") as file:
+                    found |= calls_of(file.read(), crate)
+    return found
+
+
+def lacking(rows, crates):
+    """What is wrong with the names of rows, for the public functions of these crates: a line for each fault."""
+    calls = set().union(*map(of_crate, crates)) - NEEDLESS
+    for name in sorted(calls - set(rows)):
+        if name not in THROUGH:
+            yield f"{name} can run out of memory and stands in no row"
+        elif THROUGH[name] not in rows:
+            yield f"{name}: {THROUGH[name]}, which makes it, stands in no row"
+    if len(calls) < 50:
+        yield f"only {len(calls)} public functions that can run out of memory were found"
+
+
+def unseen():
+    """What is read wrongly in the made-up sources: a line for each."""
+    for text, wanted in MADE_UP:
+        found = calls_of(text, "made_up")
+        if found != wanted:
+            yield f"of a made-up source these calls were found: {sorted(found)}, and these wanted: {sorted(wanted)}"

@@ -1,0 +1,15 @@
+//! Makes a call after a number of allocations, and then the same call again, for programs that try calls without memory or
+//! on large arguments.
+//!
+//! The lines of standard input are that number, the name of the call, and its arguments. If one allocation of the run
+//! fails, the number decides which allocation of the call that is. [`run`] writes the number of allocations that succeeded
+//! before the call, the result of the call, the number that succeeded after it, and the result of the second call. Its
+//! status is 1 if an argument has changed, and 2 if no call was made or nothing was written.
+#![tactic(auto)]
+
+mod call_error;
+mod requests;
+mod trial;
+
+pub use call_error::CallError;
+pub use trial::{Trial, run};

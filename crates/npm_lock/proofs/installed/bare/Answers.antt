@@ -1,0 +1,10 @@
+-- The text is made of its characters.
+use Rattle.std.proofs.Common.{◌∙◌, ap, encode_utf8_all, sym}
+use Rattle.std.proofs.lemmas.Str.{encodes-chars}
+use Rattle.npm_lock.specs.InstalledVersions.{bare, is_white, without_end}
+use Rattle.npm_lock.proofs.installed.bare.Goals as goal
+
+pub returns : goal.returns
+unfolding bare
+returns c = sym (encodes-chars c.without_white.result.now c.without_white.utf8)
+    ∙ ap encode_utf8_all (c.without_white.ensures ∙ ap (without_end is_white) c.without_leads.ensures)

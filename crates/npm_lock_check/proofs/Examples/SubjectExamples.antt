@@ -1,0 +1,67 @@
+-- What the definitions say of the beginnings of lines.
+use Rattle.std.proofs.Common.{◌≡◌, ◌∷◌, [], Some, codes, refl}
+use Rattle.std.specs.Fmt.{digits}
+use Rattle.npm_advisories.specs.declared.fault.FaultKind.TheVariants as FaultKinds
+use Rattle.npm_advisories.specs.declared.fault.FaultKind.TheVariants.{File, Range}
+use Rattle.npm_lock_check.specs.Arguments.{ArgumentsValue, nothing_asked}
+use Rattle.npm_lock_check.specs.Shown.{quoted}
+use Rattle.npm_lock_check.specs.Subjects.{list_words, place_words, subject_of}
+use Rattle.npm_lock_check.specs.declared.run_error.LoadError.TheVariants as Loads
+use Rattle.npm_lock_check.specs.declared.run_error.RunError.TheVariants.{Memory, NoFile, NoUtf8, Read, Write}
+use Rattle.npm_lock_check.specs.declared.run_error.StopError.TheVariants.{Advisories, Check, Load, Manifest}
+
+abbrev asked : ArgumentsValue
+asked = record nothing_asked {
+  file = Some (codes "a.json");
+  manifest = Some (codes "m.json");
+  advisories = Some (codes "v.json");
+}
+
+pub a_file : subject_of asked (Check NoFile) ≡ codes "\"a.json\": "
+a_file = refl
+
+pub no_file : subject_of nothing_asked (Check NoUtf8) ≡ codes "standard input: "
+no_file = refl
+
+pub standard_input_by_its_name : subject_of (record asked { file = Some (codes "-") }) (Check Read)
+    ≡ codes "standard input: "
+standard_input_by_its_name = refl
+
+pub a_manifest : subject_of asked (Manifest NoFile) ≡ codes "--manifest \"m.json\": "
+a_manifest = refl
+
+pub advisories : subject_of asked (Advisories Read) ≡ codes "--advisories \"v.json\": "
+advisories = refl
+
+-- a write and memory are about no file
+pub a_write : subject_of asked (Check Write) ≡ []
+a_write = refl
+
+pub memory : subject_of asked (Check Memory) ≡ []
+memory = refl
+
+-- the manifest of a workspace is named by the rest of the line
+pub a_workspace : subject_of asked (Load Loads.Memory) ≡ []
+a_workspace = refl
+
+-- an escape sequence, and what would end the quotation
+pub a_name_that_a_terminal_must_not_read : quoted (27 ∷ codes "[2J\"") ≡ codes "\"\\x1b[2J\\\"\""
+a_name_that_a_terminal_must_not_read = refl
+
+pub a_list_of_advisories : list_words (codes "lodash") ≡ codes ", of \"lodash\""
+a_list_of_advisories = refl
+
+pub no_list : list_words [] ≡ []
+no_list = refl
+
+-- ---- where a fault of advisories is
+
+pub an_advisory : place_words Range (codes "lodash") 1 ≡ codes "; advisory 1, counted from 0, of \"lodash\""
+unfolding digits
+an_advisory = refl
+
+pub a_list : place_words FaultKinds.List (codes "lodash") 0 ≡ codes "; the name is \"lodash\""
+a_list = refl
+
+pub a_whole_file : place_words File [] 0 ≡ []
+a_whole_file = refl

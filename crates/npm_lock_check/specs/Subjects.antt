@@ -1,0 +1,83 @@
+-- What the line of an error begins with: the input that the error is about.
+use Rattle.std.specs.Prelude.{ℕ, List, [], ◌∷◌, ◌++◌, Option, Some, None, codes, decimal, if◌then◌else◌}
+use Rattle.std.specs.Str.{bytes_eq}
+use Rattle.npm_advisories.specs.declared.fault.FaultKind.{FaultKind}
+use Rattle.npm_advisories.specs.declared.fault.FaultKind.TheVariants as FaultKinds
+use Rattle.npm_lock_check.specs.Arguments.{ArgumentsValue}
+use Rattle.npm_lock_check.specs.Shown.{quoted}
+use Rattle.npm_lock_check.specs.declared.run_error.RunError.{RunError}
+use Rattle.npm_lock_check.specs.declared.run_error.RunError.TheVariants as Errors
+use Rattle.npm_lock_check.specs.declared.run_error.StopError.{StopError}
+use Rattle.npm_lock_check.specs.declared.run_error.StopError.TheVariants as Stops
+use Rattle.npm_lock_check.specs.declared.subject.Input.{Input}
+use Rattle.npm_lock_check.specs.declared.subject.Input.TheVariants as Inputs
+use Rattle.npm_lock_check.specs.declared.subject.Subject.{Subject}
+use Rattle.npm_lock_check.specs.declared.subject.Subject.TheVariants as Subjects
+
+-- ---- which input it is
+
+-- The input that an error of a check is about. A write and memory are no input, and `NoLinked` names its folder.
+abbrev pub checked_input : RunError → Option Input
+checked_input Errors.NoFile = Some Inputs.Lock
+checked_input Errors.Open = Some Inputs.Lock
+checked_input Errors.Read = Some Inputs.Lock
+checked_input Errors.Write = None
+checked_input Errors.Memory = None
+checked_input Errors.NoUtf8 = Some Inputs.Lock
+checked_input (Errors.NoJson line column) = Some Inputs.Lock
+checked_input Errors.ByteOrderMark = Some Inputs.Lock
+checked_input (Errors.NoLockFile fault) = Some Inputs.Lock
+checked_input (Errors.NoManifest fault) = Some Inputs.Manifest
+checked_input (Errors.NoLinked name fault) = None
+checked_input (Errors.NoAdvisories kind name place) = Some Inputs.Advisories
+
+-- the input that an error is about; `Load` names its folder
+abbrev pub input_of : StopError → Option Input
+input_of (Stops.Check error) = checked_input error
+input_of (Stops.Manifest error) = Some Inputs.Manifest
+input_of (Stops.Advisories error) = Some Inputs.Advisories
+input_of (Stops.Load error) = None
+
+-- ---- how it is named
+
+-- the lock file: `"a.json": `, and `standard input: ` without a file and for `-`
+abbrev pub lock_words : (file : Option (List ℕ)) → List ℕ
+lock_words None = codes "standard input: "
+lock_words (Some file) = if bytes_eq file (codes "-") then codes "standard input: " else quoted file ++ codes ": "
+
+-- the file after an option: `--manifest "package.json": `
+abbrev pub option_words : (option : List ℕ) → (file : Option (List ℕ)) → List ℕ
+option_words option None = []
+option_words option (Some file) = option ++ (quoted file ++ codes ": ")
+
+-- the input, as these arguments name it
+abbrev pub input_words : ArgumentsValue → Option Input → List ℕ
+input_words asked None = []
+input_words asked (Some Inputs.Lock) = lock_words asked.file
+input_words asked (Some Inputs.Manifest) = option_words (codes "--manifest ") asked.manifest
+input_words asked (Some Inputs.Advisories) = option_words (codes "--advisories ") asked.advisories
+
+-- what the line of an error begins with
+abbrev pub subject_of : ArgumentsValue → StopError → List ℕ
+subject_of asked error = input_words asked (input_of error)
+
+-- the name of a list of advisories, which is empty in OSV's form: `, of "lodash"`
+abbrev pub list_words : (name : List ℕ) → List ℕ
+list_words [] = []
+list_words (byte ∷ name) = codes ", of " ++ quoted (byte ∷ name)
+
+-- where in a file of advisories a fault is: `; advisory 1, counted from 0, of "lodash"`; a file that is none has no place
+abbrev pub place_words : FaultKind → (name : List ℕ) → (place : ℕ) → List ℕ
+place_words FaultKinds.File name place = []
+place_words FaultKinds.List name place = codes "; the name is " ++ quoted name
+place_words kind name place = codes "; advisory " ++ (decimal place ++ (codes ", counted from 0" ++ list_words name))
+
+-- ---- what contracts see
+
+-- what a subject prints
+abbrev pub subject_words : Subject → List ℕ
+subject_words Subjects.Nothing = []
+subject_words Subjects.StandardInput = codes "standard input: "
+subject_words (Subjects.File file) = quoted file.text.now ++ codes ": "
+subject_words (Subjects.Manifest file) = codes "--manifest " ++ (quoted file.text.now ++ codes ": ")
+subject_words (Subjects.Advisories file) = codes "--advisories " ++ (quoted file.text.now ++ codes ": ")

@@ -1,0 +1,32 @@
+//! What is wrong with the arguments.
+use crate::shown::Quoted;
+use thiserror::Error;
+
+/// What is wrong with the arguments, with the word that it is about.
+#[derive(Clone, Copy, Debug, Drop, Error)]
+pub enum ArgumentError<'a> {
+    /// More words than are read.
+    #[error("more than 1000 arguments; --help lists the options")]
+    TooMany,
+    /// An option that is not known.
+    #[error("no such option: {0}; --help lists the options")]
+    UnknownOption(Quoted<'a>),
+    /// A second word that is no option.
+    #[error("more than one FILE: {0} is the second; --help shows what is read")]
+    SecondFile(Quoted<'a>),
+    /// An option that has a value is the last word.
+    #[error("{0} has no value; --help lists the options")]
+    NoValue(Quoted<'a>),
+    /// The value of `--format` is no format.
+    #[error("--format takes text or json, and not {0}; --help lists the options")]
+    Format(Quoted<'a>),
+    /// The value of `--ignore` is no kind of problem.
+    #[error("--ignore takes group, missing, invalid, peer-local or engine, and not {0}; --help lists the options")]
+    Kind(Quoted<'a>),
+    /// The value of `--severity` is no severity.
+    #[error("--severity takes info, low, moderate, high or critical, and not {0}; --help lists the options")]
+    Severity(Quoted<'a>),
+    /// The value of `--node` is no version.
+    #[error("--node takes a version, as 20 or 20.11.1, and not {0}; --help lists the options")]
+    NodeVersion(Quoted<'a>),
+}

@@ -1,0 +1,20 @@
+//! Why the program ends with status 2.
+use crate::argument_error::ArgumentError;
+use crate::run_error::StopError;
+use crate::subject::Subject;
+use crate::words::WordsError;
+use thiserror::Error;
+
+/// Why the program ends with status 2.
+#[derive(Debug, Drop, Error)]
+pub enum ProgramError<'a> {
+    /// The arguments were not read.
+    #[error("{0}")]
+    Words(&'a WordsError),
+    /// The arguments ask for nothing that is done here.
+    #[error("{0}")]
+    Argument(ArgumentError<'a>),
+    /// Something went wrong, with this input if it is about one.
+    #[error("{0}{1}")]
+    Stopped(Subject<'a>, StopError),
+}

@@ -1,0 +1,98 @@
+//! The input that an error is about.
+ghost use Rattle.std.specs.Prelude.{◌≡◌, Some, option_map};
+ghost use Rattle.npm_lock_check.specs.Arguments.{arguments_value};
+ghost use Rattle.npm_lock_check.specs.Subjects as Subjects;
+ghost use Rattle.npm_lock_check.specs.Subjects.{subject_words};
+
+use crate::arguments::Arguments;
+use crate::run_error::{RunError, StopError};
+use crate::shown::Quoted;
+use std::fmt;
+
+/// An input of the program.
+#[derive(Clone, Copy, Drop)]
+enum Input {
+    Lock,
+    Manifest,
+    Advisories,
+}
+
+/// What the line of an error begins with.
+#[derive(Clone, Copy, Debug, Drop)]
+pub enum Subject<'a> {
+    /// The error is about no input, or names it.
+    Nothing,
+    StandardInput,
+    File(Quoted<'a>),
+    /// The value of `--manifest`.
+    Manifest(Quoted<'a>),
+    /// The value of `--advisories`.
+    Advisories(Quoted<'a>),
+}
+
+/// Prints `"package-lock.json": `, or nothing. Format options such as a width are ignored.
+impl<'a> fmt::Display for Subject<'a> {
+    ghost output = { λ subject. Some (subject_words subject) };
+
+    fn fmt<W: fmt::Write>(&self, f: &mut fmt::Formatter<W>) -> fmt::Result {
+        match self {
+            Subject::Nothing => Ok(()),
+            Subject::StandardInput => f.write_str("standard input: "),
+            Subject::File(file) => write!(f, "{file}: "),
+            Subject::Manifest(file) => write!(f, "--manifest {file}: "),
+            Subject::Advisories(file) => write!(f, "--advisories {file}: "),
+        }
+    }
+}
+
+/// Returns what the line of this error begins with.
+pub fn subject_of<'a>(asked: Arguments<'a>, error: &StopError) -> Subject<'a>
+    ensures { subject_words result ≡ Subjects.subject_of (arguments_value asked.entry) error.now }
+{
+    match input_of(error) {
+        None => Subject::Nothing,
+        Some(Input::Lock) => lock_file(asked.file),
+        Some(Input::Manifest) => match asked.manifest {
+            Some(text) => Subject::Manifest(Quoted { text }),
+            None => Subject::Nothing,
+        },
+        Some(Input::Advisories) => match asked.advisories {
+            Some(text) => Subject::Advisories(Quoted { text }),
+            None => Subject::Nothing,
+        },
+    }
+}
+
+/// The lock file.
+fn lock_file<'a>(file: Option<&'a str>) -> Subject<'a>
+    ensures { subject_words result ≡ Subjects.lock_words (option_map (λ text. text.now) file.entry) }
+{
+    match file {
+        Some(text) if text != "-" => Subject::File(Quoted { text }),
+        _ => Subject::StandardInput,
+    }
+}
+
+/// The input that an error is about.
+fn input_of(error: &StopError) -> Option<Input>
+    ensures { result ≡ Subjects.input_of error.now }
+{
+    match error {
+        StopError::Check(error) => checked_input(error),
+        StopError::Manifest(_) => Some(Input::Manifest),
+        StopError::Advisories(_) => Some(Input::Advisories),
+        StopError::Load(_) => None,
+    }
+}
+
+/// The input that an error of a check is about.
+fn checked_input(error: &RunError) -> Option<Input>
+    ensures { result ≡ Subjects.checked_input error.now }
+{
+    match error {
+        RunError::Write | RunError::Memory | RunError::NoLinked(_, _) => None,
+        RunError::NoManifest(_) => Some(Input::Manifest),
+        RunError::NoAdvisories(_, _, _) => Some(Input::Advisories),
+        _ => Some(Input::Lock),
+    }
+}

@@ -1,0 +1,4 @@
+pub mod CoerceExamples
+mod PrereleaseExamples
+mod BumpExamples
+mod NpmAnswerExamples

@@ -1,0 +1,14 @@
+pub mod Bumps
+pub mod Upward
+pub mod Pieces
+pub mod LastPieces
+pub mod NumberPlaces
+pub mod ChosenPieces
+pub mod Extras
+pub mod FullPieces
+pub mod LastFull
+pub mod ListedSlices
+pub mod ChosenFull
+pub mod NumberTexts
+pub mod PrintCoerced
+pub mod StrictNumbers

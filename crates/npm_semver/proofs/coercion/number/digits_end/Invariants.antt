@@ -1,0 +1,14 @@
+use Rattle.std.proofs.Common.{◌≡◌, ◌-◌, ◌<◌, ◌≤◌, ℕ, true, length}
+use Rattle.npm_semver.specs.Coerce.{is_digit_at}
+use Rattle.npm_semver.proofs.coercion.number.digits_end.Given as goal
+
+-- there are digits so far
+abbrev pub invariant-digits : goal.invariant-digits
+invariant-digits l = record {
+  from : l.start ≤ l.end;
+  within : l.end ≤ length l.text;
+  digits : (place : ℕ) → l.start ≤ place → place < l.end → is_digit_at l.text place ≡ true;
+}
+
+abbrev pub decreases-digits : goal.decreases-digits
+decreases-digits l = length l.text - l.end

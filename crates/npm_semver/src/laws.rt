@@ -1,0 +1,22 @@
+//! The laws of npm's calls. The functions here do nothing: the contract of each is a law.
+ghost use Rattle.std.specs.Prelude.{Option};
+ghost use Rattle.npm_semver.specs.Bump.{IsBumped, IsUpward};
+ghost use Rattle.npm_semver.specs.CoerceLaws.{PrintIsCoerced};
+ghost use Rattle.npm_semver.specs.declared.bump.Bump.{Bump};
+ghost use Rattle.npm_semver.specs.declared.bump.IdentifierBase.{IdentifierBase};
+ghost use Rattle.semver_texts.specs.IdentifierValue.{IdentifierValue};
+ghost use Rattle.semver_texts.specs.Order.{IsBelow};
+ghost use Rattle.semver_texts.specs.Version.{VersionValue};
+
+pub use npm_sets::refused::a_refused_text_has_one_place;
+
+/// A bumped version is greater than the version, but after `Pre`, and after `PreRelease` with an identifier.
+pub fn a_bumped_version_is_greater()
+    ensures { (bump : Bump) (identifier : Option IdentifierValue) (base : IdentifierBase) (v w : VersionValue) →
+        IsUpward bump identifier → IsBumped bump identifier base v w → IsBelow v w }
+{}
+
+/// From the print of a version, [`coerce`](crate::coerce) returns the release with its triple.
+pub fn a_print_is_coerced_to_its_triple()
+    ensures { (v : VersionValue) → PrintIsCoerced v }
+{}

@@ -1,0 +1,6 @@
+use Rattle.std.proofs.Common.{◌≡◌, take}
+use Rattle.semver_texts.specs.Identifier.{values_of}
+use Rattle.semver_texts.proofs.identifier.copy.copies_of.Given as goal
+
+abbrev pub invariant-identifiers : goal.invariant-identifiers
+invariant-identifiers l = values_of l.copies.items ≡ values_of (take l.identifier-index l.identifiers)

@@ -1,0 +1,5 @@
+pub mod Between
+pub mod Least
+pub mod Prereleases
+pub mod PrintReading
+pub mod ReadIdentifiers

@@ -1,0 +1,4 @@
+-- What private functions compute, and how their contracts see it. No other crate names these, and nobody has to trust
+-- them.
+pub mod ListedViews
+pub mod CommonStarts

@@ -1,5 +1,0 @@
-use Rattle.semver_versions.specs.Lemmas.Order.{identifier_order}
-use Rattle.semver_versions.proofs.identifier.borrowed.order.IdentifierRefOrd.cmp.Goals as goal
-
-pub returns-clause-order : goal.returns-clause-order
-returns-clause-order c = identifier_order _ _ _ c.cmp_identifiers.ensures

@@ -1,6 +1,0 @@
-use Rattle.std.proofs.Common.{rules}
-use Rattle.semver_versions.specs.Lemmas.Order.{identifier_order}
-use Rattle.semver_versions.proofs.identifier.order.IdentifierOrd.cmp.Goals as goal
-
-pub returns-clause-order : goal.returns-clause-order
-returns-clause-order c = identifier_order _ _ _ (search rules)

@@ -1,6 +1,0 @@
-use Rattle.std.proofs.Common.{rules}
-use Rattle.semver_versions.specs.Lemmas.Versions.Prereleases.{prerelease_cmp-lists}
-use Rattle.semver_versions.proofs.identifier.order.cmp_prereleases.Goals as goal
-
-pub returns-in-false-false : goal.returns-in-false-false
-returns-in-false-false c = search (rules, prerelease_cmp-lists)

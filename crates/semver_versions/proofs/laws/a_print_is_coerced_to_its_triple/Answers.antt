@@ -1,5 +1,0 @@
-use Rattle.semver_versions.proofs.Versions.PrintCoerced.{print_coerced}
-use Rattle.semver_versions.proofs.laws.a_print_is_coerced_to_its_triple.Goals as goal
-
-pub returns : goal.returns
-returns c = print_coerced

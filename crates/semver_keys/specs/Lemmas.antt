@@ -1,0 +1,1 @@
+-- Lemmas. A reader need not trust them: the checker proves them.

@@ -1,0 +1,62 @@
+//! The keys of numbers.
+ghost use Rattle.std.specs.Prelude.{◌≡◌, ◌++◌, ◌<◌, ◌≤◌, OnErr, OnOk};
+ghost use Rattle.semver_keys.specs.NumberKey as Keys;
+ghost use Rattle.semver_keys.specs.Private.Grown.{IsGrown};
+
+use std::alloc::AllocError;
+
+// Numbers below this one are one byte.
+const SHORT_NUMBERS: u64 = 240;
+
+// Appends the key of a number. `inline`: most numbers are one byte.
+#[inline]
+pub(crate) fn add_number(key: &mut Vec<u8>, n: u64) -> Result<(), AllocError>
+    ensures added { OnOk result (key.new.items ≡ key.old.items ++ Keys.number_key n) }
+    ensures grown { OnErr result (IsGrown key.old.items key.new.items) }
+{
+    if n < SHORT_NUMBERS {
+        key.push(n as u8)?;
+        Ok(())
+    } else {
+        add_long_number(key, n)
+    }
+}
+
+// The same for a number that is not one byte. `inline(never)`: few numbers are so large.
+#[inline(never)]
+fn add_long_number(key: &mut Vec<u8>, n: u64) -> Result<(), AllocError>
+    ensures added { OnOk result (key.new.items ≡ key.old.items ++ Keys.long_number_key n) }
+    ensures grown { OnErr result (IsGrown key.old.items key.new.items) }
+{
+    let count = byte_count(n);
+    key.push(240 + count)?;
+    add_bytes(key, n, count)
+}
+
+// The number of bytes of a number: 0 for 0, 1 for 255, 2 for 256.
+fn byte_count(n: u64) -> u8
+    ensures count { result ≡ Keys.byte_count 8 n }
+    ensures bound { result ≤ 8 }
+{
+    let mut rest = n;
+    'bytes: for count in 0..8u8 {
+        if rest == 0 {
+            return count;
+        }
+        rest /= 256;
+    }
+    8
+}
+
+// Appends the lowest bytes of a number, so many of them, the highest first.
+fn add_bytes(key: &mut Vec<u8>, n: u64, count: u8) -> Result<(), AllocError>
+    ensures added { OnOk result (key.new.items ≡ key.old.items ++ Keys.lowest_bytes count n) }
+    ensures grown { OnErr result (IsGrown key.old.items key.new.items) }
+{
+    if count == 0 {
+        return Ok(());
+    }
+    add_bytes(key, n / 256, count - 1)?;
+    key.push((n % 256) as u8)?;
+    Ok(())
+}

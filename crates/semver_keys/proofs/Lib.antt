@@ -4,3 +4,4 @@ pub mod NumberSteps
 pub mod IdentifierSteps
 pub mod NumberRules
 pub mod IdentifierRules
+pub mod VersionSteps

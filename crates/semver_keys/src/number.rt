@@ -1,5 +1,5 @@
 //! The keys of numbers.
-ghost use Rattle.std.specs.Prelude.{◌≡◌, ◌++◌, ◌<◌, ◌≤◌, OnErr, OnOk};
+ghost use Rattle.std.specs.Prelude.{◌≡◌, ◌++◌, ◌<◌, ◌≤◌, ◌↔◌, IsTrue, OnErr, OnOk};
 ghost use Rattle.semver_keys.specs.NumberKey as Keys;
 ghost use Rattle.semver_keys.specs.Private.Grown.{IsGrown};
 
@@ -7,6 +7,14 @@ use std::alloc::AllocError;
 
 // Numbers below this one are one byte.
 const SHORT_NUMBERS: u64 = 240;
+
+// Returns `true` if the key of the number has more than one byte. `inline(always)`: one test.
+#[inline(always)]
+pub(crate) fn is_long(n: u64) -> bool
+    ensures { IsTrue result ↔ (240 ≤ n) }
+{
+    n >= SHORT_NUMBERS
+}
 
 // Appends the key of a number. `inline`: most numbers are one byte.
 #[inline]

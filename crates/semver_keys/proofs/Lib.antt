@@ -1,0 +1,7 @@
+-- Lemmas about single functions, and worked examples.
+pub mod Growing
+pub mod NumberSteps
+pub mod IdentifierSteps
+pub mod NumberRules
+pub mod IdentifierRules
+pub mod VersionSteps

@@ -1,7 +1,7 @@
 -- The key of a number below 2^64. A number below 240 is one byte. Any other is its length and its bytes, the highest
 -- first, where 241 says one byte and 248 says eight: 239 is 239, 240 is 241 and 240, and 258 is 242, 1 and 2. So a
 -- number with more bytes has the greater first byte.
-use Rattle.std.specs.Prelude.{ℕ, ◌+◌, ◌/◌, ◌%◌, ◌==◌, nat_lt, if◌then◌else◌, List, [], ◌∷◌, ◌++◌}
+use Rattle.std.specs.Prelude.{ℕ, zero, suc, ◌+◌, ◌/◌, ◌%◌, ◌==◌, nat_lt, if◌then◌else◌, List, [], ◌∷◌, ◌++◌}
 
 -- the fewest bytes that hold the number, or the limit if it needs more: 0 for 0, 1 for 255, 2 for 256
 unfoldable pub byte_count : ℕ → ℕ → ℕ

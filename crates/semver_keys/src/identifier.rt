@@ -13,6 +13,7 @@ use node_semver::{Identifier, IdentifierRef, Identifiers};
 use std::alloc::AllocError;
 
 // Appends the keys of identifiers, and the end of them.
+#[tactic(auto, using(crate::proofs::IdentifierRules::identifier_rules))]
 pub(crate) fn add_identifiers(
     key: &mut Vec<u8>,
     identifiers: &[Identifier],
@@ -31,6 +32,7 @@ pub(crate) fn add_identifiers(
 }
 
 // Appends the keys of identifiers that borrow their texts, and the end of them.
+#[tactic(auto, using(crate::proofs::IdentifierRules::identifier_rules))]
 pub(crate) fn add_borrowed(
     key: &mut Vec<u8>,
     identifiers: Identifiers<'_>,
@@ -48,6 +50,7 @@ pub(crate) fn add_borrowed(
 }
 
 #[inline]
+#[tactic(auto, using(crate::proofs::IdentifierRules::identifier_rules))]
 fn add_identifier(key: &mut Vec<u8>, identifier: &Identifier) -> Result<(), AllocError>
     ensures added { OnOk result (key.new.items ≡ key.old.items ++ Keys.identifier_key (value_of identifier.now)) }
     ensures words { OnOk result (HasWord (value_of identifier.now)) }
@@ -60,6 +63,7 @@ fn add_identifier(key: &mut Vec<u8>, identifier: &Identifier) -> Result<(), Allo
 }
 
 #[inline]
+#[tactic(auto, using(crate::proofs::IdentifierRules::identifier_rules))]
 fn add_reference(key: &mut Vec<u8>, identifier: IdentifierRef<'_>) -> Result<(), AllocError>
     ensures added { OnOk result (key.new.items ≡ key.old.items ++ Keys.identifier_key (borrowed_value identifier.entry)) }
     ensures words { OnOk result (HasWord (borrowed_value identifier.entry)) }
@@ -73,6 +77,7 @@ fn add_reference(key: &mut Vec<u8>, identifier: IdentifierRef<'_>) -> Result<(),
 
 // Appends 1 and the key of the number.
 #[inline]
+#[tactic(auto, using(crate::proofs::IdentifierRules::identifier_rules))]
 fn add_numeric(key: &mut Vec<u8>, n: u64) -> Result<(), AllocError>
     ensures added { OnOk result (key.new.items ≡ key.old.items ++ 1 ∷ number_key n) }
     ensures grown { OnErr result (IsGrown key.old.items key.new.items) }
@@ -82,6 +87,7 @@ fn add_numeric(key: &mut Vec<u8>, n: u64) -> Result<(), AllocError>
 }
 
 // Appends 2, the bytes of the text and 0.
+#[tactic(auto, using(crate::proofs::IdentifierRules::identifier_rules))]
 fn add_text(key: &mut Vec<u8>, text: &[u8]) -> Result<(), AllocError>
     ensures added { OnOk result (key.new.items ≡ key.old.items ++ 2 ∷ Keys.text_key text.now) }
     ensures grown { OnErr result (IsGrown key.old.items key.new.items) }
@@ -98,15 +104,14 @@ fn add_text(key: &mut Vec<u8>, text: &[u8]) -> Result<(), AllocError>
 
 // Appends a byte of a text. `inline`: it is the body of a loop.
 #[inline]
+#[tactic(auto, using(crate::proofs::IdentifierRules::identifier_rules))]
 fn add_byte(key: &mut Vec<u8>, byte: u8) -> Result<(), AllocError>
     ensures added { OnOk result (key.new.items ≡ key.old.items ++ Keys.byte_key byte) }
     ensures grown { OnErr result (IsGrown key.old.items key.new.items) }
 {
     if byte < 2 {
-        key.push(1)?;
-        key.push(byte + 1)?;
+        key.extend_from_slice(&[1, byte + 1])
     } else {
-        key.push(byte)?;
+        key.extend_from_slice(&[byte])
     }
-    Ok(())
 }

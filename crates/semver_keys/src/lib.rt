@@ -12,6 +12,7 @@
 mod cut;
 mod identifier;
 mod interval;
+pub mod laws;
 mod number;
 mod version;
 

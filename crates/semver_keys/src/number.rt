@@ -1,5 +1,5 @@
 //! The keys of numbers.
-ghost use Rattle.std.specs.Prelude.{◌≡◌, ◌++◌, ◌<◌, ◌≤◌, OnErr, OnOk};
+ghost use Rattle.std.specs.Prelude.{◌≡◌, ◌++◌, ◌<◌, ◌≤◌, ◌↔◌, IsTrue, OnErr, OnOk};
 ghost use Rattle.semver_keys.specs.NumberKey as Keys;
 ghost use Rattle.semver_keys.specs.Private.Grown.{IsGrown};
 
@@ -8,8 +8,17 @@ use std::alloc::AllocError;
 // Numbers below this one are one byte.
 const SHORT_NUMBERS: u64 = 240;
 
+// Returns `true` if the key of the number has more than one byte. `inline(always)`: one test.
+#[inline(always)]
+pub(crate) fn is_long(n: u64) -> bool
+    ensures { IsTrue result ↔ (240 ≤ n) }
+{
+    n >= SHORT_NUMBERS
+}
+
 // Appends the key of a number. `inline`: most numbers are one byte.
 #[inline]
+#[tactic(auto, using(crate::proofs::NumberRules::key_rules))]
 pub(crate) fn add_number(key: &mut Vec<u8>, n: u64) -> Result<(), AllocError>
     ensures added { OnOk result (key.new.items ≡ key.old.items ++ Keys.number_key n) }
     ensures grown { OnErr result (IsGrown key.old.items key.new.items) }
@@ -24,31 +33,30 @@ pub(crate) fn add_number(key: &mut Vec<u8>, n: u64) -> Result<(), AllocError>
 
 // The same for a number that is not one byte. `inline(never)`: few numbers are so large.
 #[inline(never)]
+#[tactic(auto, using(crate::proofs::NumberRules::bytes_rules))]
 fn add_long_number(key: &mut Vec<u8>, n: u64) -> Result<(), AllocError>
     ensures added { OnOk result (key.new.items ≡ key.old.items ++ Keys.long_number_key n) }
     ensures grown { OnErr result (IsGrown key.old.items key.new.items) }
 {
-    let count = byte_count(n);
+    let count = byte_count(n, 8);
     key.push(240 + count)?;
     add_bytes(key, n, count)
 }
 
-// The number of bytes of a number: 0 for 0, 1 for 255, 2 for 256.
-fn byte_count(n: u64) -> u8
-    ensures count { result ≡ Keys.byte_count 8 n }
-    ensures bound { result ≤ 8 }
+// The fewest bytes that hold a number, or the limit if it needs more: 0 for 0, 1 for 255, 2 for 256.
+#[tactic(auto, using(crate::proofs::NumberRules::count_rules))]
+fn byte_count(n: u64, limit: u8) -> u8
+    ensures count { result ≡ Keys.byte_count limit n }
+    ensures bound { result ≤ limit }
 {
-    let mut rest = n;
-    'bytes: for count in 0..8u8 {
-        if rest == 0 {
-            return count;
-        }
-        rest /= 256;
+    if limit == 0 || n == 0 {
+        return 0;
     }
-    8
+    byte_count(n / 256, limit - 1) + 1
 }
 
 // Appends the lowest bytes of a number, so many of them, the highest first.
+#[tactic(auto, using(crate::proofs::NumberRules::bytes_rules))]
 fn add_bytes(key: &mut Vec<u8>, n: u64, count: u8) -> Result<(), AllocError>
     ensures added { OnOk result (key.new.items ≡ key.old.items ++ Keys.lowest_bytes count n) }
     ensures grown { OnErr result (IsGrown key.old.items key.new.items) }

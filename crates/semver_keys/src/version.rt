@@ -1,5 +1,5 @@
 //! The keys of versions.
-ghost use Rattle.std.specs.Prelude.{◌≡◌, ◌++◌, IfOk, OnErr, OnOk};
+ghost use Rattle.std.specs.Prelude.{◌≡◌, ◌++◌, IfOk, IfSome, OnErr, OnOk};
 ghost use Rattle.std.specs.List.{AllByRecursion};
 ghost use Rattle.semver_keys.specs.IdentifierKey.{prerelease_key};
 ghost use Rattle.semver_keys.specs.NumberKey.{number_key};
@@ -8,7 +8,7 @@ ghost use Rattle.semver_keys.specs.VersionKey as Keys;
 ghost use Rattle.semver_keys.specs.VersionKey.{HasWord, HasWords};
 
 use crate::identifier::{add_borrowed, add_identifiers};
-use crate::number::add_number;
+use crate::number::{add_number, is_long};
 use node_semver::{AsVersion, Version, VersionRef};
 use std::alloc::{AllocError, Global};
 
@@ -32,6 +32,7 @@ pub trait HasKey: AsVersion {
 }
 
 impl HasKey for Version {
+    #[tactic(auto, using(crate::proofs::VersionSteps::version_rules))]
     fn add_prerelease_key(&self, key: &mut Vec<u8>) -> Result<(), AllocError> {
         if self.pre_release.is_empty() {
             key.push(255)?;
@@ -42,6 +43,7 @@ impl HasKey for Version {
 }
 
 impl<'a> HasKey for VersionRef<'a> {
+    #[tactic(auto, using(crate::proofs::VersionSteps::version_rules))]
     fn add_prerelease_key(&self, key: &mut Vec<u8>) -> Result<(), AllocError> {
         let identifiers = self.pre_release();
         if identifiers.is_empty() {
@@ -92,6 +94,35 @@ pub fn add_version_key<V: HasKey>(key: &mut Vec<u8>, version: &V) -> Result<(), 
     ensures words { OnOk result (HasWords (V.seen version.now)) }
     ensures unchanged { OnErr result (key.new.items ≡ key.old.items) }
 {
+    match short_release(version) {
+        Some(bytes) => key.extend_from_slice(&bytes),
+        None => add_long_key(key, version),
+    }
+}
+
+// The key of a release whose three numbers are one byte each, as most versions are. `inline(always)`: four tests.
+#[inline(always)]
+#[tactic(auto, using(crate::proofs::VersionSteps::version_rules))]
+fn short_release<V: HasKey>(version: &V) -> Option<[u8; 4]>
+    ensures key { IfSome result (λ bytes. bytes ≡ Keys.version_key (V.seen version.now)) }
+    ensures words { IfSome result (λ _. HasWords (V.seen version.now)) }
+{
+    let triple = version.triple();
+    if version.is_prerelease() || is_long(triple.major) || is_long(triple.minor) || is_long(triple.patch)
+    {
+        return None;
+    }
+    Some([triple.major as u8, triple.minor as u8, triple.patch as u8, 255])
+}
+
+// The same for every version. `inline(never)`: few versions need it.
+#[inline(never)]
+#[tactic(auto, using(crate::proofs::VersionSteps::version_rules))]
+fn add_long_key<V: HasKey>(key: &mut Vec<u8>, version: &V) -> Result<(), AllocError>
+    ensures added { OnOk result (key.new.items ≡ key.old.items ++ Keys.version_key (V.seen version.now)) }
+    ensures words { OnOk result (HasWords (V.seen version.now)) }
+    ensures unchanged { OnErr result (key.new.items ≡ key.old.items) }
+{
     let before = key.len();
     match add_parts(key, version) {
         Ok(()) => Ok(()),
@@ -103,7 +134,7 @@ pub fn add_version_key<V: HasKey>(key: &mut Vec<u8>, version: &V) -> Result<(), 
 }
 
 // Appends the three numbers and what follows them.
-#[inline]
+#[tactic(auto, using(crate::proofs::VersionSteps::version_rules))]
 fn add_parts<V: HasKey>(key: &mut Vec<u8>, version: &V) -> Result<(), AllocError>
     ensures added { OnOk result (key.new.items ≡ key.old.items ++ Keys.version_key (V.seen version.now)) }
     ensures words { OnOk result (HasWords (V.seen version.now)) }

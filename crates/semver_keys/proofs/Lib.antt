@@ -5,3 +5,7 @@ pub mod IdentifierSteps
 pub mod NumberRules
 pub mod IdentifierRules
 pub mod VersionSteps
+pub mod Prereleases
+pub mod SpanKeys
+pub mod OpenedSteps
+pub mod OpenedRules

@@ -37,6 +37,7 @@ fn add_part(
 }
 
 // The same for the end that the cut is at. A release opens no triple.
+#[tactic(auto, using(crate::proofs::OpenedRules::part_rules))]
 fn add_part_at(
     parts: &mut Vec<Span<Version>>,
     set: &Span<Version>,

@@ -43,12 +43,12 @@ prereleases-are p v pre = (
       let low = at_least (least_of p.major p.minor p.patch) v is.lower in
       let high : IsBelow v (release p.major p.minor p.patch) = Less-version v (release p.major p.minor p.patch) is.upper in
       let same : HasSameTriple v (release p.major p.minor p.patch) =
-          triple-between (least_of p.major p.minor p.patch) v (release p.major p.minor p.patch) low (inl high)
-          (record { major = refl; minor = refl; patch = refl }) in
+      triple-between (least_of p.major p.minor p.patch) v (release p.major p.minor p.patch) low (inl high)
+      (record { major = refl; minor = refl; patch = refl }) in
       record { major = sym same.major; minor = sym same.minor; patch = sym same.patch },
   λ same.
       let back : HasSameTriple v (release p.major p.minor p.patch) =
-          record { major = sym same.major; minor = sym same.minor; patch = sym same.patch } in
+      record { major = sym same.major; minor = sym same.minor; patch = sym same.patch } in
       record {
         lower = not_greater (least_of p.major p.minor p.patch) v _ refl (none-below_least v p.major p.minor p.patch
             (record { major = sym same.major; minor = sym same.minor; patch = sym same.patch }));
@@ -97,8 +97,8 @@ of-set set v pre =
         | inr there ↦ record { inside = (upper.0 there).0; opened = λ h. inr (upper.0 there).1 }
       ],
       λ admits. elim (admits.opened pre) [
-        | inl open ↦ any-left Has (parts_at set set.lower) (parts_at set set.upper) (lower.1 (admits.inside, open))
-        | inr open ↦ any-right Has (parts_at set set.lower) (parts_at set set.upper) (upper.1 (admits.inside, open))
+        | inl opens ↦ any-left Has (parts_at set set.lower) (parts_at set set.upper) (lower.1 (admits.inside, opens))
+        | inr opens ↦ any-right Has (parts_at set set.lower) (parts_at set set.upper) (upper.1 (admits.inside, opens))
       ],
     )
 
@@ -113,7 +113,7 @@ prerelease-admitted sets v pre =
 -- a release satisfies a range exactly if the cut before it lies in a set
 pub release-admitted : (sets : List (Ends VersionValue)) (v : VersionValue) → ¬ IsPrerelease v
     → RangeAdmits sets v ↔ IsInSome version_cmp sets (Before v)
-release-admitted sets v no = (
+release-admitted sets v plain = (
   λ admits. any-map _ _ (λ set is. is.inside) sets admits,
-  λ is. any-map _ _ (λ set inside. record { inside = inside; opened = λ pre. absurd (no pre) }) sets is,
+  λ is. any-map _ _ (λ set inside. record { inside = inside; opened = λ pre. absurd (plain pre) }) sets is,
 )

@@ -56,8 +56,8 @@ in-some p [] v h k = (λ is. is, λ is. is)
 in-some p (span ∷ spans) v h k =
     let one = in-interval p span v h.0 k in
     let others = in-some p spans v h.1 k in (
-      λ is. elim is [ | inl here ↦ inl (one.0 here.1) | inr there ↦ inr (others.0 there) ],
-      λ is. elim is [ | inl here ↦ inl (refl, one.1 here) | inr there ↦ inr (others.1 there) ],
+      λ is. elim is [ inl here ↦ inl (one.0 here.1) | inr there ↦ inr (others.0 there) ],
+      λ is. elim is [ inl here ↦ inl (refl, one.1 here) | inr there ↦ inr (others.1 there) ],
     )
 
 -- no interval of another kind
@@ -78,15 +78,15 @@ pub intervals-are : (sets joined parts : List (Ends VersionValue)) → AreJoined
     → AllByRecursion HasSpanWords joined → AllByRecursion HasSpanWords parts
     → AreIntervalsOf (RangeAdmits sets) (map (interval_of false) joined ++ map (interval_of true) parts)
 intervals-are sets joined parts j q h k = record {
-  releases = λ v words no.
-      let admitted = release-admitted sets v no in
+  releases = λ v words plain.
+      let admitted = release-admitted sets v plain in
       let some = in-some false joined v h words in (
         λ admits. any-left (In false (version_key v)) _ _ (some.1 ((j.cuts (Before v)).1 (admitted.0 admits))),
         λ is. elim (any-either (In false (version_key v)) (map (interval_of false) joined)
             (map (interval_of true) parts) is) [
-          | inl here ↦ admitted.1 ((j.cuts (Before v)).0 (some.0 here))
-          | inr there ↦ absurd (none-of true false parts (version_key v) true≢false there)
-        ],
+              | inl here ↦ admitted.1 ((j.cuts (Before v)).0 (some.0 here))
+              | inr there ↦ absurd (none-of true false parts (version_key v) true≢false there)
+            ],
       );
   prereleases = λ v words pre.
       let admitted = prerelease-admitted sets v pre in
@@ -95,9 +95,9 @@ intervals-are sets joined parts j q h k = record {
             (some.1 ((q.cuts (Before v)).1 (admitted.0 admits))),
         λ is. elim (any-either (In true (version_key v)) (map (interval_of false) joined)
             (map (interval_of true) parts) is) [
-          | inl here ↦ absurd (none-of false true joined (version_key v) (λ e. true≢false (sym e)) here)
-          | inr there ↦ admitted.1 ((q.cuts (Before v)).0 (some.0 there))
-        ],
+              | inl here ↦ absurd (none-of false true joined (version_key v) (λ e. true≢false (sym e)) here)
+              | inr there ↦ admitted.1 ((q.cuts (Before v)).0 (some.0 there))
+            ],
       );
 }
 
@@ -106,3 +106,28 @@ pub intervals-are_both : (sets joined : List (Ends VersionValue)) → AreJoined 
 intervals-are_both sets joined j h v words =
     let some = in-some true joined v h words in
     (λ contains. some.1 ((j.cuts (Before v)).1 contains), λ is. (j.cuts (Before v)).0 (some.0 is))
+
+-- the same from what the calls return
+pub range-is : (range sets seen opened joined parts joined_seen parts_seen : List (Ends VersionValue))
+    (start one two : List IntervalValue) → sets ≡ range → seen ≡ sets → opened ≡ flat_map parts_of seen
+    → AreJoined version_cmp opened parts → AreJoined version_cmp sets joined
+    → start ≡ [] → joined_seen ≡ joined → one ≡ start ++ map (interval_of false) joined_seen
+    → AllByRecursion HasSpanWords joined_seen → parts_seen ≡ parts → two ≡ one ++ map (interval_of true) parts_seen
+    → AllByRecursion HasSpanWords parts_seen → AreIntervalsOf (RangeAdmits range) two
+range-is range sets seen opened joined parts joined_seen parts_seen start one two a b d j q e f g h i k l =
+    let first : one ≡ map (interval_of false) joined = g ∙ (λ t. e t ++ map (interval_of false) (f t)) in
+    let whole : two ≡ map (interval_of false) joined ++ map (interval_of true) parts =
+    k ∙ (λ t. first t ++ map (interval_of true) (i t)) in
+    let sources : opened ≡ flat_map parts_of sets = d ∙ ap (flat_map parts_of) b in
+    subst (λ r. AreIntervalsOf (RangeAdmits r) two) a (subst (AreIntervalsOf (RangeAdmits sets)) (sym whole)
+    (intervals-are sets joined parts q (subst (λ o. AreJoined version_cmp o parts) sources j)
+    (subst (AllByRecursion HasSpanWords) f h) (subst (AllByRecursion HasSpanWords) i l)))
+
+pub range-is_both : (range sets joined joined_seen : List (Ends VersionValue)) (start one : List IntervalValue)
+    → sets ≡ range → AreJoined version_cmp sets joined → start ≡ [] → joined_seen ≡ joined
+    → one ≡ start ++ map (interval_of true) joined_seen → AllByRecursion HasSpanWords joined_seen
+    → AreIntervalsOfBoth (RangeContains range) one
+range-is_both range sets joined joined_seen start one a q e f g h =
+    let first : one ≡ map (interval_of true) joined = g ∙ (λ t. e t ++ map (interval_of true) (f t)) in
+    subst (λ r. AreIntervalsOfBoth (RangeContains r) one) a (subst (AreIntervalsOfBoth (RangeContains sets)) (sym first)
+    (intervals-are_both sets joined q (subst (AllByRecursion HasSpanWords) f h)))

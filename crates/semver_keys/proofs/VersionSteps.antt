@@ -25,7 +25,7 @@ pub not-tested : {P : Type 0} (b : Bool) → b ≡ false → IsTrue b ↔ P → 
 not-tested b e h p = absurd (true≢false (sym (h.1 p) ∙ e))
 
 pub short-tested : (b : Bool) (n : ℕ) → b ≡ false → IsTrue b ↔ (240 ≤ n) → n < 240
-short-tested b n e h = elim (cases_lt n 240) [ | inl short ↦ short | inr long ↦ absurd (not-tested b e h long) ]
+short-tested b n e h = elim (cases_lt n 240) [ inl short ↦ short | inr long ↦ absurd (not-tested b e h long) ]
 
 -- a release whose numbers are one byte each
 pub record IsShort (v : VersionValue) (t : Triple) : Type 0 where

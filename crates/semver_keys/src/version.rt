@@ -108,11 +108,19 @@ fn short_release<V: HasKey>(version: &V) -> Option<[u8; 4]>
     ensures words { IfSome result (λ _. HasWords (V.seen version.now)) }
 {
     let triple = version.triple();
-    if version.is_prerelease() || is_long(triple.major) || is_long(triple.minor) || is_long(triple.patch)
+    if version.is_prerelease()
+        || is_long(triple.major)
+        || is_long(triple.minor)
+        || is_long(triple.patch)
     {
         return None;
     }
-    Some([triple.major as u8, triple.minor as u8, triple.patch as u8, 255])
+    Some([
+        triple.major as u8,
+        triple.minor as u8,
+        triple.patch as u8,
+        255,
+    ])
 }
 
 // The same for every version. `inline(never)`: few versions need it.

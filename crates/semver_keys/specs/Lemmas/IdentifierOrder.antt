@@ -113,7 +113,7 @@ identifiers-order (x ∷ xs) [] r s h k =
     ∙ list_end-last x (identifiers_key xs ++ r) s
 identifiers-order (x ∷ xs) (y ∷ ys) r s h k =
     (λ i. key_cmp (append_assoc (identifier_key x) (identifiers_key xs) r i)
-        (append_assoc (identifier_key y) (identifiers_key ys) s i))
+    (append_assoc (identifier_key y) (identifiers_key ys) s i))
     ∙ identifier-order x y (identifiers_key xs ++ r) (identifiers_key ys ++ s) h.0 k.0
     ∙ ap (λ o. ordering_then (identifier_cmp x y) o) (identifiers-order xs ys r s h.1 k.1)
     ∙ sym (then-then (identifier_cmp x y) (slice_cmp identifier_cmp xs ys) (key_cmp r s))

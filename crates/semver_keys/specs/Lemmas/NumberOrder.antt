@@ -42,7 +42,7 @@ unfolding lowest_bytes
 lowest-order zero m n r s f g = sym (then-at (nat_cmp m n) Equal (key_cmp r s) (number-Equal m n (f ∙ sym g)))
 lowest-order (suc count) m n r s f g =
     (λ i. key_cmp (append_assoc (lowest_bytes count (m / 256)) (m % 256 ∷ []) r i)
-        (append_assoc (lowest_bytes count (n / 256)) (n % 256 ∷ []) s i))
+    (append_assoc (lowest_bytes count (n / 256)) (n % 256 ∷ []) s i))
     ∙ lowest-order count (m / 256) (n / 256) (m % 256 ∷ r) (n % 256 ∷ s) f g
     ∙ sym (then-then (nat_cmp (m / 256) (n / 256)) (nat_cmp (m % 256) (n % 256)) (key_cmp r s))
     ∙ then-at _ _ (key_cmp r s) (digits-order m n)
@@ -95,7 +95,7 @@ long-order m n r s h k = elim (number-cases (byte_count 8 m) (byte_count 8 n)) [
   | inr (inl same) ↦ first-Equal (long-first m) (long-first n) (long-rest m r) (long-rest n s) (omega arith)
       ∙ ap (λ count. key_cmp (lowest_bytes (byte_count 8 m) m ++ r) (lowest_bytes count n ++ s)) (sym same)
       ∙ lowest-order (byte_count 8 m) m n r s (count-fits 8 m (words-fit m h))
-          (subst (λ count. Fits count n) (sym same) (count-fits 8 n (words-fit n k)))
+      (subst (λ count. Fits count n) (sym same) (count-fits 8 n (words-fit n k)))
   | inr (inr more) ↦
       let above : n < m = grind (arith, count-rises 8 m n) in
       first-Greater (long-first m) (long-first n) (long-rest m r) (long-rest n s) (omega arith)
@@ -123,11 +123,11 @@ unfolding long_number_key
 number-begins n r = elim (cases_lt n 240) [
   | inl short ↦ record { first = n; rest = r; whole = ap (λ key. key ++ r) (short-key n short); low = omega arith }
   | inr long ↦ record {
-      first = byte_count 8 n + 240;
-      rest = lowest_bytes (byte_count 8 n) n ++ r;
-      whole = ap (λ key. key ++ r) (long-key n long);
-      low = omega (arith, count-bound 8 n);
-    }
+    first = byte_count 8 n + 240;
+    rest = lowest_bytes (byte_count 8 n) n ++ r;
+    whole = ap (λ key. key ++ r) (long-key n long);
+    low = omega (arith, count-bound 8 n);
+  }
 ]
 
 -- the keys of two numbers

@@ -25,17 +25,17 @@ pub version-order : (v w : VersionValue) (r s : List ℕ) → HasWords v → Has
 unfolding version_key
 version-order v w r s h k =
     (λ i. key_cmp
-        (regrouped (number_key v.major) (number_key v.minor) (number_key v.patch) (prerelease_key v.pre_release) r i)
-        (regrouped (number_key w.major) (number_key w.minor) (number_key w.patch) (prerelease_key w.pre_release) s i))
+    (regrouped (number_key v.major) (number_key v.minor) (number_key v.patch) (prerelease_key v.pre_release) r i)
+    (regrouped (number_key w.major) (number_key w.minor) (number_key w.patch) (prerelease_key w.pre_release) s i))
     ∙ number-order v.major w.major _ _ h.major k.major
     ∙ ap (λ o. ordering_then (nat_cmp v.major w.major) o)
-        (number-order v.minor w.minor _ _ h.minor k.minor
-        ∙ ap (λ o. ordering_then (nat_cmp v.minor w.minor) o)
-            (number-order v.patch w.patch _ _ h.patch k.patch
-            ∙ ap (λ o. ordering_then (nat_cmp v.patch w.patch) o)
-                (prerelease-order v.pre_release w.pre_release r s h.identifiers k.identifiers)))
+    (number-order v.minor w.minor _ _ h.minor k.minor
+    ∙ ap (λ o. ordering_then (nat_cmp v.minor w.minor) o)
+    (number-order v.patch w.patch _ _ h.patch k.patch
+    ∙ ap (λ o. ordering_then (nat_cmp v.patch w.patch) o)
+    (prerelease-order v.pre_release w.pre_release r s h.identifiers k.identifiers)))
     ∙ step (nat_cmp v.major w.major) (nat_cmp v.minor w.minor) (nat_cmp v.patch w.patch)
-        (prerelease_cmp v.pre_release w.pre_release) (key_cmp r s)
+    (prerelease_cmp v.pre_release w.pre_release) (key_cmp r s)
 
 -- the first byte of a version's key is that of its major
 pub version-begins : (v : VersionValue) (r : List ℕ) → BeginsKey (version_key v ++ r)

@@ -3,7 +3,7 @@
  * npm's versions and version ranges, in loose mode.
  *
  * Each function makes one call of the proved crate `node_semver`, and the contract of its export in
- * crates/node_semver_c/src states what that call promises. Only the two calls that free have no contract: that they
+ * crates/node_semver_c/src states what that call promises. Only the three calls that free have no contract: that they
  * give the memory back is tested. The contracts hold for every caller that follows the rules below. Nothing checks that
  * a caller does.
  *
@@ -372,8 +372,8 @@ size_t node_semver_intervals_count(const node_semver_intervals *intervals);
 size_t node_semver_interval_lower(const node_semver_intervals *intervals, size_t place, unsigned char *room, size_t size);
 size_t node_semver_interval_upper(const node_semver_intervals *intervals, size_t place, unsigned char *room, size_t size);
 
-/* Returns whether the interval at a place is of prereleases. With prereleases included this is always false: an interval is
- * of both kinds then. */
+/* Returns whether the interval at a place is of prereleases. With prereleases included this is true, and releases are meant
+ * too. For a place past the last interval it is false. */
 bool node_semver_interval_is_of_prereleases(const node_semver_intervals *intervals, size_t place);
 
 /* Writes whether the version of one text satisfies the range of the other. If one of the texts is not UTF-8, returns

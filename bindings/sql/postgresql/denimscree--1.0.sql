@@ -15,5 +15,5 @@ comment on function semver_satisfies(text, text) is 'whether the version satisfi
 
 create function semver_intervals(range text, out lower bytea, out upper bytea, out prereleases boolean)
     returns setof record
-    as 'MODULE_PATHNAME', 'denimscree_intervals' language c immutable strict parallel safe rows 2;
+    as 'MODULE_PATHNAME', 'denimscree_intervals' language c immutable strict parallel safe ROWS 2;
 comment on function semver_intervals(text) is 'the intervals of keys of the versions that satisfy the range';

@@ -9,3 +9,4 @@ pub mod Prereleases
 pub mod SpanKeys
 pub mod OpenedSteps
 pub mod OpenedRules
+pub mod Tidy

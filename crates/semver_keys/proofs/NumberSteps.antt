@@ -1,7 +1,7 @@
 -- The bytes of a number, one at a time.
-use Rattle.std.proofs.Common.{◌≡◌, ◌≢◌, ◌⊎◌, ◌/◌, ◌%◌, ◌+◌, ◌-◌, ◌<◌, ◌≤◌, ◌++◌, ◌==◌, Bool, true, false, ℕ, zero, suc, List, [], ◌∷◌}
-use Rattle.std.proofs.Common.{refl, sym, ap, ◌∙◌, arith, if◌then◌else◌}
-use Rattle.semver_keys.specs.NumberKey.{byte_count, long_number_key, lowest_bytes, number_key}
+use Rattle.std.proofs.Common.{◌≡◌, ◌≢◌, ◌⊎◌, ◌/◌, ◌%◌, ◌+◌, ◌-◌, ◌++◌, ℕ, zero, suc, [], ◌∷◌}
+use Rattle.std.proofs.Common.{refl, ap, ◌∙◌, arith}
+use Rattle.semver_keys.specs.NumberKey.{byte_count, long_number_key, lowest_bytes}
 
 pub count-none : (limit n : ℕ) → (limit ≡ 0) ⊎ (n ≡ 0) → 0 ≡ byte_count limit n
 unfolding byte_count

@@ -1,5 +1,5 @@
 -- The parts of the sets, one after another.
-use Rattle.std.proofs.Common.{◌≡◌, ◌≢◌, ◌++◌, List, [], ◌∷◌, refl}
+use Rattle.std.proofs.Common.{◌≡◌, ◌≢◌, List, [], ◌∷◌, refl}
 use Rattle.semver_cuts.specs.CommonSpans.{common_of}
 use Rattle.semver_cuts.specs.Ends.{Ends, IsCutBelow}
 use Rattle.semver_cuts.specs.Lemmas.TwoSpans.{common_of-rising}

@@ -1,22 +1,22 @@
 -- A prerelease satisfies a range exactly if the cut before it lies in the part of a set that an end opens.
-use Rattle.std.proofs.Common.{◌≡◌, ◌≢◌, ◌⊎◌, ◌↔◌, ◌++◌, ℕ, List, [], ◌∷◌, refl, sym, ap, ◌∙◌, inl, inr, arith}
-use Rattle.std.specs.List.{AllByRecursion, flat_map}
+use Rattle.std.proofs.Common.{◌≡◌, ◌≢◌, ◌⊎◌, ◌↔◌, List, [], ◌∷◌, refl, sym, inl, inr}
+use Rattle.std.specs.List.{flat_map}
 use Rattle.std.specs.declared.cmp.Ordering.{Ordering}
 use Rattle.std.specs.declared.cmp.Ordering.TheVariants.{Less, Equal, Greater}
 use Rattle.semver_cuts.specs.declared.cut.Cut.{Cut}
 use Rattle.semver_cuts.specs.declared.cut.Cut.TheVariants.{Start, Before, After, End}
 use Rattle.semver_cuts.specs.Ends.{Ends, IsInSpan}
-use Rattle.semver_cuts.specs.SpanLists.{AnyByRecursion, IsInSome}
+use Rattle.semver_cuts.specs.SpanLists.{IsInSome}
 use Rattle.semver_cuts.specs.Lemmas.Lists.{any-either, any-flat_map, any-left, any-map, any-right, flat_map-any}
 use Rattle.semver_cuts.specs.Lemmas.TwoSpans.{common_of-cuts}
 use Rattle.semver_texts.specs.Comparison.{version_cmp}
-use Rattle.semver_texts.specs.IdentifierValue.{IdentifierValue, numeric}
+use Rattle.semver_texts.specs.IdentifierValue.{IdentifierValue}
 use Rattle.semver_texts.specs.Lemmas.Public.{Equal-version, Greater-turned, Less-version, none-below_least}
-use Rattle.semver_texts.specs.Lemmas.Public.{triple-back, triple-between, version-Less, version_total}
+use Rattle.semver_texts.specs.Lemmas.Public.{triple-between, version-Less, version_total}
 use Rattle.semver_texts.specs.Order.{IsBelow, IsSame, before_release}
 use Rattle.semver_texts.specs.Version.{HasSameTriple, IsPrerelease, VersionValue, least_of, release}
-use Rattle.semver_sets.specs.Meaning.{HasOpenEnd, IsInside, Opens, RangeAdmits, SetAdmits}
-use Rattle.semver_keys.specs.Private.Opened.{parts_at, parts_at_end, parts_for, parts_of, prereleases_of}
+use Rattle.semver_sets.specs.Meaning.{IsInside, Opens, RangeAdmits, SetAdmits}
+use Rattle.semver_keys.specs.Private.Opened.{parts_at, parts_for, parts_of, prereleases_of}
 
 -- the least prerelease of a triple, and the release
 least : VersionValue → VersionValue

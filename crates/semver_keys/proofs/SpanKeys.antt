@@ -9,10 +9,10 @@ use Rattle.semver_cuts.specs.declared.cut.Cut.TheVariants.{Before}
 use Rattle.semver_cuts.specs.Cut.{cut_cmp}
 use Rattle.semver_cuts.specs.Ends.{Ends, IsInSpan}
 use Rattle.semver_cuts.specs.Joined.{AreJoined}
-use Rattle.semver_cuts.specs.SpanLists.{AnyByRecursion, IsInSome}
+use Rattle.semver_cuts.specs.SpanLists.{IsInSome}
 use Rattle.semver_cuts.specs.Lemmas.Lists.{any-either, any-left, any-right}
 use Rattle.semver_texts.specs.Comparison.{version_cmp}
-use Rattle.semver_texts.specs.Version.{IsPrerelease, VersionValue}
+use Rattle.semver_texts.specs.Version.{VersionValue}
 use Rattle.semver_sets.specs.Meaning.{RangeAdmits, RangeContains}
 use Rattle.semver_keys.specs.KeyOrder.{key_cmp}
 use Rattle.semver_keys.specs.CutKey.{HasCutWords, cut_key}
@@ -107,21 +107,36 @@ intervals-are_both sets joined j h v words =
     let some = in-some true joined v h words in
     (λ contains. some.1 ((j.cuts (Before v)).1 contains), λ is. (j.cuts (Before v)).0 (some.0 is))
 
--- the same from what the calls return
-pub range-is : (range sets seen opened joined parts joined_seen parts_seen : List (Ends VersionValue))
+-- ---- what the calls return
+
+-- the spans and the parts that a range is joined to, and the intervals of them
+pub record AreGathered (range joined parts : List (Ends VersionValue)) (intervals : List IntervalValue) : Type 0 where
+  pub spans : AreJoined version_cmp range joined
+  pub opened : AreJoined version_cmp (flat_map parts_of range) parts
+  pub span_words : AllByRecursion HasSpanWords joined
+  pub part_words : AllByRecursion HasSpanWords parts
+  pub whole : intervals ≡ map (interval_of false) joined ++ map (interval_of true) parts
+
+pub gathered : (range sets seen opened joined parts joined_seen parts_seen : List (Ends VersionValue))
     (start one two : List IntervalValue) → sets ≡ range → seen ≡ sets → opened ≡ flat_map parts_of seen
     → AreJoined version_cmp opened parts → AreJoined version_cmp sets joined
     → start ≡ [] → joined_seen ≡ joined → one ≡ start ++ map (interval_of false) joined_seen
     → AllByRecursion HasSpanWords joined_seen → parts_seen ≡ parts → two ≡ one ++ map (interval_of true) parts_seen
-    → AllByRecursion HasSpanWords parts_seen → AreIntervalsOf (RangeAdmits range) two
-range-is range sets seen opened joined parts joined_seen parts_seen start one two a b d j q e f g h i k l =
+    → AllByRecursion HasSpanWords parts_seen → AreGathered range joined parts two
+gathered range sets seen opened joined parts joined_seen parts_seen start one two a b d j q e f g h i k l =
     let first : one ≡ map (interval_of false) joined = g ∙ (λ t. e t ++ map (interval_of false) (f t)) in
-    let whole : two ≡ map (interval_of false) joined ++ map (interval_of true) parts =
-    k ∙ (λ t. first t ++ map (interval_of true) (i t)) in
-    let sources : opened ≡ flat_map parts_of sets = d ∙ ap (flat_map parts_of) b in
-    subst (λ r. AreIntervalsOf (RangeAdmits r) two) a (subst (AreIntervalsOf (RangeAdmits sets)) (sym whole)
-    (intervals-are sets joined parts q (subst (λ o. AreJoined version_cmp o parts) sources j)
-    (subst (AllByRecursion HasSpanWords) f h) (subst (AllByRecursion HasSpanWords) i l)))
+    record {
+      spans = subst (λ r. AreJoined version_cmp r joined) a q;
+      opened = subst (λ o. AreJoined version_cmp o parts) (d ∙ ap (flat_map parts_of) (b ∙ a)) j;
+      span_words = subst (AllByRecursion HasSpanWords) f h;
+      part_words = subst (AllByRecursion HasSpanWords) i l;
+      whole = k ∙ (λ t. first t ++ map (interval_of true) (i t));
+    }
+
+pub gathered-mean : (range joined parts : List (Ends VersionValue)) (intervals : List IntervalValue)
+    → AreGathered range joined parts intervals → AreIntervalsOf (RangeAdmits range) intervals
+gathered-mean range joined parts intervals g = subst (AreIntervalsOf (RangeAdmits range)) (sym g.whole)
+    (intervals-are range joined parts g.spans g.opened g.span_words g.part_words)
 
 pub range-is_both : (range sets joined joined_seen : List (Ends VersionValue)) (start one : List IntervalValue)
     → sets ≡ range → AreJoined version_cmp sets joined → start ≡ [] → joined_seen ≡ joined

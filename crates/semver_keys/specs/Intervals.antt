@@ -1,5 +1,5 @@
 -- The intervals of a range: which keys lie in them, and how they stand to each other.
-use Rattle.std.specs.Prelude.{◌≡◌, ◌↔◌, ℕ, Bool, List, true, false}
+use Rattle.std.specs.Prelude.{◌≡◌, ◌↔◌, ◌⊎◌, ◌≤◌, ◌*◌, ℕ, Bool, not, List, [], ◌∷◌, true, false, filter, length}
 use Rattle.semver_cuts.specs.SpanLists.{AnyByRecursion}
 use Rattle.semver_texts.specs.Version.{IsPrerelease, VersionValue}
 use Rattle.semver_keys.specs.KeyOrder.{IsKeyAtMost, IsKeyBelow}
@@ -33,3 +33,21 @@ pub record AreIntervalsOf (Wanted : VersionValue → Type 0) (intervals : List I
 abbrev pub AreIntervalsOfBoth : (VersionValue → Type 0) → List IntervalValue → Type 0
 AreIntervalsOfBoth Wanted intervals =
     (v : VersionValue) → HasWords v → Wanted v ↔ IsKeyInSome true intervals (version_key v)
+
+-- the first of two intervals ends below where the second begins, or it is for releases and the second for prereleases
+abbrev pub IsIntervalBefore : IntervalValue → IntervalValue → Type 0
+IsIntervalBefore one other = ((one.prereleases ≡ other.prereleases) × IsKeyBelow one.upper other.lower)
+    ⊎ ((one.prereleases ≡ false) × (other.prereleases ≡ true))
+
+-- Each interval begins below where it ends. Those for releases come first, those of each kind ascend, and no two of them
+-- touch
+abbrev pub AreInOrder : List IntervalValue → Type 0
+AreInOrder [] = Unit {0}
+AreInOrder (i ∷ []) = IsKeyBelow i.lower i.upper
+AreInOrder (i ∷ j ∷ is) = IsKeyBelow i.lower i.upper × IsIntervalBefore i j × AreInOrder (j ∷ is)
+
+-- in order, at most one for releases for each set of the range, and at most two for prereleases
+pub record AreFew (sets : ℕ) (intervals : List IntervalValue) : Type 0 where
+  pub order : AreInOrder intervals
+  pub releases : length (filter (λ (i : IntervalValue). not i.prereleases) intervals) ≤ sets
+  pub prereleases : length (filter (λ (i : IntervalValue). i.prereleases) intervals) ≤ 2 * sets

@@ -1,8 +1,8 @@
 //! The intervals of a range.
-ghost use Rattle.std.specs.Prelude.{◌≡◌, ◌≤◌, ◌++◌, IfOk, OnOk, map};
+ghost use Rattle.std.specs.Prelude.{◌≡◌, ◌≤◌, ◌++◌, IfOk, OnOk, length, map};
 ghost use Rattle.std.specs.List.{AllByRecursion};
 ghost use Rattle.semver_sets.specs.Meaning.{RangeAdmits, RangeContains};
-ghost use Rattle.semver_keys.specs.Intervals.{AreIntervalsOf, AreIntervalsOfBoth};
+ghost use Rattle.semver_keys.specs.Intervals.{AreFew, AreInOrder, AreIntervalsOf, AreIntervalsOfBoth};
 ghost use Rattle.semver_keys.specs.Private.SpanIntervals.{HasSpanWords, interval_of};
 
 mod opened;
@@ -10,6 +10,7 @@ mod opened;
 use crate::cut::cut_key;
 use node_semver::{Range, Version};
 use opened::opened_parts;
+use semver_cuts::laws::merged_spans_are_fixed_by_their_cuts;
 use semver_cuts::{Span, join};
 use std::alloc::{AllocError, Global};
 use std::marker::Model;
@@ -57,7 +58,9 @@ impl Model for KeyInterval {
 /// `1.2.3`.
 pub fn range_intervals(alloc: Global, range: &Range) -> Result<Vec<KeyInterval>, AllocError>
     ensures meant { IfOk result (λ intervals. AreIntervalsOf (RangeAdmits range.now) intervals.items) }
+    ensures few { IfOk result (λ intervals. AreFew (length range.now) intervals.items) }
 {
+    merged_spans_are_fixed_by_their_cuts::<Version>();
     let sets = range.sets(alloc)?;
     let parts = join(alloc, opened_parts(alloc, &sets)?)?;
     let spans = join(alloc, sets)?;
@@ -89,7 +92,9 @@ pub fn range_intervals_with_prereleases(
     range: &Range,
 ) -> Result<Vec<KeyInterval>, AllocError>
     ensures meant { IfOk result (λ intervals. AreIntervalsOfBoth (RangeContains range.now) intervals.items) }
+    ensures few { IfOk result (λ intervals. AreInOrder intervals.items × (length intervals.items ≤ length range.now)) }
 {
+    merged_spans_are_fixed_by_their_cuts::<Version>();
     let spans = join(alloc, range.sets(alloc)?)?;
     let mut intervals = Vec::with_capacity(alloc, spans.len())?;
     add_intervals(&mut intervals, &spans, true)?;

@@ -1,19 +1,17 @@
 -- Keys of texts, identifiers and prereleases stand in their order, whatever follows them.
-use Rattle.std.proofs.Common.{◌≡◌, ◌≤◌, ◌<◌, ◌⊎◌, ◌+◌, ◌^◌, ◌++◌, ℕ, List, [], ◌∷◌, refl, sym, ap, ◌∙◌}
+use Rattle.std.proofs.Common.{◌≡◌, ◌≤◌, ◌<◌, ◌+◌, ◌++◌, ℕ, List, [], ◌∷◌, refl, sym, ap, ◌∙◌}
 use Rattle.std.proofs.Common.{inl, inr, arith, append_assoc}
 use Rattle.std.proofs.lemmas.Bool.{cases_lt}
 use Rattle.std.specs.List.{AllByRecursion}
 use Rattle.std.specs.Ordering.{nat_cmp, ordering_then}
 use Rattle.std.specs.Cmp.Lexicographic.{slice_cmp}
-use Rattle.std.specs.declared.cmp.Ordering.{Ordering}
-use Rattle.std.specs.declared.cmp.Ordering.TheVariants.{Less, Equal, Greater}
+use Rattle.std.specs.declared.cmp.Ordering.TheVariants.{Less, Greater}
 use Rattle.semver_texts.specs.Comparison.{identifier_cmp, prerelease_cmp}
 use Rattle.semver_texts.specs.IdentifierValue.{IdentifierValue, alphanumeric, numeric}
 use Rattle.semver_keys.specs.KeyOrder.{key_cmp}
 use Rattle.semver_keys.specs.IdentifierKey.{byte_key, identifier_key, identifiers_key, prerelease_key, text_key}
-use Rattle.semver_keys.specs.NumberKey.{number_key}
 use Rattle.semver_keys.specs.VersionKey.{HasWord}
-use Rattle.semver_keys.specs.Lemmas.FirstBytes.{first-Equal, first-Greater, first-Less, number-cases, number-Equal}
+use Rattle.semver_keys.specs.Lemmas.FirstBytes.{first-Greater, first-Less, number-cases, number-Equal}
 use Rattle.semver_keys.specs.Lemmas.FirstBytes.{number-Greater, number-Less, then-at, then-then}
 use Rattle.semver_keys.specs.Lemmas.NumberOrder.{number-order}
 

@@ -1,6 +1,5 @@
 -- Keys of versions stand in the order of the versions, whatever follows them.
-use Rattle.std.proofs.Common.{◌≡◌, ◌<◌, ◌+◌, ◌^◌, ◌++◌, ℕ, List, [], ◌∷◌, refl, sym, ap, ◌∙◌, append_assoc, arith}
-use Rattle.std.proofs.lemmas.List.{append-nil}
+use Rattle.std.proofs.Common.{◌≡◌, ◌++◌, ℕ, List, ap, ◌∙◌, append_assoc, arith}
 use Rattle.std.specs.Ordering.{nat_cmp, ordering_then}
 use Rattle.semver_texts.specs.Comparison.{prerelease_cmp, version_cmp}
 use Rattle.semver_texts.specs.Version.{VersionValue}

@@ -1,4 +1,4 @@
-use Rattle.semver_keys.proofs.VersionSteps.{IsShort, not-tested, release-key, release-words, short-tested}
+use Rattle.semver_keys.proofs.VersionSteps.{not-tested, release-key, release-words, short-tested}
 use Rattle.semver_keys.proofs.version.short_release.Goals as goal
 
 pub returns-clause-key : goal.returns-clause-key

@@ -158,6 +158,33 @@ class Exports:
         self.free("version", version)
         return said or "nothing"
 
+    def bytes_of(self, name, handle, *words):
+        """What a call that writes bytes into an array writes, as hexadecimal text."""
+        length = self.call(name, handle, *words, self.room, ctypes.c_size_t(ROOM), returns=ctypes.c_size_t)
+        return ctypes.string_at(self.room, length).hex()
+
+    def key(self, text):
+        version = self.made("version", "version_parse", text)
+        said = self.bytes_of("version_key", version)
+        self.free("version", version)
+        return said
+
+    def intervals(self, text, call="range_intervals"):
+        """The ends of the intervals of a range, and `p` for those of prereleases."""
+        wanted = self.made("range", "range_parse", text)
+        made = self.made("intervals", call, wanted)
+        said = []
+        for place in map(ctypes.c_size_t, range(self.call("intervals_count", made, returns=ctypes.c_size_t))):
+            ends = [self.bytes_of(f"interval_{end}", made, place) for end in ("lower", "upper")]
+            kind = self.call("interval_is_of_prereleases", made, place, returns=ctypes.c_bool)
+            said.append("-".join(ends) + " p" * kind)
+        self.free("intervals", made)
+        self.free("range", wanted)
+        return ", ".join(said)
+
+    def included_intervals(self, text):
+        return self.intervals(text, "range_intervals_with_prereleases")
+
     def satisfies(self, text, version):
         answer = ctypes.c_bool()
         if self.call("satisfies_text", text, version, ctypes.byref(answer), self.fault) != OK:
@@ -188,5 +215,6 @@ class Exports:
         others = {"Range::sets": self.sets, "Range::set": self.set, "Range::from_sets": self.from_sets,
                   "Identifiers::to_vec": lambda text: self.identifiers("pre_release", text),
                   "build_print": lambda text: self.identifiers("build", text),
-                  "Range::satisfies, read anew": self.satisfies}
+                  "Range::satisfies, read anew": self.satisfies, "key": self.key, "intervals": self.intervals,
+                  "intervals, with prereleases": self.included_intervals}
         return others[name](*words) if name in others else None

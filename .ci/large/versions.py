@@ -61,6 +61,20 @@ def export_rows():
     """Rows that only an export for C has."""
     for text, print_of in TEXTS + LOOSE:
         yield "build_print", [text], listed(print_of.partition("+")[2])
+    yield "key", ["1.2.3-" + "a" * 250], "01020302" + "61" * 250 + "0000"
+    yield "key", ["1.2.3-" + ".".join("a" * 125)], "010203" + "026100" * 125 + "00"
+    releases = [(f"{2 * place}.0.0", number_key(2 * place) + "0000ff") for place in range(MANY)]
+    text, keys = "||".join(it[0] for it in releases), [it[1] for it in releases]
+    yield "intervals", [text], ", ".join(f"{key}-{key}00" for key in keys)
+    yield "intervals, with prereleases", [text], ", ".join(f"{key}-{key}00 p" for key in keys)
+    long = "01020302" + "61" * 250 + "0000"
+    yield "intervals", [">=1.2.3-" + "a" * 250], f"{long}-ff, {long}-010203ff p"
+
+
+def number_key(number):
+    """The bytes of a number below 65536 in a key, as hexadecimal text."""
+    count = 0 if number < 240 else 1 if number < 256 else 2
+    return (bytes([240 + count]) * (count > 0) + number.to_bytes(max(count, 1), "big")).hex()
 
 
 def made_rows():

@@ -48,7 +48,8 @@ THROUGH = {
 }
 
 # A function that returns nothing but an error, and one that frees.
-NEEDLESS = {"SemverError::out_of_memory", "node_semver_c::node_semver_range_free", "node_semver_c::node_semver_version_free"}
+NEEDLESS = {"SemverError::out_of_memory", "node_semver_c::node_semver_range_free", "node_semver_c::node_semver_version_free",
+            "node_semver_c::node_semver_intervals_free"}
 
 FUNCTION = re.compile(r"\b(pub\s+)?(?:unsafe\s+|const\s+|extern\s+\"\"\s+)*fn\s+(\w+)")
 BLOCK = re.compile(r"\b(impl|trait)\b([^;{]*)\{")

@@ -3,6 +3,7 @@
     {
       "target_name": "node_semver",
       "sources": [
+        "src/intervals.c",
         "src/keys.c",
         "src/kept.c",
         "src/lists.c",

@@ -68,6 +68,14 @@ export interface VersionSet {
     readonly upper: Cut;
 }
 
+/** The keys from the lower one up to, and without, the upper one. */
+export interface KeyInterval {
+    readonly lower: Uint8Array;
+    readonly upper: Uint8Array;
+    /** Whether the interval is of prereleases, and else it is of releases. */
+    readonly prereleases: boolean;
+}
+
 /** What may be passed for a cut: the version also as a text, and left out at the start and the end. */
 export interface CutLike {
     readonly kind: 'start' | 'before' | 'after' | 'end';
@@ -94,6 +102,11 @@ export class Range {
     set: Comparator[][];
     /** The sets of versions of the range, in their order. They are made anew at each call. */
     readonly sets: VersionSet[];
+    /**
+     * The intervals of keys that the range is, for a database with `key(version)` in a column: a version satisfies the range
+     * exactly if its key lies in one of the intervals of its kind. Those of one kind ascend and do not touch.
+     */
+    intervals(): KeyInterval[];
     format(): string;
     toString(): string;
     /** The fields of npm's `Range`, for `JSON.stringify`. */
@@ -121,6 +134,12 @@ export function minor(version: string | SemVer, options?: Loose): number;
 export function patch(version: string | SemVer, options?: Loose): number;
 /** The identifiers of the prerelease, or null if there are none. */
 export function prerelease(version: string | SemVer | null | undefined, options?: Loose): Array<string | number> | null;
+
+/**
+ * Bytes that sort as versions do, in a `Buffer`: one key is less than another, byte by byte, exactly if its version is. The
+ * build is not in it. Throws a `TypeError` if the text is no version.
+ */
+export function key(version: string | SemVer, options?: Loose): Uint8Array;
 
 /** The version that a text holds somewhere, or null: `1.2.0` of `release 1.2`. */
 export function coerce(version: string | number | SemVer | null | undefined, options?: CoerceOptions): SemVer | null;

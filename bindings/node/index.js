@@ -18,8 +18,8 @@ const {
 const { SemVer } = require('./internal/semver.js');
 const { subset } = require('./internal/subset.js');
 const {
-    clean, cmp, compare, compareBuild, compareLoose, diff, eq, gt, gte, lt, lte, major, minor, neq, parse, patch,
-    prerelease, rcompare, valid,
+    clean, cmp, compare, compareBuild, compareLoose, diff, eq, gt, gte, key, lt, lte, major, minor, neq, parse,
+    patch, prerelease, rcompare, valid,
 } = require('./internal/versions.js');
 
 module.exports = {
@@ -29,5 +29,5 @@ module.exports = {
     minSatisfying, minVersion, validRange, outside, gtr, ltr, intersects, simplifyRange, subset, SemVer, re, src, tokens,
     SEMVER_SPEC_VERSION, RELEASE_TYPES, compareIdentifiers, rcompareIdentifiers,
     // Beside npm's.
-    intersect, difference, leastBeyond, leastCommon,
+    intersect, difference, leastBeyond, leastCommon, key,
 };

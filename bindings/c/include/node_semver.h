@@ -3,12 +3,12 @@
  * npm's versions and version ranges, in loose mode.
  *
  * Each function makes one call of the proved crate `node_semver`, and the contract of its export in
- * crates/node_semver_c/src states what that call promises. Only the two calls that free have no contract: that they
+ * crates/node_semver_c/src states what that call promises. Only the three calls that free have no contract: that they
  * give the memory back is tested. The contracts hold for every caller that follows the rules below. Nothing checks that
  * a caller does.
  *
- * - Handles. A `node_semver_version` or a `node_semver_range` is a struct of one pointer, which only this library
- *   reads. It starts as NODE_SEMVER_EMPTY. A call that makes a version or a range fills an empty handle. `.._free`
+ * - Handles. A `node_semver_version`, a `node_semver_range` or a `node_semver_intervals` is a struct of one pointer, which
+ *   only this library reads. It starts as NODE_SEMVER_EMPTY. A call that makes one fills an empty handle. `.._free`
  *   frees what a full handle holds: exactly once, and then neither the handle nor a copy of it is used again. Freeing
  *   an empty handle does nothing. A copy of a handle points to the same version. Every other call reads: its handles
  *   are full, and no other thread frees them during the call. Versions and ranges never change, so any number of
@@ -53,7 +53,7 @@ typedef struct node_semver_range {
     const void *at;
 } node_semver_range;
 
-/* An empty handle, of a version or a range. */
+/* An empty handle, of a version, a range or intervals. */
 #define NODE_SEMVER_EMPTY { NULL }
 
 /* What a call returns. */
@@ -333,6 +333,48 @@ node_semver_status node_semver_least_beyond_with_prereleases(const node_semver_r
 node_semver_status node_semver_range_least_common_with_prereleases(const node_semver_range *one,
                                                                    const node_semver_range *other,
                                                                    node_semver_version *answer);
+
+/* ---- keys ---- */
+
+/* Writes the key of a version: bytes that sort as versions do. The key of one version is less than that of another, byte by
+ * byte as memcmp compares, exactly if node_semver_version_compare returns -1, and two keys are the same exactly if it
+ * returns 0. No key is the start of another. `1.2.3` has the key 01 02 03 ff; the build is not in it. Returns the length
+ * of the key, at least 4. If the key fits the array, it is written at the start of the array; the rest of the array, or all
+ * of it where the key does not fit, stays as it was. Returns 0 and writes nothing if an allocation fails. */
+#define NODE_SEMVER_HAS_KEYS 1
+size_t node_semver_version_key(const node_semver_version *version, unsigned char *room, size_t size);
+
+/* Intervals of keys. A handle as the other two are. */
+typedef struct node_semver_intervals {
+    const void *at;
+} node_semver_intervals;
+
+/* Makes the intervals of a range, for a database that has the keys of versions in an index. A version satisfies the range
+ * exactly if its key is at or above the lower end and below the upper end of one of the intervals that are of prereleases,
+ * if the version is a prerelease, or else of one of those that are not. Intervals of one kind ascend, and no two of them
+ * touch. */
+node_semver_status node_semver_range_intervals(const node_semver_range *range, node_semver_intervals *answer);
+
+/* The same with prereleases included: a version lies inside one of the sets, as node_semver_range_contains returns, exactly
+ * if its key lies in one of the intervals. */
+node_semver_status node_semver_range_intervals_with_prereleases(const node_semver_range *range,
+                                                                node_semver_intervals *answer);
+
+/* Frees intervals. Does nothing for an empty handle. */
+void node_semver_intervals_free(node_semver_intervals intervals);
+
+/* Returns the number of intervals. */
+size_t node_semver_intervals_count(const node_semver_intervals *intervals);
+
+/* Write the lower end and the upper end of the interval at a place, from 0. Return the length, and write as
+ * node_semver_version_key does. A lower end of 0 bytes is at or below each key. For a place past the last interval they
+ * return 0 and write nothing. */
+size_t node_semver_interval_lower(const node_semver_intervals *intervals, size_t place, unsigned char *room, size_t size);
+size_t node_semver_interval_upper(const node_semver_intervals *intervals, size_t place, unsigned char *room, size_t size);
+
+/* Returns whether the interval at a place is of prereleases. With prereleases included this is true, and releases are meant
+ * too. For a place past the last interval it is false. */
+bool node_semver_interval_is_of_prereleases(const node_semver_intervals *intervals, size_t place);
 
 /* Writes whether the version of one text satisfies the range of the other. If one of the texts is not UTF-8, returns
  * NODE_SEMVER_NOT_UTF8. Otherwise the range is parsed first, so if both texts are refused, the fault is that of the

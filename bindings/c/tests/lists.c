@@ -214,6 +214,59 @@ static void texts_are_read(void) {
     }
 }
 
+/* The keys of 1,000 versions, two by two: they are in the order of the versions. */
+static void keys_are_in_the_order_of_versions(void) {
+    static unsigned char keys[MANY][64];
+    static size_t lengths[MANY];
+    char one[48];
+    static const char *const ends[] = {"", "-0", "-1", "-240", "-0.0", "-1.a", "-a", "-a.0", "-a-", "-aa", "-A", "--", "-rc.10"};
+    static const char *const starts[] = {"0.0.0", "1.2.3", "1.2.240", "1.2.256", "240.0.0", "1.65536.2", "2.0.9007199254740991"};
+    for (size_t i = 0; i < MANY; i++) {
+        snprintf(one, sizeof one, "%s%s", starts[i % 7], ends[i / 7 % 13]);
+        if (i >= 91) {
+            snprintf(one, sizeof one, "%zu.%zu.%zu", i % 11, 97 * i % 300, i % 5);
+        }
+        if (!parse_version(&held.versions[i], one)) {
+            return;
+        }
+        lengths[i] = node_semver_version_key(&held.versions[i], keys[i], sizeof keys[i]);
+        is_out = is_out || lengths[i] == 0;
+        is(lengths[i] <= sizeof keys[i], "a long key");
+    }
+    for (size_t i = 0; i < MANY && !is_out; i++) {
+        for (size_t j = 0; j < MANY; j++) {
+            size_t shorter = lengths[i] < lengths[j] ? lengths[i] : lengths[j];
+            int order = memcmp(keys[i], keys[j], shorter);
+            bool is_start = order == 0 && lengths[i] != lengths[j];
+            int wanted = node_semver_version_compare(&held.versions[i], &held.versions[j]);
+            is(!is_start && (order > 0) - (order < 0) == wanted, "keys in another order, or one that is the start of another");
+        }
+    }
+}
+
+/* 1,000 sets that do not touch, and 1,000 that do: the intervals of their keys. */
+static void intervals_are_those_of_all_sets(void) {
+    node_semver_intervals made = NODE_SEMVER_EMPTY;
+    unsigned char room[64];
+    if (!parse(&held.ranges[0], evens(0, MANY))
+        || !done(node_semver_range_intervals(&held.ranges[0], &made), "no intervals")) {
+        return;
+    }
+    is(node_semver_intervals_count(&made) == MANY, "another number of intervals");
+    is(node_semver_interval_lower(&made, 1, room, sizeof room) == 4 && memcmp(room, "\2\0\0\xff", 4) == 0, "another end");
+    node_semver_intervals_free(made);
+    made = (node_semver_intervals)NODE_SEMVER_EMPTY;
+    size_t length = 0;
+    for (size_t i = 0; i < MANY; i++) {
+        length += (size_t)snprintf(text + length, ROOM - length, "%s>=1.0.0-%zu <1.0.0-%zu", i == 0 ? "" : "||", i, i + 1);
+    }
+    if (!parse(&held.ranges[1], text) || !done(node_semver_range_intervals(&held.ranges[1], &made), "no intervals of them")) {
+        return;
+    }
+    is(node_semver_intervals_count(&made) == 2 && node_semver_interval_is_of_prereleases(&made, 1), "they are not joined");
+    node_semver_intervals_free(made);
+}
+
 /* 1,000 versions that differ in the build alone. */
 static void the_first_of_many_equals_is_chosen(void) {
     char one[32];
@@ -247,6 +300,8 @@ static const struct {
     {"the first of many equals is chosen", the_first_of_many_equals_is_chosen},
     {"prereleases are chosen", prereleases_are_chosen},
     {"texts are read", texts_are_read},
+    {"keys are in the order of versions", keys_are_in_the_order_of_versions},
+    {"intervals are those of all sets", intervals_are_those_of_all_sets},
 };
 
 static void free_all(void) {

@@ -11,6 +11,7 @@
  */
 #include "bumps.h"
 #include "calls.h"
+#include "keys.h"
 #include "memory.h"
 #include "sets.h"
 #include "strict.h"
@@ -105,6 +106,12 @@ static void run(const struct row *row, struct answer *answer) {
         run_sets(&r[0], answer);
     } else if (strcmp(row->call, "set") == 0) {
         run_set(row->texts[1], &v[0], answer);
+    } else if (strcmp(row->call, "key") == 0) {
+        run_key(&v[0], answer);
+    } else if (strcmp(row->call, "intervals") == 0) {
+        run_intervals(node_semver_range_intervals, &r[0], answer);
+    } else if (strcmp(row->call, "intervals_with") == 0) {
+        run_intervals(node_semver_range_intervals_with_prereleases, &r[0], answer);
     } else if (strcmp(row->call, "last") == 0) {
         run_last(row->texts[0], answer);
     } else if (strcmp(row->call, "max_satisfying") == 0) {

@@ -105,6 +105,14 @@ class Range {
         }));
     }
 
+    // The intervals of keys of the versions that the range admits. With prereleases included each is there for both kinds.
+    intervals() {
+        const parts = native.intervals(callKey(this));
+        return Array.from({ length: parts.length / 3 }, (_, i) => ({
+            lower: parts[3 * i], upper: parts[3 * i + 1], prereleases: parts[3 * i + 2],
+        }));
+    }
+
     // npm's comparators, which are made when they are first asked for.
     get set() {
         const mine = own(this);

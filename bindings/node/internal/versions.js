@@ -5,7 +5,9 @@
 const native = require('./native.js');
 const { BUMPS } = require('./bumps.js');
 const { caught } = require('./errors.js');
-const { FIRST_REFUSED, SemVer, compareSemVers, compareVersions, compareWithBuilds } = require('./semver.js');
+const {
+    FIRST_REFUSED, SemVer, compareSemVers, compareVersions, compareWithBuilds, keyOfSemVer,
+} = require('./semver.js');
 const { trimmedVersion, withoutBuild, withoutV } = require('./texts.js');
 
 function parse(version, options, throwErrors = false) {
@@ -46,6 +48,16 @@ const patch = (version, options) => new SemVer(version, options).patch;
 function prerelease(version, options) {
     const parsed = parse(version, options);
     return parsed && parsed.prerelease.length ? parsed.prerelease : null;
+}
+
+// The bytes that sort as versions do, for a column of a database. Throws where this is no version.
+function key(version, options) {
+    const semVer = new SemVer(version, options);
+    const bytes = native.sortKey(keyOfSemVer(semVer));
+    if (bytes === null) {
+        throw new TypeError(`Invalid Version: ${semVer}`);
+    }
+    return bytes;
 }
 
 const compare = (one, other, options) => compareVersions(one, other, options);
@@ -109,5 +121,5 @@ function diff(one, other) {
 
 module.exports = {
     parse, valid, clean, major, minor, patch, prerelease,
-    compare, rcompare, compareLoose, compareBuild, eq, neq, gt, gte, lt, lte, cmp, diff,
+    compare, rcompare, compareLoose, compareBuild, eq, neq, gt, gte, lt, lte, cmp, diff, key,
 };

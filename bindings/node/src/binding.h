@@ -150,4 +150,13 @@ napi_value sets(napi_env env, napi_callback_info info);
 /* fromSets(cuts): the key of the range of such an array, or null where it is none. */
 napi_value from_sets(napi_env env, napi_callback_info info);
 
+/* ---- intervals.c ---- */
+
+/* sortKey(version): a Buffer with the bytes that sort as versions do, or null where the key is refused. */
+napi_value sort_key(napi_env env, napi_callback_info info);
+
+/* intervals(range): an array of three elements for each interval of these bytes: its lower end, its upper end, and whether
+ * it is of prereleases. */
+napi_value intervals(napi_env env, napi_callback_info info);
+
 #endif

@@ -356,6 +356,7 @@ NAPI_MODULE_INIT() {
         FUNCTION("readVersion", read_parts),   FUNCTION("sets", sets),
         FUNCTION("fromSets", from_sets),       FUNCTION("leastCommon", least_common),
         FUNCTION("coerce", coerce),            FUNCTION("makeTable", make_table),
+        FUNCTION("sortKey", sort_key),         FUNCTION("intervals", intervals),
     };
     if (!make_state(env, exports)) {
         return out_of_memory(env);

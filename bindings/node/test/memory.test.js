@@ -51,6 +51,7 @@ const calls = {
     'intersect and difference': (i) => [semver.intersect(text(i), '>1'), semver.difference(text(i), '>=2.5')],
     leastBeyond: (i) => semver.leastBeyond(text(i), '^1'),
     'sets, and a range from them': (i) => semver.Range.fromSets(new semver.Range(text(i)).sets),
+    'key and intervals': (i) => [semver.key(`1.2.3-rc.${i}`), new semver.Range(text(i)).intervals()],
     'satisfies, a String': (i) => semver.satisfies('1.2.3', new String(text(i))),
 };
 

@@ -12,7 +12,7 @@ const { createNpm, npmFolder } = require('./npm.js');
 const npm = createNpm();
 
 describe('names', () => {
-    const added = ['intersect', 'difference', 'leastBeyond', 'leastCommon'];
+    const added = ['intersect', 'difference', 'leastBeyond', 'leastCommon', 'key'];
     test("npm's names are there in npm's order, and the added ones after them", () => {
         assert.deepStrictEqual(Object.keys(semver), [...Object.keys(npm), ...added]);
     });
@@ -81,7 +81,7 @@ describe('properties are declared as with npm', () => {
     test('of the module', () => {
         Object.keys(npm).forEach((key) => assert.deepStrictEqual(declared(semver, key), declared(npm, key), key));
     });
-    const added = { SemVer: [], Comparator: [], Range: ['toJSON', 'set', 'range', 'sets'] };
+    const added = { SemVer: [], Comparator: [], Range: ['toJSON', 'set', 'range', 'sets', 'intervals'] };
     for (const [name, more] of Object.entries(added)) {
         test(`of ${name}`, () => {
             const [mine, its] = [semver[name], npm[name]];

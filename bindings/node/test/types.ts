@@ -34,8 +34,10 @@ const words: string[][] = semver.toComparators('1 || 2');
 const sets: semver.VersionSet[] = semver.intersect('^1', '>=1.2')?.sets ?? [];
 const made: semver.Range | null = semver.Range.fromSets(new Set(sets));
 const least: semver.SemVer | null = semver.leastBeyond('^1 || ^2', '^1') ?? semver.leastCommon('1', '2');
+const key: Uint8Array = semver.key('1.2.3');
+const intervals: semver.KeyInterval[] = range.intervals().filter(({ lower, prereleases }) => lower < key || prereleases);
 
 export {
     versions, numbers, texts, isLower, isAny, admits, orders, sorted, greatest, next, found, release, answers, printed,
-    words, made, least,
+    words, made, least, key, intervals,
 };

@@ -155,6 +155,12 @@ PyObject *range_parse_npm(PyObject *type, PyObject *arguments, PyObject *keyword
 PyObject *range_sets(PyObject *self, void *ignored);
 PyObject *range_from_sets(PyObject *type, PyObject *sets);
 
+/* ---- keys.c: what a database sorts by ---- */
+
+PyObject *version_key(PyObject *self, void *ignored);
+PyObject *range_intervals(PyObject *self, PyObject *arguments, PyObject *keywords);
+PyObject *range_sql(PyObject *self, PyObject *arguments, PyObject *keywords);
+
 /* ---- versions.c: methods of Range over an iterable of versions ---- */
 
 PyObject *range_filter(PyObject *self, PyObject *arguments, PyObject *keywords);

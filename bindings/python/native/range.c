@@ -278,6 +278,8 @@ static PyMethodDef range_methods[] = {
     {"allows_all", range_allows_all, METH_O, allows_all_doc},
     {"least_beyond", WITH_OPTIONS(range_least_beyond), least_beyond_doc},
     {"least_common", WITH_OPTIONS(range_least_common), least_common_doc},
+    {"intervals", WITH_OPTIONS(range_intervals), intervals_doc},
+    {"sql", WITH_OPTIONS(range_sql), sql_doc},
     {"parse_npm", (PyCFunction)(void (*)(void))range_parse_npm, METH_VARARGS | METH_KEYWORDS | METH_CLASS,
      parse_npm_doc},
     {"from_sets", range_from_sets, METH_O | METH_CLASS, from_sets_doc},

@@ -203,6 +203,34 @@ PyDoc_STRVAR(least_beyond_doc,
 ">>> Range('1 - 2').least_beyond(Range('1 || 2'), include_prerelease=True)\n"
 "Version('2.0.0-0')");
 
+PyDoc_STRVAR(intervals_doc,
+"intervals($self, /, *, include_prerelease=False)\n"
+"--\n"
+"\n"
+"The intervals of keys that the range is, as tuples: the lower end, the upper end, and whether the interval is of\n"
+"prereleases. A version is in the range exactly if `lower <= version.key < upper` for one of the intervals of its kind.\n"
+"Those of one kind ascend and do not touch. With prereleases included, those of the versions for which `contains` is\n"
+"true, each for both kinds.\n"
+"\n"
+">>> Range('1.2.3 - 1.2.5').intervals()\n"
+"((b'\\x01\\x02\\x03\\xff', b'\\x01\\x02\\x05\\xff\\x00', False),)\n"
+">>> [is_of_prereleases for _, _, is_of_prereleases in Range('^1.2.3-rc.4 || >=3').intervals()]\n"
+"[False, False, True]");
+
+PyDoc_STRVAR(sql_doc,
+"sql($self, column, is_prerelease_column, /, *, placeholder='?', include_prerelease=False)\n"
+"--\n"
+"\n"
+"A condition of SQL for the versions of a table that are in the range, and the keys for its placeholders. The table has\n"
+"a column for `Version.key` and one for `Version.is_prerelease`; an index on the second and the first finds the rows. A\n"
+"column is a name with ASCII letters, digits, `_` and `.` alone, and any other raises ValueError.\n"
+"\n"
+">>> where, keys = Range('^1').sql('key', 'is_prerelease')\n"
+">>> where\n"
+"'(is_prerelease = FALSE AND key >= ? AND key < ?)'\n"
+">>> keys == (Version('1.0.0').key, Version('2.0.0-0').key)\n"
+"True");
+
 PyDoc_STRVAR(least_common_doc,
 "least_common($self, other, /, *, include_prerelease=False)\n"
 "--\n"

@@ -241,6 +241,7 @@ static PyGetSetDef version_fields[] = {
     {"is_prerelease", version_is_prerelease, NULL,
      "Whether the version has a prerelease.\n\n>>> Version('1.2.3-rc.4').is_prerelease\nTrue\n"
      ">>> Version('1.2.3+build').is_prerelease\nFalse", NULL},
+    {"key", version_key, NULL, key_doc, NULL},
     {NULL, NULL, NULL, NULL, NULL},
 };
 

@@ -36,6 +36,15 @@ PyDoc_STRVAR(version_doc,
 "    1.2\n"
 "       ^");
 
+PyDoc_STRVAR(key_doc,
+"Bytes that sort as versions do, for a column of a database: one key is less than another exactly if its version is, and\n"
+"they are equal exactly if the versions are. The build is not in the key. See `Range.sql`.\n"
+"\n"
+">>> Version('1.2.3').key\n"
+"b'\\x01\\x02\\x03\\xff'\n"
+">>> Version('1.9.0').key < Version('1.10.0-rc.1').key < Version('1.10.0').key == Version('1.10.0+build').key\n"
+"True");
+
 PyDoc_STRVAR(compare_build_doc,
 "compare_build($self, other, /)\n"
 "--\n"

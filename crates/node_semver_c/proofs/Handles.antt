@@ -1,4 +1,6 @@
 -- The handles of the crate, and how each is made of its parts. Assumes nothing.
+use Rattle.node_semver_c.specs.contracts.handle.intervals.IntervalsHandle as IH
+use Rattle.node_semver_c.specs.contracts.handle.intervals.IntervalsRef as IR
 use Rattle.node_semver_c.specs.contracts.handle.range.RangeHandle as RH
 use Rattle.node_semver_c.specs.contracts.handle.range.RangeRef as RR
 use Rattle.node_semver_c.specs.contracts.handle.version.VersionHandle as VH
@@ -55,4 +57,30 @@ range_ref = record {
   eta = RR.struct.eta;
   beta = RR.struct.beta;
   codes = RR.the_codes;
+}
+
+abbrev pub intervals_handle : Handle
+intervals_handle = record {
+  name = IH.struct.name;
+  D = IH.struct.D;
+  at = λ d. d.at;
+  Ghost = IH.struct.Ghost;
+  ghosts = IH.struct.ghosts;
+  make = IH.struct.make;
+  eta = IH.struct.eta;
+  beta = IH.struct.beta;
+  codes = IH.the_codes;
+}
+
+abbrev pub intervals_ref : Handle
+intervals_ref = record {
+  name = IR.struct.name;
+  D = IR.struct.D;
+  at = λ d. d.at;
+  Ghost = IR.struct.Ghost;
+  ghosts = IR.struct.ghosts;
+  make = IR.struct.make;
+  eta = IR.struct.eta;
+  beta = IR.struct.beta;
+  codes = IR.the_codes;
 }

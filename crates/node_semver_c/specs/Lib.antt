@@ -11,5 +11,6 @@ pub mod Compared
 pub mod Bumped
 pub mod Pair
 pub mod Printed
+pub mod Keys
 -- ---- not part of any public contract: what private functions compute
 pub mod Private

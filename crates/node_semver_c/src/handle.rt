@@ -5,6 +5,7 @@
 //!
 //! See docs/DECISIONS.md, "A handle is a struct of one pointer".
 
+pub(crate) mod intervals;
 pub(crate) mod optional;
 pub(crate) mod range;
 pub(crate) mod set;

@@ -10,6 +10,8 @@ mod diff;
 mod greatest;
 mod handle;
 mod identifiers;
+mod intervals;
+mod keys;
 pub mod laws;
 mod npm;
 mod pair;
@@ -22,10 +24,12 @@ mod text;
 mod version;
 
 pub use handle::Opaque;
+pub use handle::intervals::{IntervalsHandle, IntervalsRef};
 pub use handle::optional::OptionalVersionRef;
 pub use handle::range::{RangeHandle, RangeRef};
 pub use handle::set::{AFTER, BEFORE, CutHandle, CutRef, END, START, SetHandle, SetRef};
 pub use handle::version::{VersionHandle, VersionRef};
+pub use intervals::Intervals;
 pub use status::{
     Fault, INVALID_BUMP, INVALID_IDENTIFIER, NO_IDENTIFIER, NONE, NOT_UTF8, NUMBER_TOO_LARGE, OK,
     OUT_OF_MEMORY, REFUSED, SAME_IDENTIFIER,

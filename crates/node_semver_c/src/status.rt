@@ -4,8 +4,10 @@ ghost use Rattle.semver_versions.specs.Error.{kind_of, refusal_of};
 ghost use Rattle.node_semver_c.specs.Status.{IsFaultReported, IsKept, IsKeptAnswer, IsRefusalReported};
 ghost use Rattle.node_semver_c.specs.Status.{code_of, number_in, status_of};
 
+use crate::handle::intervals::IntervalsHandle;
 use crate::handle::range::RangeHandle;
 use crate::handle::version::VersionHandle;
+use crate::intervals::Intervals;
 use node_semver::{Range, SemverError, SemverErrorKind, Version};
 use std::alloc::Global;
 
@@ -114,6 +116,20 @@ pub(crate) fn keep_range(alloc: Global, range: Range, held: &mut RangeHandle) ->
     match RangeHandle::on_heap(alloc, range) {
         Ok(range) => {
             *held = range;
+            OK
+        }
+        Err(_) => OUT_OF_MEMORY,
+    }
+}
+
+// Puts intervals into a handle.
+pub(crate) fn keep_intervals(alloc: Global, intervals: Intervals, held: &mut IntervalsHandle) -> u32
+    requires { held.old.value ≡ None }
+    ensures { IsKept intervals result held.new.value }
+{
+    match IntervalsHandle::on_heap(alloc, intervals) {
+        Ok(intervals) => {
+            *held = intervals;
             OK
         }
         Err(_) => OUT_OF_MEMORY,

@@ -1,4 +1,4 @@
-//! Texts that are written to the caller's array.
+//! Texts and keys that are written to the caller's array.
 ghost use Rattle.std.specs.Prelude.{◌≡◌, MatchResult, string_bytes};
 ghost use Rattle.node_semver_c.specs.Printed.{IsPrinted, IsPut};
 
@@ -15,8 +15,19 @@ pub(crate) fn put(text: Result<String, AllocError>, room: &mut [u8]) -> usize
     }
 }
 
-// Writes the text to the start of the array if it fits. Returns its length.
-fn copy(text: &[u8], room: &mut [u8]) -> usize
+// Writes the bytes, or nothing if memory ran out before they were made. Returns their number, or 0.
+pub(crate) fn put_bytes(bytes: Result<Vec<u8>, AllocError>, room: &mut [u8]) -> usize
+    ensures { MatchResult bytes (λ b. IsPut b.items room.old room.new result)
+        (λ _. (result ≡ 0) × (room.new ≡ room.old)) }
+{
+    match bytes {
+        Ok(bytes) => copy(&bytes, room),
+        Err(_) => 0,
+    }
+}
+
+// Writes the bytes to the start of the array if they fit. Returns their number.
+pub(crate) fn copy(text: &[u8], room: &mut [u8]) -> usize
     ensures { IsPut text.now room.old room.new result }
 {
     let length = text.len();

@@ -12,10 +12,10 @@ True
 
 from ._error import BumpError, BumpFault, FaultKind, SemverError
 from ._native import Range, Version, satisfies
-from ._types import Bump, Cut, CutKind, ReleaseType
+from ._types import Bump, Cut, CutKind, Interval, ReleaseType
 
 __all__ = [
-    "Bump", "BumpError", "BumpFault", "Cut", "CutKind", "FaultKind", "Range", "ReleaseType", "SemverError", "Version",
-    "satisfies",
+    "Bump", "BumpError", "BumpFault", "Cut", "CutKind", "FaultKind", "Interval", "Range", "ReleaseType", "SemverError",
+    "Version", "satisfies",
 ]  # fmt: skip
 __version__ = "1.0.0"

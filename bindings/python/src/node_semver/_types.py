@@ -16,3 +16,6 @@ CutKind = Literal["start", "before", "after", "end"]
 #: A place between versions: just before a version, just after it, or at the start or the end of all versions.
 #: (`typing` keeps the arguments of its `Tuple` and `Optional` for ever, and the type of versions with them.)
 Cut = tuple[CutKind, Version | None]
+
+#: Keys from the first up to, and without, the second; and whether they are those of prereleases.
+Interval = tuple[bytes, bytes, bool]

@@ -79,6 +79,11 @@ CALLS: List[Tuple[Callable[[], object], int]] = [
     (lambda: WANTED.max_satisfying(ASKED), 5),
     (lambda: WANTED.min_satisfying(ASKED), 5),
     (lambda: WANTED.sets, 12),
+    (lambda: VERSION.key, 1),
+    (lambda: LONGEST.key, 1),
+    (lambda: WANTED.intervals(), 8),
+    (lambda: WANTED.intervals(include_prerelease=True), 8),
+    (lambda: WANTED.sql("key", "is_prerelease"), 12),
     (lambda: Range.from_sets(SETS), 7),
     (lambda: Range.from_sets([(("before", "1.2.3-rc.4"), ("end", None))]), 8),
     (lambda: WANTED.filter(["1.2.3", "no", "\ud800"]), 4),
@@ -103,6 +108,7 @@ PLAIN_CALLS: List[Callable[[], object]] = [
     lambda: (hash(VERSION), hash(WANTED)),
     lambda: (VERSION == LONGEST, VERSION < LONGEST, WANTED == OTHER),
     lambda: VERSION.is_prerelease,
+    lambda: refused(lambda: WANTED.sql("key", "")),
     lambda: Range.__copy__(WANTED),
 ]
 

@@ -5,8 +5,8 @@ import copy
 import functools
 from typing import List, Optional, Tuple, Union
 
-from node_semver import Bump, BumpError, BumpFault, Cut, CutKind, FaultKind, Range, ReleaseType, SemverError, Version
-from node_semver import satisfies
+from node_semver import Bump, BumpError, BumpFault, Cut, CutKind, FaultKind, Interval, Range, ReleaseType, SemverError
+from node_semver import Version, satisfies
 
 version: Version = Version("1.2.3-rc.4")
 strict: Version = Version("1.2.3-rc.4", strict=True)
@@ -40,6 +40,9 @@ upper: Cut = ("end", None)
 npms: Range = Range.parse_npm("", loose=True, include_prerelease=False)
 made: Range = Range.from_sets([(lower, upper), (("start", None), ("after", "1.2.3"))])
 kinds: List[CutKind] = [kind for row in made.sets for kind, _ in row]
+key: bytes = version.key
+intervals: Tuple[Interval, ...] = wanted.intervals() + wanted.intervals(include_prerelease=True)
+where: Tuple[str, Tuple[bytes, ...]] = wanted.sql("key", "is_prerelease", placeholder="%s", include_prerelease=True)
 ends: List[Version] = [end for _, (_, end) in made.sets if end is not None]
 
 # Items come back as they were given.

@@ -1,0 +1,25 @@
+/* SPDX-License-Identifier: Apache-2.0 */
+/* What the files of this folder share. */
+#ifndef DENIMSCREE_EXTENSION_H
+#define DENIMSCREE_EXTENSION_H
+
+#include "../src/texts.h"
+
+#include <sqlite3ext.h>
+
+/* How long a message may be. */
+enum { MESSAGE = 160 };
+
+/* Reads a value of SQLite as a text, as SQLite's own functions do: a number by its digits, a blob by its bytes. Returns
+ * false if memory ran out. The text is valid until the value is read in another way. */
+bool get_text(sqlite3_value *value, struct text *text);
+
+/* ---- functions.c ---- */
+
+int add_functions(sqlite3 *database);
+
+/* ---- intervals.c ---- */
+
+int add_intervals(sqlite3 *database);
+
+#endif

@@ -1,0 +1,60 @@
+/* SPDX-License-Identifier: Apache-2.0 */
+/*
+ * What both databases share: texts are read, and what is wrong with one becomes a message. Nothing here calls a
+ * database, so no call of a database can leave what is allocated here.
+ *
+ * A version is read by the grammar of SemVer 2.0.0, as a registry has it, and a range as npm's `semver` reads it without
+ * options.
+ */
+#ifndef DENIMSCREE_TEXTS_H
+#define DENIMSCREE_TEXTS_H
+
+#include <node_semver.h>
+
+#include <stdbool.h>
+#include <stddef.h>
+
+/* A text of a database: no zero at its end, and never a null pointer. */
+struct text {
+    const char *bytes;
+    size_t length;
+};
+
+/* What went wrong: a status of the library, and its fault if a text was refused. */
+struct failure {
+    node_semver_status status;
+    node_semver_fault fault;
+    bool is_range; /* the text is one of a range, and else of a version */
+};
+
+/* A key, in `room` if it fits, else in memory of its own. */
+struct key {
+    unsigned char *bytes;
+    size_t length;
+    unsigned char room[512];
+};
+
+/* Read a text into an empty handle: true, or false with the failure. */
+bool read_version(struct text text, node_semver_version *version, struct failure *failure);
+bool read_range(struct text text, node_semver_range *range, struct failure *failure);
+
+/* Makes the key of the version of a text: true, or false with the failure, and then there is nothing to free. */
+bool key_of_text(struct text text, struct key *key, struct failure *failure);
+void free_key(struct key *key);
+
+/* Write whether the version of a text is a prerelease; whether it satisfies a range. */
+bool is_text_of_prerelease(struct text text, bool *answer, struct failure *failure);
+bool satisfies_text(const node_semver_range *range, struct text text, bool *answer, struct failure *failure);
+
+/* Makes the intervals of the range of a text. */
+bool intervals_of_text(struct text text, node_semver_intervals *intervals, struct failure *failure);
+
+/* The bytes at an end of an interval; false if memory ran out, and then there is nothing to free. */
+bool lower_key(const node_semver_intervals *intervals, size_t place, struct key *key);
+bool upper_key(const node_semver_intervals *intervals, size_t place, struct key *key);
+
+/* The message of a failure, without the text: `no version: Context at byte 3, a number or a dot is missing`. It is cut
+ * where the room ends. */
+void tell_failure(const struct failure *failure, char *room, size_t size);
+
+#endif

@@ -1,0 +1,12 @@
+-- Lemmas about single functions, and worked examples.
+pub mod Growing
+pub mod NumberSteps
+pub mod IdentifierSteps
+pub mod NumberRules
+pub mod IdentifierRules
+pub mod VersionSteps
+pub mod Prereleases
+pub mod SpanKeys
+pub mod OpenedSteps
+pub mod OpenedRules
+pub mod Tidy

@@ -1,0 +1,21 @@
+//! Keys of versions: byte strings whose order as bytes is the order of versions. So every store that sorts bytes finds
+//! the versions of a range by its index.
+//!
+//! [`version_key`] returns the key of a version, and [`add_version_key`] appends it to a buffer. [`range_intervals`]
+//! returns the intervals of a range: a version satisfies the range exactly if its key lies in an interval of its kind.
+//!
+//! # Examples
+//!
+//! The key of `1.2.3` is the bytes 1, 2, 3 and 255. That of `1.2.3-rc.4` is 1, 2, 3, 2, 114, 99, 0, 1, 4 and 0.
+#![tactic(auto)]
+
+mod cut;
+mod identifier;
+mod interval;
+pub mod laws;
+mod number;
+mod version;
+
+pub use cut::cut_key;
+pub use interval::{KeyInterval, range_intervals, range_intervals_with_prereleases};
+pub use version::{HasKey, add_version_key, version_key};

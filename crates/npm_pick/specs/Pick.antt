@@ -14,7 +14,7 @@ use Rattle.npm_pick.specs.Times.{is_published}
 use Rattle.npm_pick.specs.declared.error.PickError.{PickError}
 use Rattle.npm_pick.specs.declared.error.PickError.TheVariants as Errors
 use Rattle.npm_pick.specs.declared.options.Options.{Options}
-use Rattle.npm_pick.specs.declared.pick.Picked.{Picked}
+use Rattle.npm_pick.specs.declared.picked.Picked.{Picked}
 
 -- the version that is picked: its key in `versions`, its manifest, and whether it should be avoided
 pub record PickedValue : Type 0 where
@@ -59,16 +59,19 @@ pub data IsPickedAt (packument : Data) (options : Options) (key : List ℕ) : Re
 
 -- ---- a range
 
--- The version of the default tag is picked: it is in the range and in time, not to be avoided, not deprecated, and the
--- engines fit
-pub record IsDefault (packument : Data) (options : Options) (range key : List ℕ) (manifest : Data) : Type 0 where
-  pub tag : tagged packument options.default_tag.now ≡ Some key
-  pub there : manifest_of packument key ≡ Some manifest
+-- The key is in the range and in time, and not to be avoided; its manifest is not deprecated, and fits the engines
+pub record IsSuitable (packument : Data) (options : Options) (range key : List ℕ) (manifest : Data) : Type 0 where
   pub admitted : IsInRange range key
   pub published : is_published options.before packument key ≡ true
   pub kept : ¬ IsKeyAvoided options key
   pub lasting : is_deprecated manifest ≡ false
   pub fitting : FitsEngines options manifest
+
+-- the version of the default tag is picked
+pub record IsDefault (packument : Data) (options : Options) (range key : List ℕ) (manifest : Data) : Type 0 where
+  pub tag : tagged packument options.default_tag.now ≡ Some key
+  pub there : manifest_of packument key ≡ Some manifest
+  pub suitable : IsSuitable packument options range key manifest
 
 -- no version is picked for the default tag
 abbrev pub HasNoDefault : (packument : Data) → Options → (range : List ℕ) → Type 0

@@ -1,6 +1,8 @@
 //! The ranges that versions are asked by.
 ghost use Rattle.std.specs.Prelude.{◌≡◌, ◌↔◌, IfErr, IfOk, IfSome, IfNone, IsTrue, codes, option_map};
 ghost use Rattle.serde_json.specs.View.{view};
+ghost use Rattle.node_semver.specs.RangeAlgebra.{sets_of_answer};
+ghost use Rattle.node_semver.specs.Ranges.{RangeContains};
 ghost use Rattle.node_semver.specs.Versions.{VersionValue};
 ghost use Rattle.npm_semver.specs.NpmRanges.{NpmSetsAdmit};
 ghost use Rattle.npm_lock.specs.Verdict.{Admits, IsNoRange, of_dependencies};
@@ -33,10 +35,7 @@ impl<'v> Asked<'v> {
         requires { IsRead self.now }
         ensures { IsTrue result ↔ Ranks.IsAvoided (option_map (λ text. text.now) self.now.options.now.avoid) version.now }
     {
-        match &self.avoid {
-            Some(avoid) => avoid.contains(version),
-            None => false,
-        }
+        is_in(&self.avoid, version)
     }
 
     /// Returns `true` if the versions of Node and npm fit the manifest.
@@ -81,6 +80,16 @@ fn is_engine_for(alloc: Global, version: &VersionRef<'_>, asked: &Value) -> Resu
     match range_of(alloc, text, OF_ENGINES)? {
         Some(range) => Ok(range.contains(version)),
         None => Ok(false),
+    }
+}
+
+/// Returns `true` if the version lies inside the range, if there is one.
+pub(crate) fn is_in(range: &Option<Range>, version: &VersionRef<'_>) -> bool
+    ensures { IsTrue result ↔ RangeContains (sets_of_answer range.now) version.now }
+{
+    match range {
+        Some(range) => range.contains(version),
+        None => false,
     }
 }
 

@@ -45,7 +45,7 @@ pub(crate) fn best_of<'v>(
 
 /// The other one if its rank is higher.
 fn better<'v>(best: Option<Found<'v>>, next: Found<'v>) -> Found<'v>
-    ensures { IsBetter best next result }
+    ensures { IsBetter best.entry next.entry result }
 {
     match best {
         Some(best) if best.rank.compare(&next.rank).is_ge() => best,

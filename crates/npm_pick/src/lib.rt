@@ -8,14 +8,14 @@ mod best;
 mod error;
 mod member;
 mod options;
-mod pick;
+mod picked;
 mod ranged;
 mod rank;
 mod time;
 
 pub use error::PickError;
 pub use options::Options;
-pub use pick::{Picked, pick};
+pub use picked::{Picked, pick};
 
 /// The result of what fails by memory alone, if no other error is named.
 type Result<T, E = std::alloc::AllocError> = std::result::Result<T, E>;

@@ -1,5 +1,5 @@
 //! What is picked for a range, and where only one version will do.
-ghost use Rattle.std.specs.Prelude.{◌≡◌, ◌↔◌, ◌×◌, IfNone, IfOk, IfSome, IsTrue, option_map};
+ghost use Rattle.std.specs.Prelude.{◌≡◌, ◌↔◌, IfNone, IfOk, IfSome, IsTrue, option_map};
 ghost use Rattle.serde_json.specs.View.{members_view, view};
 ghost use Rattle.node_semver.specs.Ranges.{RangeAdmits};
 ghost use Rattle.node_semver.specs.Versions.{VersionValue};
@@ -11,12 +11,12 @@ ghost use Rattle.npm_pick.specs.Private.Ranking.{IsRead};
 ghost use Rattle.npm_pick.specs.Private.Picking.{IsDefaultOrNone, IsKeyAvoidedBy, IsRankedIn, HasSomeInTime};
 
 use crate::Result;
-use crate::asked::{Asked, avoided};
+use crate::asked::{Asked, avoided, is_in};
 use crate::best::best_of;
 use crate::error::PickError;
 use crate::member::{has_true, release_at, tagged, versions_of};
 use crate::options::Options;
-use crate::pick::Picked;
+use crate::picked::Picked;
 use crate::time::is_published;
 use node_semver::Range;
 use npm_lock::installed_version;
@@ -50,9 +50,9 @@ pub(crate) fn pick_at<'v>(
 fn is_key_avoided(avoid: &Option<Range>, key: &str) -> bool
     ensures { IsTrue result ↔ IsKeyAvoidedBy avoid.now key.now }
 {
-    match (avoid, installed_version(key)) {
-        (Some(avoid), Some(version)) => avoid.contains(&version),
-        _ => false,
+    match installed_version(key) {
+        Some(version) => is_in(avoid, &version),
+        None => false,
     }
 }
 
@@ -100,20 +100,35 @@ fn default_of<'v>(
     let Some((key, manifest)) = release_at(packument, key) else {
         return Ok(None);
     };
-    if is_in_range(asked, key)
-        && is_published(packument, asked.options.before, key)
-        && !is_key_avoided(&asked.avoid, key)
-        && !has_true(manifest, "deprecated")
-        && asked.fits(alloc, manifest)?
-    {
-        let picked = Picked {
-            key,
-            manifest,
-            is_avoided: false,
-        };
-        return Ok(Some(picked));
+    if !is_suitable(alloc, asked, key, manifest)? {
+        return Ok(None);
     }
-    Ok(None)
+    Ok(Some(Picked {
+        key,
+        manifest,
+        is_avoided: false,
+    }))
+}
+
+/// Returns `true` if the version is picked if the default tag names it.
+fn is_suitable(alloc: Global, asked: &Asked<'_>, key: &str, manifest: &Value) -> Result<bool>
+    requires { IsRead asked.now }
+    ensures { IfOk result (λ suitable. IsTrue suitable ↔ Picks.IsSuitable (view asked.now.packument.now)
+        asked.now.options.now asked.now.range.now key.now (view manifest.now)) }
+{
+    if !is_in_range(asked, key) {
+        return Ok(false);
+    }
+    if !is_published(asked.packument, asked.options.before, key) {
+        return Ok(false);
+    }
+    if is_key_avoided(&asked.avoid, key) {
+        return Ok(false);
+    }
+    if has_true(manifest, "deprecated") {
+        return Ok(false);
+    }
+    asked.fits(alloc, manifest)
 }
 
 /// Returns `true` if the key is a version in the range, or if the range is `*`.
@@ -121,8 +136,13 @@ fn is_in_range(asked: &Asked<'_>, key: &str) -> bool
     requires { IsRead asked.now }
     ensures { IsTrue result ↔ Picks.IsInRange asked.now.range.now key.now }
 {
-    asked.range == "*"
-        || installed_version(key).is_some_and(|version| asked.wanted.satisfies(&version))
+    if asked.range == "*" {
+        return true;
+    }
+    match installed_version(key) {
+        Some(version) => asked.wanted.satisfies(&version),
+        None => false,
+    }
 }
 
 /// Picks the version with the highest rank.

@@ -30,12 +30,12 @@ impl<'v> Rank<'v> {
     pub(crate) fn compare(&self, other: &Rank<'v>) -> Ordering
         ensures { result ≡ Ranks.rank_cmp (rank_value self.now) (rank_value other.now) }
     {
-        (!self.is_avoided)
-            .cmp(&!other.is_avoided)
-            .then(self.is_sound().cmp(&other.is_sound()))
-            .then(self.fits.cmp(&other.fits))
-            .then((!self.is_deprecated).cmp(&!other.is_deprecated))
-            .then(self.version.cmp_version(&other.version))
+        let version = self.version.cmp_version(&other.version);
+        let lasting = (!self.is_deprecated).cmp(&!other.is_deprecated);
+        let fits = self.fits.cmp(&other.fits);
+        let sound = self.is_sound().cmp(&other.is_sound());
+        let kept = (!self.is_avoided).cmp(&!other.is_avoided);
+        kept.then(sound.then(fits.then(lasting.then(version))))
     }
 
     fn is_sound(&self) -> bool

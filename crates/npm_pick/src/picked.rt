@@ -1,9 +1,9 @@
 //! The version of a document that npm would install.
-ghost use Rattle.std.specs.Prelude.{◌≡◌, IfOk, list_all, string_bytes};
+ghost use Rattle.std.specs.Prelude.{◌≡◌, IfOk, string_bytes};
+ghost use Rattle.std.specs.List.{list_all};
 ghost use Rattle.serde_json.specs.View.{view};
 ghost use Rattle.node_semver.specs.Versions.{version_text, without_build};
 ghost use Rattle.npm_lock.specs.RangeText as RangeText;
-ghost use Rattle.npm_lock.specs.RangeText.{filled};
 ghost use Rattle.npm_pick.specs.Pick as Picks;
 ghost use Rattle.npm_pick.specs.Pick.{IsAnswer, IsPicked, IsPickedAt, IsPickedByTag, answer_value};
 
@@ -64,9 +64,27 @@ pub fn pick<'v>(
     wanted: &str,
     options: &Options<'_>,
 ) -> Result<Picked<'v>, PickError>
-    ensures { IsAnswer (IsPicked (view packument.now) options.now (filled wanted.now)) (answer_value result) }
+    ensures { IsAnswer (IsPicked (view packument.now) options.now (RangeText.filled wanted.now)) (answer_value result) }
 {
-    let wanted = if wanted.is_empty() { "*" } else { wanted };
+    pick_filled(alloc, packument, filled(wanted), options)
+}
+
+/// Returns the text, or `*` for the empty one.
+fn filled(wanted: &str) -> &str
+    ensures { result.now ≡ RangeText.filled wanted.now }
+{
+    if wanted.is_empty() { "*" } else { wanted }
+}
+
+/// Picks for a text that is a version, a range or a tag.
+fn pick_filled<'v>(
+    alloc: Global,
+    packument: &'v Value,
+    wanted: &str,
+    options: &Options<'_>,
+) -> Result<Picked<'v>, PickError>
+    ensures { IsAnswer (IsPicked (view packument.now) options.now wanted.now) (answer_value result) }
+{
     if let Some(version) = installed_version(wanted) {
         return pick_version(alloc, packument, &version, options);
     }

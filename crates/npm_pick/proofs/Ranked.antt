@@ -92,12 +92,13 @@ module _ (p : Data) (o : Options) (range : List ℕ) where
     above_earlier = subst (AllByRecursion (IsLower r)) (sym best.parts)
         (all-append (IsLower r) best.before (b ∷ best.after)
         (all_map (IsLower s) (IsLower r) (λ e low other ranked. rank_total.trans other s r (low other ranked) less)
-        best.before best.above_earlier)
-        ((λ other ranked. subst (λ (t : Rank). rank_cmp t r ≡ Less)
-        (one_rank p o range b s other best.ranked ranked) less),
-        all_map (IsNotHigher s) (IsLower r)
-        (λ e up other ranked. below_at other s r (rank_cmp other s) refl (up other ranked) less)
-        best.after best.not_below_later));
+        best.before best.above_earlier) (
+          (λ other ranked. subst (λ (t : Rank). rank_cmp t r ≡ Less)
+              (one_rank p o range b s other best.ranked ranked) less),
+          all_map (IsNotHigher s) (IsLower r)
+              (λ e up other ranked. below_at other s r (rank_cmp other s) refl (up other ranked) less)
+              best.after best.not_below_later,
+        ));
     not_below_later = tt;
   }
 

@@ -1,6 +1,6 @@
 -- What was read of a range, and what stands under a key.
 use Rattle.std.proofs.Common.{◌≡◌, ◌∙◌, ◌↔◌, ℕ, List, Option, Some, None, Result, Ok, Err, IfNone, IfOk, IfSome, true}
-use Rattle.std.proofs.Common.{Equal, ap, is_eq, option_map, refl, sym}
+use Rattle.std.proofs.Common.{Equal, ap, is_eq, sym}
 use Rattle.std.proofs.lemmas.Slice.Eq.{bytes_eq-Decides}
 use Rattle.std.proofs.lemmas.Map.Text.{is_eq-slice_cmp}
 use Rattle.std.specs.Cmp.Lexicographic.{slice_cmp}

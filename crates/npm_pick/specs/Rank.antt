@@ -1,5 +1,5 @@
 -- Which of the versions in a range is picked: npm's "npm-pick-manifest", "Algorithm".
-use Rattle.std.specs.Prelude.{◌≡◌, ◌≢◌, ◌↔◌, ◌++◌, ◌∷◌, ◌&&◌, ℕ, List, Bool, true, false, not, Option, Some, None}
+use Rattle.std.specs.Prelude.{◌≡◌, ◌≢◌, ◌↔◌, ◌++◌, ◌∷◌, ◌&&◌, ℕ, List, Bool, true, not, Option, Some, None}
 use Rattle.std.specs.Prelude.{IfSome, IsTrue, codes, option_and_then, option_map}
 use Rattle.std.specs.List.{AllByRecursion}
 use Rattle.std.specs.Ordering.{bool_cmp, on, then_cmp}
@@ -7,7 +7,7 @@ use Rattle.std.specs.declared.cmp.Ordering.{Ordering}
 use Rattle.std.specs.declared.cmp.Ordering.TheVariants.{Less}
 use Rattle.serde_json.specs.Data.{Data}
 use Rattle.serde_json.specs.Find.{as_str, get}
-use Rattle.npm_semver.specs.NpmRanges.{IsNpmRefused, NpmOptions, NpmTextAdmits, with_plain_spaces}
+use Rattle.npm_semver.specs.NpmRanges.{NpmOptions}
 use Rattle.node_semver.specs.Versions.{VersionValue, version_cmp}
 use Rattle.npm_lock.specs.Asked.{has_true, is_true}
 use Rattle.npm_lock.specs.InstalledVersions.{IsInstalledVersion}

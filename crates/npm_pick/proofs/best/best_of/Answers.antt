@@ -1,8 +1,5 @@
 -- A member has a rank, or is passed.
-use Rattle.std.proofs.Common.{◌≡◌, string_bytes}
-use Rattle.serde_json.specs.Data.{member}
 use Rattle.serde_json.specs.View.{members_view, view}
-use Rattle.npm_pick.specs.Private.Ranking.{IsBestSoFar}
 use Rattle.npm_pick.proofs.Ranked.{walked_found, walked_past}
 use Rattle.npm_pick.proofs.best.best_of.Goals as goal
 

@@ -1,7 +1,7 @@
-use Rattle.std.proofs.Common.{◌≡◌, ◌∙◌, None, Some, ap, option_map, string_bytes, sym}
+use Rattle.std.proofs.Common.{◌≡◌, ◌∙◌, Some, ap, option_map, string_bytes, sym}
 use Rattle.serde_json.proofs.Views.{view-lookup}
 use Rattle.serde_json.specs.View.{members_view, view}
-use Rattle.npm_pick.specs.Packument.{manifest_of, versions_of}
+use Rattle.npm_pick.specs.Packument.{versions_of}
 use Rattle.npm_pick.proofs.Reading.{exact}
 use Rattle.npm_pick.proofs.member.release_at.Goals as goal
 

@@ -16,7 +16,7 @@ returns-then-is_published c =
     elim c.pick_at.ensures [
       | inl memory ↦ inl memory
       | inr h ↦ inr (named c.in-Some.key.now (answer_value c.pick_at.result) tag
-        (sym c.is_published.ensures ∙ c.if-is_published.true) h)
+          (sym c.is_published.ensures ∙ c.if-is_published.true) h)
     ]
 
 pub pick_in-requires : goal.pick_in-requires

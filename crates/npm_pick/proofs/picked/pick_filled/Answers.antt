@@ -25,7 +25,7 @@ returns-in-None c =
     elim c.pick_by_tag.ensures [
       | inl memory ↦ inl memory
       | inr h ↦ inr (tag (answer_value c.pick_by_tag.result) none no_range
-        (sym c.is_tag.ensures ∙ c.if-is_tag.true) h)
+          (sym c.is_tag.ensures ∙ c.if-is_tag.true) h)
     ]
 
 pub returns-in-None-2 : goal.returns-in-None-2

@@ -6,8 +6,12 @@ use Rattle.npm_pick.proofs.ranged.is_in_range.Goals as goal
 
 pub returns-in-Some : goal.returns-in-Some
 returns-in-Some c = (
-  (λ yes. inr (c.in-Some.version, c.in-Some.ensures.found, (c.requires.wanted c.in-Some.version).0
-  (c.satisfies.ensures.0 yes))),
+  (λ yes. inr (
+    c.in-Some.version,
+    c.in-Some.ensures.found,
+    (c.requires.wanted c.in-Some.version).0
+        (c.satisfies.ensures.0 yes),
+  )),
   (λ either. elim either [
     | inl star ↦ cc (star, c.eq.ensures, c.if-eq.false)
     | inr h ↦

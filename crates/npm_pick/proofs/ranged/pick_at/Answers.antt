@@ -1,6 +1,6 @@
-use Rattle.std.proofs.Common.{◌≡◌, ◌∙◌, ◌↔◌, Bool, IsTrue, Ok, Some, ap, inr, option_map, subst, sym}
+use Rattle.std.proofs.Common.{◌≡◌, ◌∙◌, ◌↔◌, IsTrue, Some, ap, inr, option_map, sym}
 use Rattle.serde_json.specs.View.{view}
-use Rattle.npm_pick.specs.Pick.{IsKeyAvoided, IsPickedAt, absent, late, there}
+use Rattle.npm_pick.specs.Pick.{IsKeyAvoided, absent, late, there}
 use Rattle.npm_pick.specs.Packument.{manifest_of}
 use Rattle.npm_pick.proofs.ranged.pick_at.Goals as goal
 

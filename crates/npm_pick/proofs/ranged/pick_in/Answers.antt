@@ -33,6 +33,6 @@ returns c =
     elim c.pick_ranked.ensures [
       | inl memory ↦ inl memory
       | inr ranked ↦ inr (ranked_in (view c.args.packument.now) c.args.options.now c.args.text.now
-        (releases_among (members_view c.in-Some-versions_of.versions.now.entries))
-        (answer_value c.pick_ranked.result) same default ranked)
+          (releases_among (members_view c.in-Some-versions_of.versions.now.entries))
+          (answer_value c.pick_ranked.result) same default ranked)
     ]

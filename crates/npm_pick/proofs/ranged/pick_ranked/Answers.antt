@@ -21,6 +21,6 @@ returns-in-None-2 c =
     inr (Picking.late (all_late (view c.args.asked.now.packument.now) c.args.asked.now.options.now
     (releases_among (members_view c.args.versions.now.entries))
     (λ some.
-        let yes : c.has_some_in_time.result ≡ true = c.has_some_in_time.ensures.1 some in
-        let never : true ≡ false = sym yes ∙ c.if-has_some_in_time.false in
-        cc never)))
+    let yes : c.has_some_in_time.result ≡ true = c.has_some_in_time.ensures.1 some in
+    let never : true ≡ false = sym yes ∙ c.if-has_some_in_time.false in
+    cc never)))

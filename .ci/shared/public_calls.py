@@ -30,6 +30,7 @@ THROUGH = {
     "semver_texts::copies_with_zero": "Version::next",
     "semver_texts::read_identifier": "Version::parse",
     "semver_texts::to_vec_inline": "Identifiers::to_vec",
+    "HasKey::add_prerelease_key": "semver_keys::version_key",
     "Sets::read": "Range::parse",
     "Sets::copy": "Range::clone",
     "Sets::union": "Range::union",

@@ -2,6 +2,7 @@
 use crate::answer;
 use crate::answer::{Answer, print_of_error};
 use crate::included::{Included, included_of};
+use crate::keys::{Keyed, keyed_of};
 use crate::list::{text_of_joined, text_of_sets};
 use crate::owned::{Making, bumping_of, making_of, version_of_words};
 use crate::question::{Question, error_of, question_of};
@@ -46,6 +47,7 @@ pub(crate) enum Call {
     Evaluate(SetTree),
     Make(Making),
     Include(Included),
+    Key(Keyed),
     Ask(Question),
 }
 
@@ -64,6 +66,13 @@ impl Trial for Call {
                 call_of_version(alloc, name, words)
             }
             "Version::least" => Ok(Call::Least),
+            "semver_keys::version_key"
+            | "semver_keys::add_version_key"
+            | "semver_keys::cut_key"
+            | "semver_keys::range_intervals"
+            | "semver_keys::range_intervals_with_prereleases" => {
+                Ok(Call::Key(keyed_of(alloc, name, words)?))
+            }
             _ => call_of_value(alloc, name, word_at(words, 0), word_at(words, 1)),
         }
     }
@@ -104,6 +113,7 @@ impl Trial for Call {
             Call::Evaluate(tree) => answer::range_if_any(tree.evaluate(alloc)),
             Call::Make(making) => making.answer(alloc),
             Call::Include(included) => included.answer(alloc),
+            Call::Key(keyed) => keyed.answer(alloc),
             Call::Ask(question) => question.answer(alloc),
         }
     }
@@ -141,6 +151,7 @@ impl Trial for Call {
             Call::Evaluate(tree) => print_of_tree(alloc, tree),
             Call::Make(making) => making.print(alloc),
             Call::Include(included) => included.print(alloc),
+            Call::Key(keyed) => keyed.print(alloc),
             Call::Ask(question) => question.print(alloc),
         }
     }

@@ -4,6 +4,7 @@
 mod answer;
 mod call;
 mod included;
+mod keys;
 mod list;
 mod owned;
 mod question;

@@ -351,12 +351,13 @@ typedef struct node_semver_intervals {
 
 /* Makes the intervals of a range, for a database that has the keys of versions in an index. A version satisfies the range
  * exactly if its key is at or above the lower end and below the upper end of one of the intervals that are of prereleases,
- * if the version is a prerelease, or else of one of those that are not. Intervals of one kind ascend, and no two of them
- * touch. */
+ * if the version is a prerelease, or else of one of those that are not. Those of releases come first. The intervals of one
+ * kind ascend, and no two of them touch. There are at most as many of releases as the range has sets, and at most twice as
+ * many of prereleases. */
 node_semver_status node_semver_range_intervals(const node_semver_range *range, node_semver_intervals *answer);
 
 /* The same with prereleases included: a version lies inside one of the sets, as node_semver_range_contains returns, exactly
- * if its key lies in one of the intervals. */
+ * if its key lies in one of the intervals. There are at most as many as the range has sets. */
 node_semver_status node_semver_range_intervals_with_prereleases(const node_semver_range *range,
                                                                 node_semver_intervals *answer);
 

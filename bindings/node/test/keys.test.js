@@ -10,8 +10,10 @@ const { createNpm } = require('./npm.js');
 const npm = createNpm();
 const numbers = ['0', '1', '2', '10', '239', '240', '256', '9007199254740991'];
 const prereleases = ['', '-0', '-1', '-10', '-240', '-1.a', '-a', '-a.0', '-a.a', '-a-', '-aa', '-A', '--', '-rc.4'];
+const releases = numbers.flatMap((major) => ['0', '2', '256'].flatMap((minor) => ['0', '3'].map((patch) =>
+    `${major}.${minor}.${patch}`)));
 const versions = [
-    ...numbers.flatMap((major) => ['0', '2', '256'].flatMap((minor) => ['0', '3'].map((patch) => `${major}.${minor}.${patch}`))),
+    ...releases,
     ...['0.0.0', '1.2.3', '2.0.0'].flatMap((release) => prereleases.map((prerelease) => release + prerelease)),
     '1.2.3+build', '1.2.3-rc.4+build',
 ];
@@ -46,7 +48,8 @@ describe('keys', () => {
     test('are in the order of the versions', () => {
         for (const one of versions) {
             for (const other of versions) {
-                assert.strictEqual(Buffer.compare(semver.key(one), semver.key(other)), npm.compare(one, other), `${one} ${other}`);
+                const order = Buffer.compare(semver.key(one), semver.key(other));
+                assert.strictEqual(order, npm.compare(one, other), `${one} ${other}`);
             }
         }
     });

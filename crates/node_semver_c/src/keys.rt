@@ -1,9 +1,9 @@
 //! Exports of the keys of versions, and of the intervals of keys that a range is.
-ghost use Rattle.std.specs.Prelude.{◌≡◌, ◌<◌, ◌≤◌, ◌↔◌, IsTrue, List, None, length, slice_index_or};
+ghost use Rattle.std.specs.Prelude.{◌≡◌, ◌<◌, ◌≤◌, IsTrue, None, length, slice_index_or};
 ghost use Rattle.node_semver_c.specs.Answers.{IsMade};
 ghost use Rattle.node_semver_c.specs.Keys.{no_interval};
 ghost use Rattle.node_semver_c.specs.Printed.{IsPrinted, IsPut};
-ghost use Rattle.semver_keys.specs.Intervals.{AreIntervalsOf, AreIntervalsOfBoth, IntervalValue};
+ghost use Rattle.semver_keys.specs.Intervals.{AreFew, AreInOrder, AreIntervalsOf, AreIntervalsOfBoth};
 ghost use Rattle.semver_keys.specs.VersionKey as Keys;
 ghost use Rattle.semver_sets.specs.Meaning.{RangeAdmits, RangeContains};
 
@@ -37,6 +37,7 @@ pub extern "C" fn node_semver_range_intervals(
 ) -> u32
     requires empty { answer.old.value ≡ None }
     ensures meant { IsMade (AreIntervalsOf (RangeAdmits range.now.value)) result answer.new.value }
+    ensures few { IsMade (AreFew (length range.now.value)) result answer.new.value }
 {
     match range_intervals(alloc, range.get()) {
         Ok(list) => keep_intervals(alloc, Intervals { list }, answer),
@@ -53,6 +54,8 @@ pub extern "C" fn node_semver_range_intervals_with_prereleases(
 ) -> u32
     requires empty { answer.old.value ≡ None }
     ensures meant { IsMade (AreIntervalsOfBoth (RangeContains range.now.value)) result answer.new.value }
+    ensures few { IsMade (λ intervals. AreInOrder intervals × (length intervals ≤ length range.now.value)) result
+        answer.new.value }
 {
     match range_intervals_with_prereleases(alloc, range.get()) {
         Ok(list) => keep_intervals(alloc, Intervals { list }, answer),

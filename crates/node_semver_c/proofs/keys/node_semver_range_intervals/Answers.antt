@@ -1,8 +1,8 @@
-use Rattle.std.proofs.Common.{List, subst}
+use Rattle.std.proofs.Common.{List, length, subst}
 use Rattle.node_semver_c.proofs.Found.{made_of}
 use Rattle.node_semver_c.proofs.keys.node_semver_range_intervals.Goals as goal
 use Rattle.semver_cuts.specs.Ends.{Ends}
-use Rattle.semver_keys.specs.Intervals.{AreIntervalsOf}
+use Rattle.semver_keys.specs.Intervals.{AreFew, AreIntervalsOf}
 use Rattle.semver_sets.specs.Meaning.{RangeAdmits}
 use Rattle.semver_texts.specs.Version.{VersionValue}
 
@@ -12,4 +12,8 @@ returns-in-Ok c = record {
       c.keep_intervals.new.held.value
       (subst (λ (sets : List (Ends VersionValue)). AreIntervalsOf (RangeAdmits sets) c.in-Ok.list.items) c.get.ensures
       c.in-Ok.ensures.meant) c.keep_intervals.ensures;
+  few = made_of (AreFew (length c.args.range.now.value)) c.in-Ok.list.items c.keep_intervals.result
+      c.keep_intervals.new.held.value
+      (subst (λ (sets : List (Ends VersionValue)). AreFew (length sets) c.in-Ok.list.items) c.get.ensures
+      c.in-Ok.ensures.few) c.keep_intervals.ensures;
 }

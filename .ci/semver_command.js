@@ -152,11 +152,12 @@ function commandLine() {
     return shuffled([...parts, ...Array.from({ length: below(7) }, () => [version()])]);
 }
 
-// A difference that a row of the table explains: with --loose and --coerce leading zeros count, and from the right a text
-// that does not end in ASCII.
+// A difference that a row of the table explains: a text after --preid that is no identifier; with --loose and --coerce
+// leading zeros; and from the right a text that does not end in ASCII.
 function isExplained(words, ours) {
     const has = (...names) => words.some((word) => names.some((name) => word === name || word.startsWith(`${name}=`)));
-    return (has('-l', '--loose') && has('-c', '--coerce'))
+    return (has('--preid') && ours.error === BAD_IDENTIFIER)
+        || (has('-l', '--loose') && has('-c', '--coerce'))
         || (has('--rtl') && has('-c', '--coerce') && words.some((word) => /[^\x00-\x7f]$/.test(word)));
 }
 

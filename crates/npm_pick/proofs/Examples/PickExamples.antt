@@ -1,8 +1,8 @@
 -- Worked rows of the definitions: members of documents, times and ranks.
-use Rattle.std.proofs.Common.{◌≡◌, ℕ, List, [], ◌∷◌, Bool, true, false, Some, None, codes, refl}
+use Rattle.std.proofs.Common.{◌≡◌, ℕ, [], ◌∷◌, Bool, true, false, Some, None, codes, refl}
 use Rattle.std.specs.declared.cmp.Ordering.TheVariants.{Equal, Less}
 use Rattle.serde_json.specs.Data.{Data, member, no_members, null, object, string}
-use Rattle.node_semver.specs.Versions.{VersionValue, release}
+use Rattle.node_semver.specs.Versions.{release}
 use Rattle.npm_pick.specs.Packument.{manifest_of, releases_of, tagged}
 use Rattle.npm_pick.specs.Pick.{up_to}
 use Rattle.npm_pick.specs.Rank.{Rank, rank_cmp}

@@ -15,7 +15,6 @@ const [program, count, seed] = [process.argv[2], Number(process.argv[3]), Number
 const isObject = value => typeof value === 'object' && value !== null && !Array.isArray(value)
 const keysOf = value => (isObject(value) ? Object.keys(value) : [])
 const isVersion = key => semver.valid(key, true) !== null
-const versions = packument => (isObject(packument) ? packument.versions : undefined)
 const tagsOf = packument => (isObject(packument['dist-tags']) ? packument['dist-tags'] : {})
 const keyCase = (key, tail = {}) => ({ packument: { name: 'a', versions: { [key]: { version: key } } }, wanted: '*', ...tail })
 const withTime = time => ({
@@ -46,6 +45,12 @@ const RULES = [
     example: [{ packument: { name: 'a', versions: { '1.0.0': null } }, wanted: '1.0.0' }, '!ETARGET', '1.0.0'],
   },
   {
+    name: 'a manifest without its version',
+    covers: ({ packument }) => Object.entries(isObject(packument.versions) ? packument.versions : {}).some(([key, value]) =>
+      value && value.version !== key),
+    example: [{ packument: { name: 'a', versions: { '1.0.0': { version: '2.0.0' } } }, wanted: '1', avoid: '2' }, '*2.0.0', '1.0.0'],
+  },
+  {
     name: 'a tag that names no text',
     covers: ({ packument }) => Object.values(tagsOf(packument)).some(tag => typeof tag !== 'string'),
     example: [{ packument: { name: 'a', 'dist-tags': { next: ['1.0.0'] }, versions: { '1.0.0': { version: '1.0.0' } } },
@@ -58,8 +63,9 @@ const RULES = [
   },
   {
     name: 'members of every object',
-    covers: ({ packument, wanted }) => wanted in Object.prototype || Object.values(tagsOf(packument)).some(tag => tag in Object.prototype),
-    example: [keyCase('1.0.0', { wanted: 'valueOf' }), '!OTHER', '!ETARGET'],
+    covers: ({ packument }) => keysOf(packument.versions).concat(Object.values(tagsOf(packument))).some(key => key in Object.prototype),
+    example: [{ packument: { name: 'a', time: {}, versions: { constructor: { version: 'constructor' } } }, wanted: '*' },
+      '!ENOVERSIONS', '!ETARGET'],
   },
   {
     name: 'a location or an alias',
@@ -69,7 +75,7 @@ const RULES = [
   {
     name: 'a list in place of an object',
     covers: ({ packument }) => ['versions', 'dist-tags', 'time'].some(key => packument[key] && !isObject(packument[key])),
-    example: [{ packument: { name: 'a', versions: ['a'] }, wanted: '0' }, '!ETARGET', '!ETARGET'],
+    example: [{ packument: { name: 'a', versions: ['a'] }, wanted: '*' }, '!ETARGET', '!ENOVERSIONS'],
   },
 ]
 

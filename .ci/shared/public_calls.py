@@ -31,6 +31,8 @@ THROUGH = {
     "semver_texts::read_identifier": "Version::parse",
     "semver_texts::to_vec_inline": "Identifiers::to_vec",
     "HasKey::add_prerelease_key": "semver_keys::version_key",
+    "Version::add_prerelease_key": "semver_keys::version_key",
+    "VersionRef::add_prerelease_key": "semver_keys::add_version_key",
     "Sets::read": "Range::parse",
     "Sets::copy": "Range::clone",
     "Sets::union": "Range::union",

@@ -10,3 +10,5 @@ pub mod SpanKeys
 pub mod OpenedSteps
 pub mod OpenedRules
 pub mod Tidy
+-- ---- worked examples, which compute
+pub mod Examples

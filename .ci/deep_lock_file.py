@@ -8,6 +8,9 @@
     links     one package asks for N names, which are links
     workspaces  the root asks for N names, which are workspaces, listed one by one
     copies    N packages, each with a copy of one name in its own `node_modules`, ask for that name
+    chain     N packages of one name, each in the `node_modules` of the one before, and beside each one a package that asks for it
+    crowded   N folders with twenty names in their `node_modules`, and N packages in a folder `z/z/z/..` of N parts that ask for
+              these names
 """
 import json
 import sys
@@ -26,6 +29,18 @@ elif shape == "nested":
         packages[folder] = {"version": "1.2.3", "dependencies": {"found": "^1.0.0"}, "peerDependencies": {"gone": "1"}}
         folder += "/node_modules/a"
     packages["node_modules/found"] = {"version": "1.2.3"}
+elif shape == "chain":
+    folder = ""
+    for _ in range(count):
+        packages[f"{folder}node_modules/a"] = {"version": "1.2.3", "dependencies": {"a": "^1.0.0"}}
+        packages[f"{folder}node_modules/b"] = {"version": "1.2.3", "dependencies": {"a": "^1.0.0"}}
+        folder += "node_modules/a/"
+elif shape == "crowded":
+    few = names[:20]
+    for i in range(count):
+        packages.update({f"f/{i}/node_modules/{name}": {"version": "1.2.3"} for name in few})
+        packages["z/" * count + str(i)] = {"dependencies": {name: "^1.0.0" for name in few}}
+    packages.update({f"node_modules/{name}": {"version": "1.2.3"} for name in few})
 elif shape == "copies":
     for name in names:
         packages[f"node_modules/{name}"] = {"version": "1.2.3", "dependencies": {"copied": "^1.0.0"}}

@@ -10,7 +10,7 @@ const shape = process.argv[2]
 const isTree = shape === 'tree'
 let seed = 20111
 const below = n => {
-  seed = (seed * 1103515245 + 12345) % 2147483648
+  seed = (Math.imul(seed, 1103515245) + 12345) & 0x7fffffff
   return Math.floor(seed / 65536) % n
 }
 const name = i => (i % 7 === 0 ? `@scope-${i % 40}/package-${i}` : `package-${i}`)

@@ -19,7 +19,7 @@ const { checkEngine } = require('npm-install-checks')
 // Numbers in a fixed order, so that a run can be repeated.
 let seed = 20111
 const below = n => {
-  seed = (seed * 1103515245 + 12345) % 2147483648
+  seed = (Math.imul(seed, 1103515245) + 12345) & 0x7fffffff
   return Math.floor(seed / 65536) % n
 }
 const pick = list => list[below(list.length)]

@@ -5,7 +5,7 @@
 //     node .ci/lock_files_ci.js PROGRAM COUNT
 //
 // COUNT lock files are made by npm, each from a manifest and its workspaces, of which one is then changed. The last line
-// counts the pairs, those that `npm ci` refuses, those on which the two differ as the README says, and those on which they
+// counts the pairs, those that `npm ci` refuses, those on which the two differ as docs/DIFFERENCES.md says, and those on which they
 // differ otherwise: there is none. SEED is another start of the numbers.
 'use strict'
 const { spawn } = require('node:child_process')
@@ -150,7 +150,7 @@ const run = (program, root) => new Promise(resolve => {
   child.on('close', status => resolve({ status, text, lines: text.split('\n').filter(line => line).map(line => JSON.parse(line)) }))
 })
 
-// Whether the README says that the two differ here. Where `npm ci` refuses: a workspace that the lock file does not link
+// Whether docs/DIFFERENCES.md says that the two differ here. Where `npm ci` refuses: a workspace that the lock file does not link
 // under its name, or an optional dependency of the root or a workspace that is not installed. Where it does not: an
 // optional dependency of the wrong version, for which the registry may have no other, a package that is no workspace any
 // more, or a package of the wrong version where the root has a right one.
@@ -212,7 +212,7 @@ const main = async () => {
   }
   fs.rmSync(room, { recursive: true, force: true })
   server.close()
-  console.log(`npm ci: ${pairs} pairs, ${refused} refused, ${known} differ as the README says, ${differ} differ otherwise`)
+  console.log(`npm ci: ${pairs} pairs, ${refused} refused, ${known} differ as DIFFERENCES says, ${differ} differ otherwise`)
   process.exit(differ || !refused || refused === pairs ? 1 : 0)
 }
 

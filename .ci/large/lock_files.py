@@ -262,7 +262,18 @@ def audit_rows():
     yield "Dependents::of_lock", [text_of(lock), "", "node_modules/d"], "^1\t" * MANY
 
 
+def pick_rows():
+    """The greatest of many versions, the only one that is not deprecated, and one by its key."""
+    versions = {f"1.{number}.0": {"deprecated": True, "engines": {"node": ">=1"}} for number in range(MANY)}
+    document = text_of({"dist-tags": {"latest": "1.0.0"}, "versions": versions})
+    yield "npm_pick::pick", [document, '{"node": "18.0.0", "avoid": ">2"}', "^1"], f"1.{MANY - 1}.0"
+    yield "npm_pick::pick", [document, "", "1.7.0"], "1.7.0"
+    document = text_of({"versions": {**versions, "1.3.0": {}}})
+    yield "npm_pick::pick", [document, "", "*"], "1.3.0"
+
+
 def rows():
     yield from check_rows()
     yield from manifest_rows()
     yield from audit_rows()
+    yield from pick_rows()

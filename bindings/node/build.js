@@ -1,6 +1,7 @@
 // SPDX-License-Identifier: Apache-2.0
 // Builds the native part with the node-gyp that npm ships. In a clone it first builds the C library of `../c`, and
-// copies it into `lib`, and the licence to here; a package from `npm pack` has both.
+// copies it into `lib`, and the licence to here; a package from `npm pack` has both. The package of a release also has
+// the native part itself, in `prebuilt`, which is taken where it can be loaded.
 //
 //     node build.js              builds build/Release/node_semver.node
 //     node build.js --library    builds and copies the library and the licence alone
@@ -40,6 +41,17 @@ function copyLibrary() {
     }
 }
 
+// Takes the native part of `prebuilt` if there is one for this system that a process of its own can load.
+function takePrebuilt() {
+    const from = path.join(__dirname, 'prebuilt', `${process.platform}-${process.arch}`, 'node_semver.node');
+    if (!fs.existsSync(from) || spawnSync(process.execPath, ['-e', 'require(process.argv[1])', from]).status !== 0) {
+        return false;
+    }
+    fs.mkdirSync(path.join(__dirname, 'build/Release'), { recursive: true });
+    fs.copyFileSync(from, path.join(__dirname, 'build/Release/node_semver.node'));
+    return true;
+}
+
 // npm passes the path of its node-gyp to its scripts. Otherwise it is in the npm beside Node.
 function findGyp() {
     const prefix = path.join(path.dirname(fs.realpathSync(process.execPath)), '..');
@@ -63,7 +75,9 @@ function headers() {
     return fs.existsSync(path.join(prefix, 'include/node/node_api.h')) ? [`--nodedir=${path.resolve(prefix)}`] : [];
 }
 
-copyLibrary();
-if (!process.argv.includes('--library')) {
+if (process.argv.includes('--library')) {
+    copyLibrary();
+} else if (!takePrebuilt()) {
+    copyLibrary();
     run(process.execPath, [findGyp(), 'rebuild', '--silent', ...headers()]);
 }

@@ -2,7 +2,8 @@
 """Builds the extension module on Python's limited API; pyproject.toml says the rest.
 
 NODE_SEMVER_LIBRARY names the static libraries to link, with `:` between, and NODE_SEMVER_INCLUDE the folder of
-node_semver.h. Without them they are those of ../c, which `make` builds where a source has changed.
+node_semver.h. Without them they are those of the folder lib, which the sources of a release have, and else those of
+../c, which `make` builds where a source has changed.
 NODE_SEMVER_REFUSE=1 makes the build of tests/refused, in which any allocation can be made to fail.
 """
 
@@ -17,6 +18,7 @@ from setuptools.command.build_ext import build_ext
 HERE = os.path.dirname(os.path.abspath(__file__))
 ROOT = os.path.dirname(os.path.dirname(HERE))
 C_PACKAGE = os.path.join(os.path.dirname(HERE), "c")
+RELEASED = os.path.join(HERE, "lib", "libnode_semver.a")
 
 # What the extension and the library call to allocate.
 ALLOCATORS = [
@@ -62,7 +64,15 @@ def build_c_library() -> str:
 def libraries() -> list[str]:
     """The static libraries to link."""
     named = os.environ.get("NODE_SEMVER_LIBRARY")
-    return named.split(":") if named else [build_c_library()]
+    if named:
+        return named.split(":")
+    return [RELEASED if os.path.exists(RELEASED) else build_c_library()]
+
+
+def include() -> str:
+    """The folder of node_semver.h."""
+    folder = os.path.dirname(RELEASED) if os.path.exists(RELEASED) else os.path.join(C_PACKAGE, "include")
+    return os.environ.get("NODE_SEMVER_INCLUDE", folder)
 
 
 REFUSE = bool(os.environ.get("NODE_SEMVER_REFUSE"))
@@ -77,7 +87,7 @@ def extension() -> Extension:
     return Extension(
         "node_semver._native",
         sources,
-        include_dirs=[os.environ.get("NODE_SEMVER_INCLUDE", os.path.join(C_PACKAGE, "include"))],
+        include_dirs=[include()],
         extra_compile_args=["-std=c99", "-fvisibility=hidden", "-Wall", "-Wextra"],
         extra_link_args=link,
         py_limited_api=True,

@@ -1,12 +1,15 @@
 -- An audit, one installed package after another.
-use Rattle.std.proofs.Common.{◌≡◌, ◌++◌, ◌<◌, ◌+◌, ℕ, List, [], ◌∷◌, Option, true, false, get_or, length, map, take}
+use Rattle.std.proofs.Common.{◌≡◌, ◌||◌, ◌++◌, ◌<◌, ◌+◌, ℕ, List, [], ◌∷◌, Bool, None, Option, Some, true, false, ap, arith}
+use Rattle.std.proofs.Common.{bytes_eq, cond, get_or, is_some, length, map, refl, suc, sym, take, zero}
 use Rattle.std.specs.Prelude.{◌==◌, ◌≢◌}
 use Rattle.std.proofs.lemmas.Bool.{eqb-true}
 use Rattle.std.proofs.lemmas.List.{map-append, nil_from_length, take_more}
+use Rattle.std.proofs.lemmas.Slice.Eq.{bytes_eq-Decides}
 use Rattle.node_semver.specs.Versions.{VersionValue}
 use Rattle.npm_advisories.specs.Advisories.{AdvisoryValue, about_name}
 use Rattle.npm_advisories.specs.Audit.{FoundValue, InstalledValue, IsAudit, IsFound, IsSpared, found_value, hit}
-use Rattle.npm_advisories.specs.Audit.{installed_value, none, spared}
+use Rattle.npm_advisories.specs.Audit.{installed_value, names_of, none, spared}
+use Rattle.npm_advisories.specs.Files.{is_among}
 use Rattle.npm_advisories.specs.Private.Auditing.{IsFoundOf}
 use Rattle.npm_advisories.specs.declared.found.Found.{Found}
 use Rattle.npm_advisories.specs.declared.found.Installed.{Installed}
@@ -57,6 +60,32 @@ module _ (level : Severity) (values : List AdvisoryValue) (installed : List Inst
       )
       (one-hit level values (installed_value one) is.version (found_value new) (map installed_value (take i installed))
       (map found_value found) before is.is)
+
+-- ---- the names of installed packages
+
+or-right : (a b : Bool) → b ≡ true → (a || b) ≡ true
+or-right true b is = refl
+or-right false b is = is
+
+-- each of them is among these
+pub among-at : (installed : List Installed) (i : ℕ) (one : Installed) → i < length installed
+    → one ≡ get_or installed i one → is_among (names_of (map installed_value installed)) one.name.now ≡ true
+among-at [] i one lt is = absurd (omega arith)
+among-at (x ∷ others) zero one lt is =
+    let same : bytes_eq x.name.now one.name.now ≡ true =
+    (bytes_eq-Decides x.name.now one.name.now).1 (ap (λ (o : Installed). o.name.now) (sym is)) in
+    rw same refl
+among-at (x ∷ others) (suc i) one lt is =
+    or-right (bytes_eq x.name.now one.name.now) (is_among (names_of (map installed_value others)) one.name.now)
+    (among-at others i one (omega arith) is)
+
+-- one name more
+pub name-more : {X : Type 0} (here : Bool) (made : X) (old new : Option X) → new ≡ cond here (Some made) old
+    → is_some new ≡ (is_some old || here)
+name-more true made None new is = rw is refl
+name-more true made (Some x) new is = rw is refl
+name-more false made None new is = rw is refl
+name-more false made (Some x) new is = rw is refl
 
 -- ---- the list of hits
 

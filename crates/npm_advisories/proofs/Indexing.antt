@@ -1,10 +1,9 @@
 -- What an index has at each name.
-use Rattle.std.proofs.Common.{◌≡◌, ◌∙◌, ◌++◌, ℕ, List, [], ◌∷◌, Bool, true, false, cond, Option, Some, None, ap}
+use Rattle.std.proofs.Common.{◌≡◌, ◌∙◌, ◌++◌, ℕ, List, [], ◌∷◌, Bool, true, false, cond, ap}
 use Rattle.std.proofs.Common.{bytes_eq, refl, sym, subst}
 use Rattle.std.proofs.lemmas.List.{append-nil, append_assoc}
 use Rattle.std.proofs.lemmas.List.Elements.{filter-append}
 use Rattle.std.specs.List.{AllZip}
-use Rattle.std.specs.Option.{option_map_or}
 use Rattle.npm_advisories.specs.Advisories.{AdvisoryValue, about_name}
 use Rattle.npm_advisories.specs.Private.Index.{Adds, IsIndex, at_name, named}
 use Rattle.npm_advisories.specs.Private.Reading.{IsAdvisory}
@@ -19,36 +18,6 @@ module _ {A B : Type 0} (R : A → B → Type 0) where
   zip-append [] others (y ∷ ys) more first second = absurd first
   zip-append (x ∷ xs) others [] more first second = absurd first
   zip-append (x ∷ xs) others (y ∷ ys) more first second = (first.0, zip-append xs others ys more first.1 second)
-
--- nothing is added
-pub adds-none : (index : Index) → Adds index index []
-adds-none index = record { added = []; read = tt; now = λ name. sym (append-nil (at_name index name)) }
-
--- one advisory is added
-pub adds-one : (old new : Index) (value : AdvisoryValue) (one : Advisory) → IsAdvisory value one
-    → ((name : List ℕ) → at_name new name ≡ at_name old name ++ named name (one ∷ [])) → Adds old new (value ∷ [])
-adds-one old new value one read now = record { added = one ∷ []; read = (read, tt); now = now }
-
--- some, and then others
-pub adds-both : (a b c : Index) (first second : List AdvisoryValue) → Adds a b first → Adds b c second
-    → Adds a c (first ++ second)
-adds-both a b c first second one other = record {
-  added = one.added ++ other.added;
-  read = zip-append IsAdvisory first second one.added other.added one.read other.read;
-  now = λ name. other.now name ∙ ap (λ l. l ++ named name other.added) (one.now name)
-      ∙ append_assoc (at_name a name) (named name one.added) (named name other.added)
-      ∙ ap (λ l. at_name a name ++ l) (sym (filter-append (λ advisory. bytes_eq advisory.name.now name) one.added
-      other.added));
-}
-
--- what was added to an empty index is all that it has
-pub adds-all : (old new : Index) (values : List AdvisoryValue) → ((name : List ℕ) → at_name old name ≡ [])
-    → Adds old new values → IsIndex values new
-adds-all old new values empty adds = record {
-  added = adds.added;
-  read = adds.read;
-  now = λ name. adds.now name ∙ ap (λ l. l ++ named name adds.added) (empty name);
-}
 
 filter-both : (here there : Bool) → there ≡ here → (value : AdvisoryValue) (one : Advisory)
     (values : List AdvisoryValue) (advisories : List Advisory) → IsAdvisory value one
@@ -68,11 +37,60 @@ zip-named name (value ∷ values) (one ∷ advisories) are =
     filter-both (bytes_eq value.name name) (bytes_eq one.name.now name) (ap (λ n. bytes_eq n name) are.0.name) value one
     (about_name name values) (named name advisories) are.0 rest
 
--- so they are what an index has there
-pub index-named : (name : List ℕ) (values : List AdvisoryValue) (index : Index) → IsIndex values index
-    → AllZip IsAdvisory (about_name name values) (at_name index name)
-index-named name values index is =
-    subst (AllZip IsAdvisory (about_name name values)) (sym (is.now name)) (zip-named name values is.added is.read)
+-- nothing is added
+pub adds-none : (is_wanted : List ℕ → Bool) (index : Index) → Adds is_wanted index index []
+adds-none is_wanted index = record {
+  at = λ name is. record { added = []; read = tt; now = sym (append-nil (at_name index name)) };
+}
+
+-- one advisory is added
+pub adds-one : (is_wanted : List ℕ → Bool) (old new : Index) (value : AdvisoryValue) (one : Advisory)
+    → IsAdvisory value one → ((name : List ℕ) → at_name new name ≡ at_name old name ++ named name (one ∷ []))
+    → Adds is_wanted old new (value ∷ [])
+adds-one is_wanted old new value one read now = record {
+  at = λ name is. record {
+    added = named name (one ∷ []);
+    read = zip-named name (value ∷ []) (one ∷ []) (read, tt);
+    now = now name;
+  };
+}
+
+-- some, and then others
+pub adds-both : (is_wanted : List ℕ → Bool) (a b c : Index) (first second : List AdvisoryValue)
+    → Adds is_wanted a b first → Adds is_wanted b c second → Adds is_wanted a c (first ++ second)
+adds-both is_wanted a b c first second one other = record {
+  at = λ name is.
+      let here = one.at name is in
+      let there = other.at name is in
+      record {
+        added = here.added ++ there.added;
+        read = subst (λ values. AllZip IsAdvisory values (here.added ++ there.added))
+            (sym (filter-append (λ value. bytes_eq value.name name) first second))
+            (zip-append IsAdvisory (about_name name first) (about_name name second) here.added there.added here.read
+            there.read);
+        now = there.now ∙ ap (λ l. l ++ there.added) here.now
+            ∙ append_assoc (at_name a name) here.added there.added;
+      };
+}
+
+-- what was added to an empty index is all that it has
+pub adds-all : (is_wanted : List ℕ → Bool) (old new : Index) (values : List AdvisoryValue)
+    → ((name : List ℕ) → at_name old name ≡ []) → Adds is_wanted old new values → IsIndex is_wanted values new
+adds-all is_wanted old new values empty adds = λ name is.
+    let here = adds.at name is in
+    subst (AllZip IsAdvisory (about_name name values))
+    (sym (here.now ∙ ap (λ l. l ++ here.added) (empty name))) here.read
+
+-- advisories about no wanted package add nothing
+pub adds-other : (is_wanted : List ℕ → Bool) (index : Index) (values : List AdvisoryValue)
+    → ((name : List ℕ) → is_wanted name ≡ true → about_name name values ≡ []) → Adds is_wanted index index values
+adds-other is_wanted index values none = record {
+  at = λ name is. record {
+    added = [];
+    read = subst (λ l. AllZip IsAdvisory l []) (sym (none name is)) tt;
+    now = sym (append-nil (at_name index name));
+  };
+}
 
 -- one more advisory, if it is about the package with this name
 pub one-named : (old : Index) (name : List ℕ) (one : Advisory)

@@ -1,8 +1,8 @@
 -- Joined spans have the versions of the spans that are joined, and can be the sets of a range as these can.
-use Rattle.std.proofs.Common.{◌≡◌, ◌≢◌, ◌∷◌, [], List, inl, refl, subst, sym}
+use Rattle.std.proofs.Common.{◌∷◌, [], List, inl, refl, subst}
 use Rattle.std.specs.List.{AllByRecursion}
 use Rattle.semver_cuts.specs.Difference.{IsFirstAt}
-use Rattle.semver_cuts.specs.Ends.{Ends, IsCutBelow}
+use Rattle.semver_cuts.specs.Ends.{Ends}
 use Rattle.semver_cuts.specs.Joined.{AreJoined, AreRising}
 use Rattle.semver_cuts.specs.Lemmas.Ends.{at_most_refl}
 use Rattle.semver_cuts.specs.Lemmas.Lists.{all_middle}

@@ -9,7 +9,7 @@ use Rattle.npm_advisories.specs.Hits.{AreHits, AreKept, IsAbout, IsHit, kept, le
 use Rattle.npm_advisories.specs.Offers.{IsAdmitted, IsAffected, IsUnhit}
 use Rattle.npm_advisories.specs.Private.Offering.{IsAdmittedBy, IsUnhitBy}
 use Rattle.npm_advisories.specs.Private.Reading.{IsAdvisory}
-use Rattle.npm_advisories.specs.Private.Spans.{IsHitBy, IsIn, IsInRange}
+use Rattle.npm_advisories.specs.Private.Spans.{IsHitBy, IsIn, IsInRange, IsPast}
 use Rattle.npm_advisories.specs.Severities.{is_at_least}
 use Rattle.npm_advisories.specs.declared.advisory.Advisory.{Advisory}
 use Rattle.npm_advisories.specs.declared.severity.Severity.{Severity}
@@ -78,6 +78,14 @@ module _ (level : Severity) (v : Option VersionValue) where
   hits-same (value ∷ values) _ _ are (left one advisories hits not more) =
       left value values hits (λ hit. not ((hit-same value one are.0).1 hit))
       (hits-same values advisories hits are.1 more)
+
+-- what none of the advisories is about none of them hits
+pub none-hit : (level : Severity) (v : Option VersionValue) (advisories : List Advisory) → IsPast advisories v
+    → AreKept (IsHitBy level v) (λ advisory. about_value advisory.about) advisories []
+none-hit level (Some v) [] past = none
+none-hit level (Some v) (one ∷ advisories) past =
+    left one advisories [] (λ hit. past (inl hit.contained)) (none-hit level (Some v) advisories (λ some. past (inr some)))
+none-hit level None advisories past = absurd past
 
 -- one of the advisories is about a version, as one of those of the file is
 pub affected-same : (values : List AdvisoryValue) (advisories : List Advisory) (v : VersionValue)

@@ -4,6 +4,8 @@ pub mod Releases
 pub mod SpanLists
 pub mod Offering
 pub mod Indexing
+pub mod Unwanted
+pub mod Uniting
 pub mod Installing
 pub mod Reading
 pub mod Keeping

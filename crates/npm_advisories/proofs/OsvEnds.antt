@@ -1,5 +1,5 @@
 -- Ends and limits among cuts that are in order, and the spans up to them.
-use Rattle.std.proofs.Common.{◌≡◌, ◌↔◌, ◌∙◌, ◌⊎◌, ◌+◌, ◌-◌, ◌<◌, ◌≤◌, ◌++◌, ◌∷◌, [], Bool, List, ℕ, ap, arith, false, get_or}
+use Rattle.std.proofs.Common.{◌≡◌, ◌↔◌, ◌∙◌, ◌⊎◌, ◌+◌, ◌-◌, ◌<◌, ◌≤◌, ◌∷◌, [], Bool, List, ℕ, ap, arith, false, get_or}
 use Rattle.std.proofs.Common.{inl, inr, length, refl, subst, sym, true}
 use Rattle.std.specs.List.{Contains}
 use Rattle.std.specs.List.Sorted.{IsNonDecreasingBy, IsPartitionedBy, IsPartitionPoint}
@@ -7,19 +7,18 @@ use Rattle.std.specs.Ordering.{is_le, is_lt, ordering_index, ordering_then}
 use Rattle.std.specs.declared.cmp.Ordering.{Ordering}
 use Rattle.std.specs.declared.cmp.Ordering.TheVariants.{Equal, Greater, Less}
 use Rattle.std.proofs.lemmas.List.{get_or_default}
-use Rattle.std.proofs.lemmas.List.Elements.{Contains-get_or}
 use Rattle.std.proofs.lemmas.List.Sorted.{ranks_by, searchable_from_sorted, sorted_far}
 use Rattle.semver_cuts.specs.Cut.{cut_cmp}
-use Rattle.semver_cuts.specs.Ends.{Ends, IsCutAtMost, IsCutBelow, span_between}
+use Rattle.semver_cuts.specs.Ends.{IsCutAtMost, IsCutBelow, span_between}
 use Rattle.semver_cuts.specs.Lemmas.CutOrder.{cut_total}
 use Rattle.semver_cuts.specs.Lemmas.Ends.{at_most-below, at_most-from_le, at_most-from_not_lt, at_most_refl, at_most_trans}
-use Rattle.semver_cuts.specs.Lemmas.Ends.{below-at_most, below-from_lt, below-from_not_le, below-not-at_most, below_irrefl}
+use Rattle.semver_cuts.specs.Lemmas.Ends.{below-at_most, below-from_lt, below-from_not_le, below-not-at_most}
 use Rattle.semver_cuts.specs.Lemmas.Ends.{below_trans, lt-from_below}
 use Rattle.semver_texts.specs.Lemmas.Public.{version_total}
 use Rattle.node_semver.specs.Cuts.{After, Before, Cut, End}
 use Rattle.node_semver.specs.Ranges.{IsRangeCut}
 use Rattle.node_semver.specs.Versions.{VersionValue, version_cmp}
-use Rattle.npm_advisories.specs.OsvRanges.{IsBeforeLimits, IsDoubtful, IsReachedBefore, Lasts}
+use Rattle.npm_advisories.specs.OsvRanges.{IsDoubtful, IsReachedBefore, Lasts}
 use Rattle.npm_advisories.specs.Private.OsvReading.{AreSorted, Have, IsNextEnd, IsUpTo}
 
 -- ---- lists of cuts in order

@@ -6,11 +6,11 @@ use Rattle.semver_cuts.specs.Ends.{Ends}
 use Rattle.semver_cuts.specs.Lemmas.Lists.{any-either, any-left, any-right}
 use Rattle.semver_versions.specs.Error.{context}
 use Rattle.semver_versions.specs.Lemmas.Public.{computed, is-computed, one_reading, version-no_fault}
-use Rattle.node_semver.specs.Cuts.{After, Before, Cut, End}
+use Rattle.node_semver.specs.Cuts.{After, Before, Cut}
 use Rattle.node_semver.specs.Ranges.{AnyByRecursion, IsRangeCut}
 use Rattle.node_semver.specs.Versions.{IsVersionText, VersionValue}
-use Rattle.npm_advisories.specs.OsvRanges.{Begins, EndsAt, EventValue, Introduces, IsBeforeLimits, IsBetween, IsDoubtful}
-use Rattle.npm_advisories.specs.OsvRanges.{IsInEvents, IsReachedBefore, Lasts, LimitsAt, fixed, introduced}
+use Rattle.npm_advisories.specs.OsvRanges.{Begins, EndsAt, EventValue, Introduces, IsBeforeLimits, IsBetween}
+use Rattle.npm_advisories.specs.OsvRanges.{IsInEvents, Lasts, LimitsAt, fixed, introduced}
 use Rattle.npm_advisories.specs.OsvRanges.{last_affected, limit}
 use Rattle.npm_advisories.specs.Private.OsvReading.{AreCuts, AreMarks, HasRangeCuts, Have, IsBetweenMarks, IsMark, IsMarked}
 use Rattle.npm_advisories.specs.declared.osv.marks.Mark.{Mark}

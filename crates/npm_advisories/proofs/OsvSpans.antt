@@ -8,7 +8,8 @@ use Rattle.semver_cuts.specs.declared.cut.Cut.TheVariants.{After, Before}
 use Rattle.semver_texts.specs.Lemmas.Public.{Equal-version, Less-version, version-Equal, version-Less}
 use Rattle.semver_versions.specs.Lemmas.Public.{one_reading}
 use Rattle.std.specs.declared.cmp.Ordering.TheVariants.{Less, Equal}
-use Rattle.node_semver.specs.Ranges.{AnyByRecursion, IsInside, IsRangeSet, IsRangeValue}
+use Rattle.node_semver.specs.RangeAlgebra.{sets_of_answer}
+use Rattle.node_semver.specs.Ranges.{AnyByRecursion, IsInside, IsRangeSet, IsRangeValue, RangeContains}
 use Rattle.node_semver.specs.Versions.{IsBelow, IsSame, IsVersionText, VersionValue, version_cmp}
 use Rattle.npm_advisories.specs.Advisories.{Affected, Affects}
 use Rattle.npm_advisories.specs.OsvRanges.{IsTextOfSame}
@@ -60,6 +61,15 @@ module _ {X : Type 0} (P : X → VersionValue → Type 0) where
         λ some. any-either (λ x. P x v) front part some,
       )) (have-either (λ v. AnyByRecursion (λ x. P x v) front) (λ v. AnyByRecursion (λ x. P x v) part) old more had
       has))
+
+-- the range of such spans has what they have
+pub range-means : (Has : VersionValue → Type 0) (spans : List (Ends VersionValue)) (answer : Option (List (Ends VersionValue)))
+    → Have spans Has → IfSome answer (λ range. range ≡ spans) → (IsNone answer ↔ (¬ IsRangeValue spans))
+    → (v : VersionValue) → RangeContains (sets_of_answer answer) v ↔ Has v
+range-means Has spans (Some range) have same none v = rw same (have.exact v)
+range-means Has [] None have same none v = have.exact v
+range-means Has (span ∷ spans) None have same none v =
+    absurd (none.0 refl (record { some = λ is. absurd (cc); each = have.each }))
 
 -- the range of such spans; none if there is no span
 pub range-of : (affected : Affected) (spans : List (Ends VersionValue)) (answer : Option (List (Ends VersionValue)))

@@ -1,21 +1,31 @@
 -- What the text of an installed version is read as.
-use Rattle.std.proofs.Common.{◌≡◌, ℕ, List, Option, Some, None, ap, arith, codes, refl, sym}
-use Rattle.semver_versions.specs.Lemmas.Public.{is-version_in, version_in}
+use Rattle.std.proofs.Common.{◌≡◌, ℕ, List, Option, Some, None, ap, arith, codes, refl}
+use Rattle.semver_versions.specs.Lemmas.Public.{is-version_in, one_reading, version_in}
 use Rattle.node_semver.specs.Ranges.{IsRangeEnd}
 use Rattle.node_semver.specs.Versions.{IsVersionText, VersionValue, least_of}
-use Rattle.npm_advisories.specs.Audit.{IsReadAs}
+use Rattle.npm_lock.specs.InstalledVersions.{IsInstalledVersion, bare}
+use Rattle.npm_advisories.specs.Audit.{IsReadAs, IsUnread, as_text, by_npm, unread}
 use Rattle.npm_advisories.proofs.Releases.{version-end}
 
--- a version is read as nothing else
-pub only-version : (text : List ℕ) (w : VersionValue) → IsVersionText text w
-    → ((v : VersionValue) → IsVersionText text v → w ≡ v) → (v : Option VersionValue) → IsReadAs text v → v ≡ Some w
-only-version text w is only (Some v) read = ap Some (sym (only v read))
-only-version text w is only None read = absurd (read w is)
+-- what npm reads is read as nothing else
+pub only-by_npm : (text : List ℕ) (w : VersionValue) → IsInstalledVersion text w → (v : Option VersionValue)
+    → IsReadAs text v → v ≡ Some w
+only-by_npm text w is _ (by_npm v read) = ap Some (one_reading (bare text) v w read.read is.read)
+only-by_npm text w is _ (as_text v never read) = absurd (never w is)
+only-by_npm text w is _ (unread never none) = absurd (never w is)
 
-pub only-none : (text : List ℕ) → ((v : VersionValue) → ¬ IsVersionText text v) → (v : Option VersionValue)
-    → IsReadAs text v → v ≡ None
-only-none text none (Some v) read = absurd (none v read)
-only-none text none None read = refl
+-- so is a version text that npm does not read
+pub only-as_text : (text : List ℕ) (w : VersionValue) → IsUnread text → IsVersionText text w → (v : Option VersionValue)
+    → IsReadAs text v → v ≡ Some w
+only-as_text text w not is _ (by_npm v read) = absurd (not v read)
+only-as_text text w not is _ (as_text v never read) = ap Some (one_reading text v w read is)
+only-as_text text w not is _ (unread never none) = absurd (none w is)
+
+pub only-unread : (text : List ℕ) → IsUnread text → ((v : VersionValue) → ¬ IsVersionText text v)
+    → (v : Option VersionValue) → IsReadAs text v → v ≡ None
+only-unread text not none _ (by_npm v read) = absurd (not v read)
+only-unread text not none _ (as_text v never read) = absurd (none v read)
+only-unread text not none _ (unread never never_text) = refl
 
 -- the least version of all
 pub least-text : IsVersionText (codes "0.0.0-0") (least_of 0 0 0)

@@ -1,5 +1,5 @@
 -- What follows from a fact on a result.
-use Rattle.std.proofs.Common.{◌↔◌, IfOk, Result, Ok, Err, Option, Some, None, IfSome, IsNone}
+use Rattle.std.proofs.Common.{◌↔◌, IfOk, Result, Ok, Err, Option, Some, None, IfSome, IsNone, OnOk}
 use Rattle.node_semver.specs.Least.{IsLeastOf, IsNoneOf}
 use Rattle.node_semver.specs.Versions.{VersionValue}
 use Rattle.npm_advisories.specs.Offers.{IsLeastOrNone}
@@ -31,3 +31,8 @@ module _ {Wanted Other : VersionValue → Type 0} (same : (v : VersionValue) →
     none = same-none found is.none;
     build = is.build;
   }
+
+-- what follows from a fact where there is a result
+pub ok-at : {A E P Q : Type 0} (r : Result A E) → (P → Q) → OnOk r P → OnOk r Q
+ok-at (Ok a) f p = f p
+ok-at (Err e) f p = tt

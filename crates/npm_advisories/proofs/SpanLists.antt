@@ -10,8 +10,10 @@ use Rattle.semver_cuts.specs.declared.cut.Cut.TheVariants.{After, Start}
 use Rattle.node_semver.specs.RangeAlgebra.{sets_of_answer}
 use Rattle.node_semver.specs.Ranges.{IsInside, IsRangeEnd, IsRangeSet, IsRangeValue, RangeAdmits, RangeContains}
 use Rattle.node_semver.specs.Versions.{IsBelow, IsPrerelease, VersionValue}
+use Rattle.npm_advisories.specs.Private.OsvReading.{Have}
 use Rattle.npm_advisories.specs.Private.Spans.{Contain, IsInRange}
 use Rattle.npm_advisories.specs.declared.advisory.Advisory.{Advisory}
+use Rattle.npm_advisories.proofs.OsvSpans.{have-either, have-more}
 use Rattle.npm_advisories.proofs.Releases.{admitted-contained, contained-admitted, contains-or_not, up-to}
 
 -- a list with elements stays one with more behind it
@@ -32,61 +34,62 @@ module _ (version : VersionValue) where
   abbrev pub Had : List Advisory → VersionValue → Type 0
   Had advisories v = (¬ IsBelow version v) ⊎ IsInRange advisories v
 
-  -- no advisory yet
-  pub first-span : IsRangeEnd version → Contain (span_between Start (After version) ∷ []) (Had [])
-  first-span end = record {
-    holds = record {
-      some = λ is. absurd (cc);
-      each = (record { holds = (Start, record { lower = inr refl; upper = refl }); lower = tt; upper = end }, tt);
-    };
+  -- the span up to the version
+  up-to-span : IsRangeEnd version → Have (span_between Start (After version) ∷ []) (λ v. ¬ IsBelow version v)
+  up-to-span end = record {
+    each = (record { holds = (Start, record { lower = inr refl; upper = refl }); lower = tt; upper = end }, tt);
     exact = λ v. (
       λ contains. elim contains [
-        | inl here ↦ inl ((up-to version v).0 here)
+        | inl here ↦ (up-to version v).0 here
         | inr there ↦ absurd there
       ],
-      λ has. elim has [
-        | inl not ↦ inl ((up-to version v).1 not)
-        | inr none ↦ absurd none
-      ],
+      λ not. inl ((up-to version v).1 not),
     );
   }
 
-  -- one advisory more
-  pub more-spans : (advisories : List Advisory) (i : ℕ) (one : Advisory) (old sets new : List (Ends VersionValue))
-      → i < length advisories → one ≡ get_or advisories i one → new ≡ old ++ sets → sets ≡ sets_of_answer one.range
-      → AllByRecursion IsRangeSet sets → Contain old (Had (take i advisories)) → Contain new
-      (Had (take (i + 1) advisories))
-  more-spans advisories i one old sets new lt is e same holds contain =
-      rw (e, take_more advisories i one lt, ← is) (record {
-        holds = value-more old sets contain.holds holds;
-        exact = λ v. (
-          λ contains. elim (any-either (IsInside v) old sets contains) [
-            | inl before ↦ elim ((contain.exact v).0 before) [
-              | inl not ↦ inl not
-              | inr some ↦ inr (any-left (λ a. RangeContains (sets_of_answer a.range) v) (take i advisories) (one ∷ [])
-                  some)
-            ]
-            | inr here ↦ inr (any-right (λ a. RangeContains (sets_of_answer a.range) v) (take i advisories) (one ∷ [])
-                (inl (subst (λ r. RangeContains r v) same here)))
-          ],
-          λ has. elim has [
-            | inl not ↦ any-left (IsInside v) old sets ((contain.exact v).1 (inl not))
-            | inr some ↦ elim (any-either (λ a. RangeContains (sets_of_answer a.range) v) (take i advisories) (one ∷ [])
-                some) [
-                  | inl before ↦ any-left (IsInside v) old sets ((contain.exact v).1 (inr before))
-                  | inr here ↦ elim here [
-                    | inl inside ↦ any-right (IsInside v) old sets (subst (λ r. RangeContains r v) (sym same) inside)
-                    | inr none ↦ absurd none
-                  ]
-                ]
-          ],
-        );
-      })
+  -- and behind it the sets of the advisories
+  pub with-sets : (advisories : List Advisory) (sets : List (Ends VersionValue)) → IsRangeEnd version
+      → Have sets (IsInRange advisories) → Contain (span_between Start (After version) ∷ sets) (Had advisories)
+  with-sets advisories sets end have =
+      let both = have-either (λ v. ¬ IsBelow version v) (IsInRange advisories) (span_between Start (After version) ∷ [])
+      sets (up-to-span end) have in
+      record { holds = record { some = λ is. absurd (cc); each = both.each }; exact = both.exact }
 
-  -- all advisories
-  pub all-spans : (advisories : List Advisory) (i : ℕ) (spans : List (Ends VersionValue)) → length advisories ≤ i
-      → Contain spans (Had (take i advisories)) → Contain spans (Had advisories)
-  all-spans advisories i spans done contain = subst (λ l. Contain spans (Had l)) (take_all i advisories done) contain
+-- ---- the sets of advisories
+
+abbrev In : Advisory → VersionValue → Type 0
+In advisory v = RangeContains (sets_of_answer advisory.range) v
+
+pub no-sets : Have [] (IsInRange [])
+no-sets = record { each = tt; exact = λ v. (λ is. is, λ is. is) }
+
+one-sets : (one : Advisory) (sets : List (Ends VersionValue)) → sets ≡ sets_of_answer one.range
+    → AllByRecursion IsRangeSet sets → Have sets (IsInRange (one ∷ []))
+one-sets one sets same holds = record {
+  each = holds;
+  exact = λ v. (
+    λ contains. inl (subst (λ r. RangeContains r v) same contains),
+    λ some. elim some [
+      | inl here ↦ subst (λ r. RangeContains r v) (sym same) here
+      | inr none ↦ absurd none
+    ],
+  );
+}
+
+-- those of one advisory more
+pub next-sets : (advisories : List Advisory) (i : ℕ) (one : Advisory) (old sets new : List (Ends VersionValue))
+    → i < length advisories → one ≡ get_or advisories i one → new ≡ old ++ sets → sets ≡ sets_of_answer one.range
+    → AllByRecursion IsRangeSet sets → Have old (IsInRange (take i advisories))
+    → Have new (IsInRange (take (i + 1) advisories))
+next-sets advisories i one old sets new lt is e same holds had =
+    rw (take_more advisories i one lt, ← is)
+    (have-more In (take i advisories) (one ∷ []) old sets new e had (one-sets one sets same holds))
+
+-- those of all
+pub all-sets : (advisories : List Advisory) (i : ℕ) (sets : List (Ends VersionValue)) → length advisories ≤ i
+    → Have sets (IsInRange (take i advisories)) → Have sets (IsInRange advisories)
+all-sets advisories i sets done have =
+    subst (λ l. Have sets (IsInRange l)) (take_all i advisories done) have
 
 -- what a range does not admit is added: then a release outside is one that was outside and that the range admits
 pub asked-outside : (Asked : VersionValue → Type 0) (old sets new range : List (Ends VersionValue)) → new ≡ old ++ sets

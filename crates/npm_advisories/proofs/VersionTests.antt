@@ -5,7 +5,7 @@ use Rattle.semver_versions.specs.VersionLaws.{IsReadOrFaulty}
 use Rattle.serde_json.specs.Data.{Data}
 use Rattle.node_semver.specs.Versions.{IsVersionText, VersionValue}
 use Rattle.npm_advisories.specs.Faults.{FaultValue}
-use Rattle.npm_advisories.specs.Files.{IsAuditError, IsFileFault, file_fault}
+use Rattle.npm_advisories.specs.Files.{IsAuditError, IsFileFault, file_fault, is_among}
 use Rattle.npm_advisories.specs.OsvFaults.{IsVersionTest}
 use Rattle.npm_advisories.specs.Private.Reading.{IsErrorOf}
 use Rattle.npm_advisories.specs.Private.VersionTest.{is_left, is_version}
@@ -58,11 +58,18 @@ module _ (other : List ℕ → Bool) (told : IsVersionTest other) where
   pub only-test : other ≡ is_version
   only-test = λ i text. alike text i
 
--- so what holds of it holds of each
-pub fault-each : (file : Data) (fault : Option FaultValue) → file_fault is_version file ≡ fault → IsFileFault file fault
-fault-each file fault e = λ other told. subst (λ t. file_fault t file ≡ fault) (sym (only-test other told)) e
+-- so what holds of it holds of each, and for each test that is true for the same names
+module _ (names : List (List ℕ)) (is_wanted : List ℕ → Bool) (same : (name : List ℕ) → is_wanted name ≡ is_among names name)
+    (file : Data) where
+  same-names : is_wanted ≡ is_among names
+  same-names = λ i name. same name i
 
-pub audit-error : (file : Data) (error : AuditError) → IsErrorOf (file_fault is_version file) error
-    → IsAuditError file error
-audit-error file (Errors.Refused at) e = fault-each file _ e
-audit-error file Errors.Memory e = tt
+  pub fault-each : (fault : Option FaultValue) → file_fault is_version is_wanted file ≡ fault
+      → IsFileFault names file fault
+  fault-each fault e = λ other told. subst (λ t. file_fault t (is_among names) file ≡ fault) (sym (only-test other told))
+      (subst (λ w. file_fault is_version w file ≡ fault) same-names e)
+
+  pub audit-error : (error : AuditError) → IsErrorOf (file_fault is_version is_wanted file) error
+      → IsAuditError names file error
+  audit-error (Errors.Refused at) e = fault-each _ e
+  audit-error Errors.Memory e = tt

@@ -1,12 +1,12 @@
 -- Lists of JSON values, one value after another.
-use Rattle.std.proofs.Common.{◌≡◌, ◌∙◌, ◌++◌, ◌<◌, ◌+◌, ◌≤◌, ℕ, List, [], Option, None, ap, append-nil, drop, get_or}
+use Rattle.std.proofs.Common.{◌≡◌, ◌∙◌, ◌++◌, ◌<◌, ◌+◌, ◌≤◌, ℕ, List, [], Bool, Option, None, ap, append-nil, drop, get_or}
 use Rattle.std.proofs.Common.{length, refl, sym}
 use Rattle.std.proofs.lemmas.List.{append_assoc}
 use Rattle.serde_json.specs.Data.{Data, Items, item, no_items}
 use Rattle.serde_json.specs.View.{items_view, view}
 use Rattle.serde_json.specs.declared.value.Value.{Value}
 use Rattle.npm_advisories.specs.Faults.{FaultValue}
-use Rattle.npm_advisories.specs.OsvFaults.{first_fault, osv_fault, osv_list_fault}
+use Rattle.npm_advisories.specs.OsvFaults.{first_fault, osv_fault, osv_list_fault, told_name}
 use Rattle.npm_advisories.specs.Private.Reading.{IsErrorOf, IsUnreadAs, at_place}
 use Rattle.npm_advisories.specs.Private.VersionTest.{is_version}
 use Rattle.npm_advisories.specs.declared.fault.AuditError.{AuditError}
@@ -34,18 +34,19 @@ module _ (entries : List Value) (i : ℕ) (one : Value) (lt : i < length entries
   fault-found fault_of whole Memory is before = tt
 
   -- the same for the places of a list
-  pub osv-passed : (whole : Option FaultValue) → osv_fault is_version (view one) ≡ None
-      → whole ≡ osv_list_fault is_version i (items_view (drop i entries))
-      → whole ≡ osv_list_fault is_version (i + 1) (items_view (drop (i + 1) entries))
-  osv-passed whole none before =
-      before ∙ ap (osv_list_fault is_version i) (left [] entries i one lt is_at) ∙ (rw none refl)
+  pub osv-passed : (is_wanted : List ℕ → Bool) (whole : Option FaultValue)
+      → osv_fault is_version is_wanted (view one) ≡ None
+      → whole ≡ osv_list_fault is_version is_wanted i (items_view (drop i entries))
+      → whole ≡ osv_list_fault is_version is_wanted (i + 1) (items_view (drop (i + 1) entries))
+  osv-passed is_wanted whole none before =
+      before ∙ ap (osv_list_fault is_version is_wanted i) (left [] entries i one lt is_at) ∙ (rw none refl)
 
-  pub osv-found : (whole : Option FaultValue) (error : AuditError)
-      → IsErrorOf (at_place [] i (osv_fault is_version (view one))) error
-      → whole ≡ osv_list_fault is_version i (items_view (drop i entries)) → IsErrorOf whole error
-  osv-found whole (Errors.Refused at) is before =
-      before ∙ ap (osv_list_fault is_version i) (left [] entries i one lt is_at) ∙ (rw is refl)
-  osv-found whole Errors.Memory is before = tt
+  pub osv-found : (is_wanted : List ℕ → Bool) (whole : Option FaultValue) (error : AuditError)
+      → IsErrorOf (at_place (told_name is_wanted (view one)) i (osv_fault is_version is_wanted (view one))) error
+      → whole ≡ osv_list_fault is_version is_wanted i (items_view (drop i entries)) → IsErrorOf whole error
+  osv-found is_wanted whole (Errors.Refused at) is before =
+      before ∙ ap (osv_list_fault is_version is_wanted i) (left [] entries i one lt is_at) ∙ (rw is refl)
+  osv-found is_wanted whole Errors.Memory is before = tt
 
   -- what is read of one value more
   pub read-passed : {X : Type 0} (f : Items → List X) (part : Data → List X)

@@ -1,6 +1,7 @@
 -- What an audit finds: npm's "npm audit".
 use Rattle.std.specs.Prelude.{◌≡◌, ◌≢◌, ℕ, List, [], ◌∷◌, Option, Some, None, map}
 use Rattle.node_semver.specs.Versions.{IsVersionText, VersionValue, least_of}
+use Rattle.npm_lock.specs.InstalledVersions.{IsInstalledVersion}
 use Rattle.npm_advisories.specs.Advisories.{AboutValue, AdvisoryValue, about_name, about_value}
 use Rattle.npm_advisories.specs.Hits.{AreHits}
 use Rattle.npm_advisories.specs.Offers.{IsAdmitted, IsLeastOrNone, IsUnhit}
@@ -24,6 +25,10 @@ pub record FoundValue : Type 0 where
   pub least : Option VersionValue
   pub admitted : Option VersionValue
 
+-- the names of installed packages
+abbrev pub names_of : List InstalledValue → List (List ℕ)
+names_of installed = map (λ one. one.name) installed
+
 -- both as a contract sees them
 abbrev pub installed_value : Installed → InstalledValue
 installed_value installed = record {
@@ -45,10 +50,16 @@ found_value found = record {
 
 -- ---- one package
 
--- what the text of an installed version is read as, if it is a version
-abbrev pub IsReadAs : (text : List ℕ) → Option VersionValue → Type 0
-IsReadAs text (Some v) = IsVersionText text v
-IsReadAs text None = (v : VersionValue) → ¬ IsVersionText text v
+-- npm reads no version in the text
+abbrev pub IsUnread : (text : List ℕ) → Type 0
+IsUnread text = (v : VersionValue) → ¬ IsInstalledVersion text v
+
+-- What the text of an installed version is read as: the version that npm reads, as 1.2.3 of `=1.2.3`; or else the version that the
+-- text is, as 1.2.3 of `V1.2.3`; or else none
+pub data IsReadAs (text : List ℕ) : Option VersionValue → Type 0 where
+  by_npm : (v : VersionValue) → IsInstalledVersion text v → IsReadAs text (Some v)
+  as_text : (v : VersionValue) → IsUnread text → IsVersionText text v → IsReadAs text (Some v)
+  unread : IsUnread text → ((v : VersionValue) → ¬ IsVersionText text v) → IsReadAs text None
 
 -- Versions above this one are offered: above the installed version, and above 0.0.0-0, so each release, if its text is no
 -- version

@@ -6,13 +6,13 @@ use Rattle.std.specs.Option.{option_map_or, option_or}
 use Rattle.serde_json.specs.Data.{Data, Items, Members, item, member, no_items, no_members}
 use Rattle.serde_json.specs.Find.{as_array, as_null, as_number, as_object, as_str, get}
 use Rattle.npm_semver.specs.NpmRanges.{alternatives_of, with_plain_spaces}
-use Rattle.npm_advisories.specs.Advisories.{advisory_options, npm_range_text, text_of}
+use Rattle.npm_advisories.specs.Advisories.{advisory_options, npm_range_text}
 use Rattle.npm_advisories.specs.declared.fault.Fault.{Fault}
 use Rattle.npm_advisories.specs.declared.fault.FaultKind.{FaultKind}
 use Rattle.npm_advisories.specs.declared.fault.FaultKind.TheVariants as Faults
 
 -- What is wrong, and with which advisory. In npm's form this is the name that it stands under, and its place in the
--- list there, from 0; in OSV's form the empty name, and its place in the list
+-- list there, from 0; in OSV's form the first installed package that it is about, or the empty name, and its place in the list
 pub record FaultValue : Type 0 where
   pub kind : FaultKind
   pub name : List ℕ
@@ -65,20 +65,21 @@ list_fault name place (item entry others) = option_or
     (option_map (λ kind. record { kind = kind; name = name; place = place }) (npm_fault entry))
     (list_fault name (place + 1) others)
 
--- the first fault of what stands under a name
-abbrev pub member_fault : (name : List ℕ) → (list : Data) → Option FaultValue
-member_fault name list =
-    option_map_or (list_fault name 0) (as_array list) (Some (record { kind = Faults.List; name = name; place = 0 }))
+module _ (is_wanted : List ℕ → Bool) where
+  -- the first fault of what stands under a name. What stands under a name that is not wanted is not looked at
+  abbrev pub member_fault : (name : List ℕ) → (list : Data) → Option FaultValue
+  member_fault name list = if is_wanted name then option_map_or (list_fault name 0) (as_array list)
+      (Some (record { kind = Faults.List; name = name; place = 0 })) else None
 
--- the first fault of an object that has a list for each name
-abbrev pub members_fault : Members → Option FaultValue
-members_fault no_members = None
-members_fault (member name list others) = option_or (member_fault name list) (members_fault others)
+  -- the first fault of an object that has a list for each name
+  abbrev pub members_fault : Members → Option FaultValue
+  members_fault no_members = None
+  members_fault (member name list others) = option_or (member_fault name list) (members_fault others)
 
--- the fault of a file in npm's form, if it has one
-abbrev pub npm_file_fault : (file : Data) → Option FaultValue
-npm_file_fault file = option_map_or members_fault (as_object file)
-    (Some (record { kind = Faults.File; name = []; place = 0 }))
+  -- the fault of a file in npm's form, if it has one
+  abbrev pub npm_file_fault : (file : Data) → Option FaultValue
+  npm_file_fault file = option_map_or members_fault (as_object file)
+      (Some (record { kind = Faults.File; name = []; place = 0 }))
 
 -- ---- as a contract sees it
 

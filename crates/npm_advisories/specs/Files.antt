@@ -1,11 +1,12 @@
 -- A file of advisories, in npm's form or in OSV's: what its advisories are, and which value is no such file.
-use Rattle.std.specs.Prelude.{◌≡◌, ℕ, List, [], Bool, if◌then◌else◌, Option, Some, codes, is_some, option_map}
+use Rattle.std.specs.Prelude.{◌≡◌, ℕ, List, [], Bool, bytes_eq, if◌then◌else◌, Option, Some, codes, is_some, option_map}
+use Rattle.std.specs.List.{list_any}
 use Rattle.std.specs.Option.{option_map_or}
 use Rattle.serde_json.specs.Data.{Data}
 use Rattle.serde_json.specs.Find.{as_array, as_object}
 use Rattle.npm_advisories.specs.Advisories.{AdvisoryValue, npm_members, text_of}
 use Rattle.npm_advisories.specs.Faults.{FaultValue, fault_value, npm_file_fault}
-use Rattle.npm_advisories.specs.OsvFaults.{IsVersionTest, osv_fault, osv_list_fault}
+use Rattle.npm_advisories.specs.OsvFaults.{IsVersionTest, osv_fault, osv_list_fault, told_name}
 use Rattle.npm_advisories.specs.OsvForm.{osv_advisories, osv_list}
 use Rattle.npm_advisories.specs.declared.fault.AuditError.{AuditError}
 use Rattle.npm_advisories.specs.declared.fault.AuditError.TheVariants as Errors
@@ -20,17 +21,23 @@ abbrev pub advisories_of : (file : Data) → List AdvisoryValue
 advisories_of file = option_map_or osv_list (as_array file)
     (if is_osv file then osv_advisories file else option_map_or npm_members (as_object file) [])
 
--- The fault of a file, if it has one. That of a list has the place in it, that of one OSV object the place 0
-abbrev pub file_fault : (is_version : List ℕ → Bool) → (file : Data) → Option FaultValue
-file_fault is_version file = option_map_or (osv_list_fault is_version 0) (as_array file)
-    (if is_osv file then option_map (λ kind. record { kind = kind; name = []; place = 0 }) (osv_fault is_version file)
-    else npm_file_fault file)
+-- The fault of a file, if it has one: what is about packages that are not wanted is not looked at. That of a list has the place
+-- in it, that of one OSV object the place 0
+abbrev pub file_fault : (is_version is_wanted : List ℕ → Bool) → (file : Data) → Option FaultValue
+file_fault is_version is_wanted file = option_map_or (osv_list_fault is_version is_wanted 0) (as_array file)
+    (if is_osv file then option_map (λ kind. record { kind = kind; name = told_name is_wanted file; place = 0 })
+    (osv_fault is_version is_wanted file) else npm_file_fault is_wanted file)
 
--- this is the fault of the file, or it has none
-abbrev pub IsFileFault : (file : Data) → Option FaultValue → Type 0
-IsFileFault file fault = (is_version : List ℕ → Bool) → IsVersionTest is_version → file_fault is_version file ≡ fault
+-- the name is one of these
+abbrev pub is_among : (names : List (List ℕ)) → (name : List ℕ) → Bool
+is_among names name = list_any (λ other. bytes_eq other name) names
+
+-- this is the fault of the file where packages with these names are installed, or it has none
+abbrev pub IsFileFault : (names : List (List ℕ)) → (file : Data) → Option FaultValue → Type 0
+IsFileFault names file fault = (is_version : List ℕ → Bool) → IsVersionTest is_version
+    → file_fault is_version (is_among names) file ≡ fault
 
 -- there is no audit because of this fault, or because an allocation failed
-abbrev pub IsAuditError : (file : Data) → AuditError → Type 0
-IsAuditError file (Errors.Refused at) = IsFileFault file (Some (fault_value at))
-IsAuditError file Errors.Memory = Unit {0}
+abbrev pub IsAuditError : (names : List (List ℕ)) → (file : Data) → AuditError → Type 0
+IsAuditError names file (Errors.Refused at) = IsFileFault names file (Some (fault_value at))
+IsAuditError names file Errors.Memory = Unit {0}

@@ -1,5 +1,5 @@
 -- The installed packages of a lock file: npm's "package-lock.json", "packages".
-use Rattle.std.specs.Prelude.{◌≡◌, ◌≢◌, ◌⊎◌, ℕ, List, [], ◌∷◌, Option, Some, None, codes, true, false}
+use Rattle.std.specs.Prelude.{◌≡◌, ◌≢◌, ◌⊎◌, ℕ, List, [], ◌∷◌, Some, None, codes, true, false}
 use Rattle.serde_json.specs.Data.{Data, Members, member, no_members, object}
 use Rattle.serde_json.specs.Find.{get}
 use Rattle.npm_lock.specs.Dependents.{AreDependents}

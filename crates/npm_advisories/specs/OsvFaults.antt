@@ -67,16 +67,48 @@ module _ (is_version : List ℕ → Bool) where
   osv_range_fault range =
       option_or (type_fault range) (if has_versions range then events_fault range else None)
 
-  -- ---- an element of `affected`
-
+  -- the first fault of the ranges of an element of `affected`
   abbrev pub ranges_fault : (one : Data) → Option FaultKind
   ranges_fault one = option_or (items_fault (codes "ranges") Faults.Ranges one)
       (first_fault osv_range_fault (items_at (codes "ranges") one))
 
-  -- what is about another ecosystem is passed over
+module _ (is_wanted : List ℕ → Bool) where
+  -- ---- whether an OSV object is about a wanted package
+
+  -- the element of `affected` is about one
+  abbrev pub is_about_wanted : (one : Data) → Bool
+  is_about_wanted one = option_map_or is_wanted (npm_name one) false
+
+  -- it is, or nobody can tell which package it is about
+  abbrev pub may_concern : (one : Data) → Bool
+  may_concern one = is_some (package_fault one) || is_about_wanted one
+
+  abbrev pub any_concerns : Items → Bool
+  any_concerns no_items = false
+  any_concerns (item one others) = may_concern one || any_concerns others
+
+  -- the same of an OSV object
+  abbrev pub concerns : (entry : Data) → Bool
+  concerns entry = is_some (items_fault (codes "affected") Faults.Affected entry)
+      || any_concerns (items_at (codes "affected") entry)
+
+  -- the first wanted package that one of the elements is about; the empty name if there is none
+  abbrev pub first_wanted : Items → List ℕ
+  first_wanted no_items = []
+  first_wanted (item one others) = option_map_or (λ name. if is_wanted name then name else first_wanted others)
+      (npm_name one) (first_wanted others)
+
+  -- the name under which a fault of an OSV object is told
+  abbrev pub told_name : (entry : Data) → List ℕ
+  told_name entry = first_wanted (items_at (codes "affected") entry)
+
+module _ (is_version is_wanted : List ℕ → Bool) where
+  -- ---- an element of `affected`
+
+  -- what is about a package that is not wanted, or of another ecosystem, is not looked at
   abbrev pub affected_fault : (one : Data) → Option FaultKind
-  affected_fault one = option_or (package_fault one) (if is_some (npm_name one)
-      then option_or (ranges_fault one) (items_fault (codes "versions") Faults.Versions one) else None)
+  affected_fault one = option_or (package_fault one) (if is_about_wanted is_wanted one
+      then option_or (ranges_fault is_version one) (items_fault (codes "versions") Faults.Versions one) else None)
 
   -- ---- an OSV object
 
@@ -86,15 +118,19 @@ module _ (is_version : List ℕ → Bool) where
       else option_or (items_fault (codes "affected") Faults.Affected entry)
       (first_fault affected_fault (items_at (codes "affected") entry))
 
+  -- the fault of one that is about a wanted package
+  abbrev pub concerned_fault : (entry : Data) → Option FaultKind
+  concerned_fault entry = option_or (osv_id_fault entry)
+      (option_or (text_fault (codes "withdrawn") Faults.Withdrawn entry) (present_fault entry))
+
   -- its fault, if it has one
   abbrev pub osv_fault : (entry : Data) → Option FaultKind
-  osv_fault entry = if is_some (as_object entry) then option_or (osv_id_fault entry)
-      (option_or (text_fault (codes "withdrawn") Faults.Withdrawn entry) (present_fault entry))
-      else Some Faults.Advisory
+  osv_fault entry = if is_some (as_object entry)
+      then (if concerns is_wanted entry then concerned_fault entry else None) else Some Faults.Advisory
 
   -- the first fault of a list, from this place on
   abbrev pub osv_list_fault : (place : ℕ) → Items → Option FaultValue
   osv_list_fault place no_items = None
   osv_list_fault place (item entry others) = option_or
-      (option_map (λ kind. record { kind = kind; name = []; place = place }) (osv_fault entry))
+      (option_map (λ kind. record { kind = kind; name = told_name is_wanted entry; place = place }) (osv_fault entry))
       (osv_list_fault (place + 1) others)

@@ -69,7 +69,8 @@ pub enum FaultKind {
 #[derive(Clone, Copy, Debug, PartialEq, Eq, Drop)]
 pub struct Fault<'v> {
     pub kind: FaultKind,
-    /// The name of the package that the advisory stands under. Empty in OSV's form.
+    /// The name of the package that the advisory stands under. In OSV's form the first installed package that the advisory is
+    /// about, and empty if there is none.
     pub name: &'v str,
     /// The place of the advisory in the list under that name, or in the list of OSV objects, from 0.
     pub place: usize,

@@ -1,25 +1,33 @@
 //! The audit of installed packages.
-ghost use Rattle.std.specs.Prelude.{◌≡◌, List, IfErr, IfOk, None, OnOk, Option, map};
+ghost use Rattle.std.specs.Prelude.{◌≡◌, List, IfErr, IfOk, IsTrue, None, OnOk, Option, map};
+ghost use Rattle.std.specs.List.{AllZip};
 ghost use Rattle.std.specs.Option.{MatchOption};
 ghost use Rattle.serde_json.specs.View.{view};
 ghost use Rattle.node_semver.specs.Ranges.{IsRangeEnd};
 ghost use Rattle.node_semver.specs.Versions.{VersionValue};
 ghost use Rattle.npm_advisories.specs.Advisories.{AdvisoryValue, about_name};
-ghost use Rattle.npm_advisories.specs.Audit.{IsAudit, IsReadAs, IsSpared, found_value, installed_value};
+ghost use Rattle.npm_advisories.specs.Audit.{IsAudit, IsReadAs, IsSpared, found_value, installed_value, names_of};
 ghost use Rattle.npm_advisories.specs.Audit.{version_or_least};
-ghost use Rattle.npm_advisories.specs.Files.{IsAuditError, IsFileFault, advisories_of};
+ghost use Rattle.npm_advisories.specs.Files.{IsAuditError, IsFileFault, advisories_of, is_among};
 ghost use Rattle.npm_advisories.specs.Private.Auditing.{IsFoundOf};
-ghost use Rattle.npm_advisories.specs.Private.Index.{IsIndex};
+ghost use Rattle.npm_advisories.specs.Private.Index.{IsIndex, at_name};
+ghost use Rattle.npm_advisories.specs.Private.Reading.{IsAdvisory};
+ghost use Rattle.npm_advisories.specs.Private.Spans.{IsPast};
+ghost use Rattle.npm_advisories.specs.Private.Unions.{AreUnions};
+ghost use Rattle.npm_advisories.specs.declared.index.Index.{Index};
 
 use crate::Result;
 use crate::advisory::About;
 use crate::fault::AuditError;
 use crate::hits::hits_of;
 use crate::index::Index;
+use crate::names::Names;
 use crate::offer::offer_above;
 use crate::read::read_file;
 use crate::severity::Severity;
+use crate::unions::Unions;
 use node_semver::{Version, VersionRef};
+use npm_lock::installed_version;
 use serde_json::Value;
 use std::alloc::Global;
 
@@ -55,18 +63,20 @@ pub struct Found<'f, 'v> {
 /// are less severe than the level are left out of the hits. An advisory whose severity is unknown is never left out. The
 /// offered versions are hit by none of them, whatever the severity.
 ///
-/// A version that is none is hit by each advisory about the name, since nobody knows which one it is. Then the least releases of
-/// all are offered.
+/// A version is read as npm reads it: `=1.2.3` is 1.2.3. A version that is none is hit by each advisory about the name, since
+/// nobody knows which one it is. Then the least releases of all are offered.
 ///
 /// # Errors
 ///
-/// - `Refused`: the value is no advisories in either form, with the first fault and its place.
+/// - `Refused`: the value is no advisories in either form, with the first fault and its place. An advisory that cannot be about an
+///   installed package is not read, and so has no fault.
 /// - `Memory`: an allocation failed.
 ///
 /// # Memory
 ///
-/// Allocates an index of all advisories with their ranges. Of a package that is hit, allocates its hits and, for the time of
-/// the call, the sets of all advisories about its name and of the range texts.
+/// Allocates an index of the advisories about installed packages, with their ranges, and for each name the union of these. Of a
+/// package that is hit, allocates its hits and, for the time of the call, the sets of all advisories about its name and of the
+/// range texts.
 pub fn audit<'f, 'v>(
     alloc: Global,
     file: &'f Value,
@@ -75,10 +85,12 @@ pub fn audit<'f, 'v>(
 ) -> Result<Vec<Found<'f, 'v>>, AuditError<'f>>
     ensures found { IfOk result (λ found. IsAudit level (advisories_of (view file.now))
         (map installed_value installed.now) (map found_value found.items)) }
-    ensures sound { OnOk result (IsFileFault (view file.now) None) }
-    ensures refused { IfErr result (IsAuditError (view file.now)) }
+    ensures sound { OnOk result (IsFileFault (names_of (map installed_value installed.now)) (view file.now) None) }
+    ensures refused { IfErr result
+        (IsAuditError (names_of (map installed_value installed.now)) (view file.now)) }
 {
-    let index = read_file(alloc, file)?;
+    let names = Names::of_installed(alloc, installed)?;
+    let index = read_file(alloc, &names, file)?;
     Ok(found_in(alloc, &index, level, installed)?)
 }
 
@@ -89,12 +101,15 @@ fn found_in<'f, 'v>(
     level: Severity,
     installed: &[Installed<'v>],
 ) -> Result<Vec<Found<'f, 'v>>>
-    ensures { IfOk result (λ found. (values : List AdvisoryValue) → IsIndex values index.now
+    ensures { IfOk result (λ found. (values : List AdvisoryValue)
+        → IsIndex (is_among (names_of (map installed_value installed.now))) values index.now
         → IsAudit level values (map installed_value installed.now) (map found_value found.items)) }
 {
     let mut all = Vec::new(alloc);
+    let mut unions = Unions::new(alloc);
     for one in installed {
-        if let Some(found) = found_of(alloc, index, level, one)? {
+        unions.add(alloc, index, one.name)?;
+        if let Some(found) = found_of(alloc, index, &unions, level, one)? {
             all.push(found)?;
         }
     }
@@ -105,10 +120,13 @@ fn found_in<'f, 'v>(
 fn found_of<'f, 'v>(
     alloc: Global,
     index: &Index<'f>,
+    unions: &Unions<'v>,
     level: Severity,
     installed: &Installed<'v>,
 ) -> Result<Option<Found<'f, 'v>>>
-    ensures { IfOk result (λ found. (values : List AdvisoryValue) → IsIndex values index.now
+    requires { AreUnions index.now unions.now }
+    ensures { IfOk result (λ found. (values : List AdvisoryValue)
+        → AllZip IsAdvisory (about_name installed.now.name.now values) (at_name index.now installed.now.name.now)
         → MatchOption found
         (IsSpared level (about_name installed.now.name.now values) (installed_value installed.now))
         (IsFoundOf level values installed.now)) }
@@ -117,6 +135,9 @@ fn found_of<'f, 'v>(
         return Ok(None);
     };
     let version = read_version(installed.version);
+    if are_past(unions, installed.name, &version) {
+        return Ok(None);
+    }
     let hits = hits_of(alloc, advisories, level, &version)?;
     if hits.as_slice().is_empty() {
         return Ok(None);
@@ -138,8 +159,22 @@ fn read_version(text: &str) -> Option<VersionRef<'_>>
     ensures only { (v : Option VersionValue) → IsReadAs text.now v → v ≡ result }
     ensures end { IsRangeEnd (version_or_least result) }
 {
+    if let Some(version) = installed_version(text) {
+        return Some(version);
+    }
     match VersionRef::parse(text) {
         Ok(version) => Some(version),
         Err(_) => None,
+    }
+}
+
+/// Returns `true` if it is known that no advisory about the package is about the version. Of one that is not read nothing is known.
+fn are_past(unions: &Unions<'_>, name: &str, version: &Option<VersionRef<'_>>) -> bool
+    ensures { (index : Index) → AreUnions index unions.now → IsTrue result
+        → IsPast (at_name index name.now) version.now }
+{
+    match version {
+        Some(version) => unions.spare(name, version),
+        None => false,
     }
 }

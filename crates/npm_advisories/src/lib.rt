@@ -10,11 +10,13 @@ mod json;
 mod lock;
 mod member;
 mod name;
+mod names;
 mod offer;
 mod osv;
 mod read;
 mod severity;
 mod spans;
+mod unions;
 
 pub use advisory::About;
 pub use fault::{AuditError, Fault, FaultKind};

@@ -7,9 +7,9 @@ ghost use Rattle.npm_lock.specs.Dependents.{texts_at};
 ghost use Rattle.npm_lock.specs.Faults.{lock_fault};
 ghost use Rattle.npm_lock.specs.Packages.{is_link};
 ghost use Rattle.npm_advisories.specs.Audit.{InstalledValue, IsAudit, found_value, installed_value};
-ghost use Rattle.npm_advisories.specs.Files.{IsFileFault, advisories_of};
+ghost use Rattle.npm_advisories.specs.Files.{advisories_of};
 ghost use Rattle.npm_advisories.specs.FolderNames.{IsFolderName};
-ghost use Rattle.npm_advisories.specs.LockFaults.{IsLockError};
+ghost use Rattle.npm_advisories.specs.LockFaults.{IsFileFaultBeside, IsLockError};
 ghost use Rattle.npm_advisories.specs.LockFile.{AreInstalled, AreInstalledOf, IsInstalledAs, IsName, IsOther};
 
 use crate::Result;
@@ -53,7 +53,7 @@ pub fn audit_lock<'f, 'v>(
         × AreInstalledOf (view lock.now) installed
         × IsAudit level (advisories_of (view file.now)) installed (map found_value found.items)) }
     ensures lock_sound { OnOk result (lock_fault (view lock.now) ≡ None) }
-    ensures file_sound { OnOk result (IsFileFault (view file.now) None) }
+    ensures file_sound { OnOk result (IsFileFaultBeside (view lock.now) (view file.now) None) }
     ensures refused { IfErr result (IsLockError (view lock.now) (view file.now)) }
 {
     let installed = match installed_in(alloc, lock) {

@@ -9,7 +9,7 @@ ghost use Rattle.npm_advisories.specs.Advisories.{about_value, severity_of_optio
 ghost use Rattle.npm_advisories.specs.Faults.{text_fault};
 ghost use Rattle.npm_advisories.specs.OsvFaults as Faults;
 ghost use Rattle.npm_advisories.specs.OsvForm as Form;
-ghost use Rattle.npm_advisories.specs.Private.Index.{Adds};
+ghost use Rattle.npm_advisories.specs.Private.Index.{Adds, has_name};
 ghost use Rattle.npm_advisories.specs.Private.Reading.{IsUnreadAs};
 ghost use Rattle.npm_advisories.specs.Private.VersionTest.{is_version};
 ghost use Rattle.npm_advisories.specs.declared.fault.FaultKind.TheVariants as Kinds;
@@ -18,13 +18,16 @@ mod affected;
 mod between;
 mod events;
 mod marks;
+pub(crate) mod packages;
 
 use crate::Result;
 use crate::advisory::{About, Advisory, severity_of, text_of};
 use crate::fault::{FaultKind, Unread};
 use crate::index::Index;
 use crate::member::{items_at, text_at};
+use crate::names::Names;
 use crate::osv::affected::range_of;
+use crate::osv::packages::{concerns, npm_name};
 use crate::severity::Severity;
 use serde_json::Value;
 use std::alloc::Global;
@@ -33,21 +36,25 @@ use std::alloc::Global;
 pub(crate) fn add_osv<'v>(
     alloc: Global,
     index: &mut Index<'v>,
+    names: &Names<'_>,
     entry: &'v Value,
 ) -> Result<(), Unread>
-    ensures read { OnOk result (Adds index.old index.new (Form.osv_advisories (view entry.now))) }
-    ensures sound { OnOk result (Faults.osv_fault is_version (view entry.now) ≡ None) }
-    ensures refused { IfErr result (IsUnreadAs (Faults.osv_fault is_version (view entry.now))) }
+    ensures read { OnOk result (Adds (has_name names.now) index.old index.new (Form.osv_advisories (view entry.now))) }
+    ensures sound { OnOk result (Faults.osv_fault is_version (has_name names.now) (view entry.now) ≡ None) }
+    ensures refused { IfErr result (IsUnreadAs (Faults.osv_fault is_version (has_name names.now) (view entry.now))) }
 {
     entry
         .as_object()
         .ok_or(Unread::Refused(FaultKind::Advisory))?;
+    if !concerns(names, entry) {
+        return Ok(());
+    }
     let about = osv_about(entry)?;
     if is_withdrawn(entry)? {
         return Ok(());
     }
     let affected = items_at(entry, "affected", FaultKind::Affected)?;
-    add_affected(alloc, index, about, affected)
+    add_affected(alloc, index, names, about, affected)
 }
 
 /// The members that say what the advisory is.
@@ -96,17 +103,18 @@ fn is_withdrawn(entry: &Value) -> Result<bool, FaultKind>
 fn add_affected<'v>(
     alloc: Global,
     index: &mut Index<'v>,
+    names: &Names<'_>,
     about: About<'v>,
     affected: &'v [Value],
 ) -> Result<(), Unread>
-    ensures read { OnOk result (Adds index.old index.new
+    ensures read { OnOk result (Adds (has_name names.now) index.old index.new
         (Form.affected_list (about_value about.entry) (items_view affected.now))) }
-    ensures sound { OnOk result (Faults.first_fault (Faults.affected_fault is_version) (items_view affected.now) ≡ None) }
+    ensures sound { OnOk result (Faults.first_fault (Faults.affected_fault is_version (has_name names.now)) (items_view affected.now) ≡ None) }
     ensures refused { IfErr result
-        (IsUnreadAs (Faults.first_fault (Faults.affected_fault is_version) (items_view affected.now))) }
+        (IsUnreadAs (Faults.first_fault (Faults.affected_fault is_version (has_name names.now)) (items_view affected.now))) }
 {
     for one in affected {
-        add_one(alloc, index, about, one)?;
+        add_one(alloc, index, names, about, one)?;
     }
     Ok(())
 }
@@ -115,38 +123,23 @@ fn add_affected<'v>(
 fn add_one<'v>(
     alloc: Global,
     index: &mut Index<'v>,
+    names: &Names<'_>,
     about: About<'v>,
     one: &'v Value,
 ) -> Result<(), Unread>
-    ensures read { OnOk result (Adds index.old index.new (option_map_or
+    ensures read { OnOk result (Adds (has_name names.now) index.old index.new (option_map_or
         (λ name. record { name = name; about = about_value about.entry; affected = Form.osv_affected (view one.now) } ∷ [])
         (Form.npm_name (view one.now)) [])) }
-    ensures sound { OnOk result (Faults.affected_fault is_version (view one.now) ≡ None) }
-    ensures refused { IfErr result (IsUnreadAs (Faults.affected_fault is_version (view one.now))) }
+    ensures sound { OnOk result (Faults.affected_fault is_version (has_name names.now) (view one.now) ≡ None) }
+    ensures refused { IfErr result (IsUnreadAs (Faults.affected_fault is_version (has_name names.now) (view one.now))) }
 {
     let Some(name) = npm_name(one)? else {
         return Ok(());
     };
+    if !names.has(name) {
+        return Ok(());
+    }
     let range = range_of(alloc, one)?;
     index.add(alloc, Advisory { name, about, range })?;
     Ok(())
-}
-
-/// The name of the package that an element of `affected` is about, if its ecosystem is npm.
-fn npm_name(one: &Value) -> Result<Option<&str>, FaultKind>
-    ensures name { IfOk result (λ name. option_map (λ n. n.now) name ≡ Form.npm_name (view one.now)) }
-    ensures fault { result_err result ≡ Faults.package_fault (view one.now) }
-{
-    one.as_object().ok_or(FaultKind::Package)?;
-    let Some(package) = one.get("package") else {
-        return Ok(None);
-    };
-    if package.is_null() {
-        return Ok(None);
-    }
-    match (text_at(package, "ecosystem"), text_at(package, "name")) {
-        (Some("npm"), Some(name)) => Ok(Some(name)),
-        (Some(_), Some(_)) => Ok(None),
-        _ => Err(FaultKind::Package),
-    }
 }

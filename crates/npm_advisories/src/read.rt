@@ -1,14 +1,14 @@
 //! How the advisories of a file are read.
-ghost use Rattle.std.specs.Prelude.{◌≡◌, [], IfErr, IfOk, None, OnOk, Some, option_map};
+ghost use Rattle.std.specs.Prelude.{◌≡◌, [], Bool, IfErr, IfOk, List, None, OnOk, Some, option_map, ℕ};
 ghost use Rattle.std.specs.Option.{option_map_or};
 ghost use Rattle.serde_json.specs.Find.{as_array, as_object};
 ghost use Rattle.serde_json.specs.View.{items_view, view};
 ghost use Rattle.npm_advisories.specs.Advisories.{npm_list, npm_members};
 ghost use Rattle.npm_advisories.specs.Faults.{list_fault, member_fault, npm_file_fault};
-ghost use Rattle.npm_advisories.specs.Files.{IsAuditError, IsFileFault, advisories_of, file_fault};
-ghost use Rattle.npm_advisories.specs.OsvFaults.{osv_fault, osv_list_fault};
+ghost use Rattle.npm_advisories.specs.Files.{advisories_of, file_fault};
+ghost use Rattle.npm_advisories.specs.OsvFaults.{osv_fault, osv_list_fault, told_name};
 ghost use Rattle.npm_advisories.specs.OsvForm.{osv_advisories, osv_list};
-ghost use Rattle.npm_advisories.specs.Private.Index.{Adds, IsIndex};
+ghost use Rattle.npm_advisories.specs.Private.Index.{Adds, IsIndex, has_name};
 ghost use Rattle.npm_advisories.specs.Private.Reading.{IsErrorAt, IsErrorOf, at_place};
 ghost use Rattle.npm_advisories.specs.Private.VersionTest.{is_version};
 
@@ -17,48 +17,60 @@ use crate::advisory::npm_advisory;
 use crate::fault::{AuditError, Fault, FaultKind, Unread};
 use crate::index::Index;
 use crate::member::text_at;
+use crate::names::Names;
 use crate::osv::add_osv;
+use crate::osv::packages::told_name;
 use serde_json::Value;
 use std::alloc::Global;
 
 /// Reads the advisories of a file.
-pub(crate) fn read_file<'v>(alloc: Global, file: &'v Value) -> Result<Index<'v>, AuditError<'v>>
-    ensures read { IfOk result (IsIndex (advisories_of (view file.now))) }
-    ensures sound { OnOk result (IsFileFault (view file.now) None) }
-    ensures refused { IfErr result (IsAuditError (view file.now)) }
+pub(crate) fn read_file<'v>(
+    alloc: Global,
+    names: &Names<'_>,
+    file: &'v Value,
+) -> Result<Index<'v>, AuditError<'v>>
+    ensures read { IfOk result (IsIndex (has_name names.now) (advisories_of (view file.now))) }
+    ensures sound { OnOk result (file_fault is_version (has_name names.now) (view file.now) ≡ None) }
+    ensures refused { IfErr result (IsErrorOf (file_fault is_version (has_name names.now) (view file.now))) }
 {
     let mut index = Index::new(alloc);
-    add_file(alloc, &mut index, file)?;
+    add_file(alloc, &mut index, names, file)?;
     Ok(index)
 }
 
 /// Adds the advisories of a file in either form.
-fn add_file<'v>(alloc: Global, index: &mut Index<'v>, file: &'v Value) -> Result<(), AuditError<'v>>
-    ensures read { OnOk result (Adds index.old index.new (advisories_of (view file.now))) }
-    ensures sound { OnOk result (file_fault is_version (view file.now) ≡ None) }
-    ensures refused { IfErr result (IsErrorOf (file_fault is_version (view file.now))) }
+fn add_file<'v>(
+    alloc: Global,
+    index: &mut Index<'v>,
+    names: &Names<'_>,
+    file: &'v Value,
+) -> Result<(), AuditError<'v>>
+    ensures read { OnOk result (Adds (has_name names.now) index.old index.new (advisories_of (view file.now))) }
+    ensures sound { OnOk result (file_fault is_version (has_name names.now) (view file.now) ≡ None) }
+    ensures refused { IfErr result (IsErrorOf (file_fault is_version (has_name names.now) (view file.now))) }
 {
     if let Some(entries) = file.as_array() {
-        return add_osv_list(alloc, index, entries.as_slice());
+        return add_osv_list(alloc, index, names, entries.as_slice());
     }
     if text_at(file, "id").is_some() {
-        return add_osv_at(alloc, index, file, 0);
+        return add_osv_at(alloc, index, names, file, 0);
     }
-    add_npm(alloc, index, file)
+    add_npm(alloc, index, names, file)
 }
 
 /// Adds the advisories of a list of OSV objects.
 fn add_osv_list<'v>(
     alloc: Global,
     index: &mut Index<'v>,
+    names: &Names<'_>,
     entries: &'v [Value],
 ) -> Result<(), AuditError<'v>>
-    ensures read { OnOk result (Adds index.old index.new (osv_list (items_view entries.now))) }
-    ensures sound { OnOk result (osv_list_fault is_version 0 (items_view entries.now) ≡ None) }
-    ensures refused { IfErr result (IsErrorOf (osv_list_fault is_version 0 (items_view entries.now))) }
+    ensures read { OnOk result (Adds (has_name names.now) index.old index.new (osv_list (items_view entries.now))) }
+    ensures sound { OnOk result (osv_list_fault is_version (has_name names.now) 0 (items_view entries.now) ≡ None) }
+    ensures refused { IfErr result (IsErrorOf (osv_list_fault is_version (has_name names.now) 0 (items_view entries.now))) }
 {
     for place in 0..entries.len() {
-        add_osv_at(alloc, index, &entries[place], place)?;
+        add_osv_at(alloc, index, names, &entries[place], place)?;
     }
     Ok(())
 }
@@ -67,30 +79,36 @@ fn add_osv_list<'v>(
 fn add_osv_at<'v>(
     alloc: Global,
     index: &mut Index<'v>,
+    names: &Names<'_>,
     entry: &'v Value,
     place: usize,
 ) -> Result<(), AuditError<'v>>
-    ensures read { OnOk result (Adds index.old index.new (osv_advisories (view entry.now))) }
-    ensures sound { OnOk result (osv_fault is_version (view entry.now) ≡ None) }
-    ensures refused { IfErr result (IsErrorOf (at_place [] place (osv_fault is_version (view entry.now)))) }
+    ensures read { OnOk result (Adds (has_name names.now) index.old index.new (osv_advisories (view entry.now))) }
+    ensures sound { OnOk result (osv_fault is_version (has_name names.now) (view entry.now) ≡ None) }
+    ensures refused { IfErr result (IsErrorOf (at_place (told_name (has_name names.now) (view entry.now)) place (osv_fault is_version (has_name names.now) (view entry.now)))) }
 {
-    match add_osv(alloc, index, entry) {
+    match add_osv(alloc, index, names, entry) {
         Ok(()) => Ok(()),
-        Err(unread) => Err(error_at(unread, "", place)),
+        Err(unread) => Err(error_at(unread, told_name(names, entry), place)),
     }
 }
 
 /// Adds the advisories of a file in npm's form.
-fn add_npm<'v>(alloc: Global, index: &mut Index<'v>, file: &'v Value) -> Result<(), AuditError<'v>>
-    ensures read { OnOk result (Adds index.old index.new (option_map_or npm_members (as_object (view file.now)) [])) }
-    ensures sound { OnOk result (npm_file_fault (view file.now) ≡ None) }
-    ensures refused { IfErr result (IsErrorOf (npm_file_fault (view file.now))) }
+fn add_npm<'v>(
+    alloc: Global,
+    index: &mut Index<'v>,
+    names: &Names<'_>,
+    file: &'v Value,
+) -> Result<(), AuditError<'v>>
+    ensures read { OnOk result (Adds (has_name names.now) index.old index.new (option_map_or npm_members (as_object (view file.now)) [])) }
+    ensures sound { OnOk result (npm_file_fault (has_name names.now) (view file.now) ≡ None) }
+    ensures refused { IfErr result (IsErrorOf (npm_file_fault (has_name names.now) (view file.now))) }
 {
     let Some(members) = file.as_object() else {
         return Err(error_at(Unread::Refused(FaultKind::File), "", 0));
     };
     for (name, list) in members.iter() {
-        read_member(alloc, index, name.as_str(), list)?;
+        read_member(alloc, index, names, name.as_str(), list)?;
     }
     Ok(())
 }
@@ -99,14 +117,18 @@ fn add_npm<'v>(alloc: Global, index: &mut Index<'v>, file: &'v Value) -> Result<
 fn read_member<'v>(
     alloc: Global,
     index: &mut Index<'v>,
+    names: &Names<'_>,
     name: &'v str,
     list: &'v Value,
 ) -> Result<(), AuditError<'v>>
-    ensures read { OnOk result (Adds index.old index.new
+    ensures read { OnOk result (Adds (has_name names.now) index.old index.new
         (option_map_or (npm_list name.now) (as_array (view list.now)) [])) }
-    ensures sound { OnOk result (member_fault name.now (view list.now) ≡ None) }
-    ensures refused { IfErr result (IsErrorOf (member_fault name.now (view list.now))) }
+    ensures sound { OnOk result (member_fault (has_name names.now) name.now (view list.now) ≡ None) }
+    ensures refused { IfErr result (IsErrorOf (member_fault (has_name names.now) name.now (view list.now))) }
 {
+    if !names.has(name) {
+        return Ok(());
+    }
     match list.as_array() {
         Some(entries) => read_list(alloc, index, name, entries.as_slice()),
         None => Err(error_at(Unread::Refused(FaultKind::List), name, 0)),
@@ -120,7 +142,7 @@ fn read_list<'v>(
     name: &'v str,
     entries: &'v [Value],
 ) -> Result<(), AuditError<'v>>
-    ensures read { OnOk result (Adds index.old index.new (npm_list name.now (items_view entries.now))) }
+    ensures read { OnOk result ((is_wanted : List ℕ → Bool) → Adds is_wanted index.old index.new (npm_list name.now (items_view entries.now))) }
     ensures sound { OnOk result (list_fault name.now 0 (items_view entries.now) ≡ None) }
     ensures refused { IfErr result (IsErrorOf (list_fault name.now 0 (items_view entries.now))) }
 {

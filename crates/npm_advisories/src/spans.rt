@@ -7,6 +7,7 @@ ghost use Rattle.node_semver.specs.Ranges.{IsRangeEnd, IsRangeSet, IsRangeValue,
 ghost use Rattle.std.specs.List.{AllByRecursion};
 ghost use Rattle.node_semver.specs.Versions.{IsBelow, IsPrerelease, VersionValue};
 ghost use Rattle.npm_advisories.specs.Offers.{IsAskedFor, IsLeastOrNone};
+ghost use Rattle.npm_advisories.specs.Private.OsvReading.{Have};
 ghost use Rattle.npm_advisories.specs.Private.Spans.{Contain, IsInRange, IsOutside};
 
 use crate::Result;
@@ -35,11 +36,21 @@ pub(crate) fn spans_of(
 {
     let mut spans = Vec::new(alloc);
     spans.push(up_to(version.to_version(alloc)?))?;
+    let mut sets = sets_of(alloc, advisories)?;
+    spans.append(&mut sets)?;
+    Ok(spans)
+}
+
+/// The spans of the versions that the advisories are about.
+pub(crate) fn sets_of(alloc: Global, advisories: &[Advisory<'_>]) -> Result<Vec<Span<Version>>>
+    ensures { IfOk result (λ sets. Have sets.items (IsInRange advisories.now)) }
+{
+    let mut all = Vec::new(alloc);
     for advisory in advisories {
         let mut sets = advisory.sets(alloc)?;
-        spans.append(&mut sets)?;
+        all.append(&mut sets)?;
     }
-    Ok(spans)
+    Ok(all)
 }
 
 fn up_to(version: Version) -> Span<Version>

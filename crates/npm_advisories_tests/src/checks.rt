@@ -59,6 +59,43 @@ pub(crate) fn finds_in(
     )
 }
 
+// The fault of advisories: its kind, its name and its place; nothing if they are read.
+fn fault_text(alloc: Global, answer: Result<Vec<Found<'_, '_>>, AuditError<'_>>) -> Option<String> {
+    match &answer {
+        Ok(_) => Some(String::new(alloc)),
+        Err(AuditError::Refused(fault)) => {
+            format!(in alloc; "{:?} {} {}", fault.kind, fault.name, fault.place).ok()
+        }
+        Err(AuditError::Memory) => None,
+    }
+}
+
+// A package with this name.
+fn named(alloc: Global, name: &'static str) -> Installed<'static> {
+    Installed {
+        folder: "",
+        name,
+        version: "1.0.0",
+        asked: Vec::new(alloc),
+    }
+}
+
+// Returns `true` if the advisories have this fault where `a` and `b` are installed.
+pub(crate) fn has_fault(alloc: Global, file: &str, wanted: &str) -> bool {
+    match &Value::from_str(alloc, file) {
+        Ok(file) => has_fault_in(alloc, file, wanted),
+        Err(_) => false,
+    }
+}
+
+fn has_fault_in(alloc: Global, file: &Value, wanted: &str) -> bool {
+    let installed = [named(alloc, "b"), named(alloc, "a")];
+    is_text(
+        fault_text(alloc, audit(alloc, file, Severity::Info, &installed)),
+        wanted,
+    )
+}
+
 pub(crate) fn finds(
     alloc: Global,
     file: &str,

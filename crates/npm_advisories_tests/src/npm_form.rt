@@ -1,6 +1,6 @@
 //! Advisories in npm's form, installed packages, and what is found.
 
-use crate::checks::{finds, is_text};
+use crate::checks::{finds, has_fault, is_text};
 use npm_advisories::{Found, Installed, LockError, Severity, audit_lock};
 use serde_json::Value;
 use std::alloc::{AllocError, Global};
@@ -92,9 +92,43 @@ fn hits_a_version_that_is_none(rt: HostRuntime) {
     assert!(rt; finds_of(alloc, Severity::Info, ("minimise", "1.2"), &[], ""));
 }
 
+const EQUALS: &str =
+    r#"{"admitted":"1.2.6","advisories":[{"id":4,"severity":"critical"}],"folder":"minimist","least":"1.2.6","name":"minimist","version":"=1.2.5"};"#;
+
+const OLD: &str =
+    r#"{"admitted":"4.17.22","advisories":[{"id":3,"severity":"unknown"}],"folder":"lodash","least":"4.17.22","name":"lodash","version":"V4.17.21"};"#;
+
+// npm reads `=1.2.5` as 1.2.5. It reads no version in `V4.17.21`, which is hit as 4.17.21 is.
+#[test]
+fn hits_a_version_as_npm_reads_it(rt: HostRuntime) {
+    let alloc = rt.alloc();
+    assert!(rt;
+        finds_of(
+            alloc,
+            Severity::Info,
+            ("minimist", "=1.2.5"),
+            &["^1.0.0"],
+            EQUALS
+        )
+    );
+    assert!(rt;
+        finds_of(
+            alloc,
+            Severity::Info,
+            ("lodash", "V4.17.21"),
+            &["^4.0.0"],
+            OLD
+        )
+    );
+}
+
 // A package and its version.
-const SPARED: [(&str, &str); 3] = [
+const SPARED: [(&str, &str); 7] = [
     ("lodash", "4.17.22"),
+    ("lodash", "=4.17.22"),
+    ("minimist", " vv1.2.6 "),
+    ("minimist", "V1.2.6"),
+    ("minimist", "1.2.6+b"),
     ("minimist", "0.2.4"),
     ("Lodash", "4.17.11"),
 ];
@@ -111,7 +145,7 @@ fn finds_nothing_where_nothing_hits(rt: HostRuntime) {
     }
 }
 
-const FAULTS: [(&str, &str); 15] = [
+const FAULTS: [(&str, &str); 19] = [
     ("{}", ""),
     ("1", "File  0"),
     ("[]", ""),
@@ -156,16 +190,21 @@ const FAULTS: [(&str, &str); 15] = [
         r#"{"a": [{"id": 1, "vulnerable_versions": "<1", "url": null}]}"#,
         "",
     ),
+    // What is about a package that is not installed is not read: `c` is not.
+    (r#"{"c": {}}"#, ""),
+    (
+        r#"{"c": [{"id": 1, "vulnerable_versions": "foo"}, 1], "A": 1}"#,
+        "",
+    ),
+    (r#"{"": 1, "b": [{"id": 1}, 1], "c": 1}"#, "Advisory b 1"),
+    (r#"{"aa": 1, "a": 1}"#, "List a 0"),
 ];
 
 // The texts are no advisories, each for its fault: its kind, name and place. Those with no fault are read.
 #[test]
 fn refuses_what_are_no_advisories(rt: HostRuntime) {
     for (text, wanted) in &FAULTS {
-        assert!(rt;
-            finds(rt.alloc(), text, Severity::Info, &[], wanted),
-            "{text}"
-        );
+        assert!(rt; has_fault(rt.alloc(), text, wanted), "{text}");
     }
 }
 

@@ -1,5 +1,5 @@
 -- A walk along two groups: what is left after a name is taken, and which names both have.
-use Rattle.std.proofs.Common.{◌≡◌, ◌≢◌, ◌∙◌, ◌⊎◌, ℕ, zero, suc, List, [], ◌∷◌, ◌++◌, Bool, true, false, Option, Some}
+use Rattle.std.proofs.Common.{◌≡◌, ◌≢◌, ◌⊎◌, ℕ, zero, suc, List, [], ◌∷◌, ◌++◌, Bool, true, false, Option, Some}
 use Rattle.std.proofs.Common.{None}
 use Rattle.std.proofs.Common.{IsTrue, Ordering, Less, Equal, Greater, ap, arith, bytes_eq, inl, inr, is_eq, nat_cmp}
 use Rattle.std.proofs.Common.{option_and_then, option_map, refl, sym, unwrap_or}

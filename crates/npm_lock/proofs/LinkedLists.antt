@@ -1,5 +1,5 @@
 -- The folders of links: one more member, one more folder in the map, and the keys of the map.
-use Rattle.std.proofs.Common.{◌≡◌, ◌∙◌, ◌⊎◌, ◌↔◌, ℕ, zero, suc, List, [], ◌∷◌, Bool, true, false, cond, Option, Some}
+use Rattle.std.proofs.Common.{◌≡◌, ◌⊎◌, ◌↔◌, ℕ, zero, suc, List, [], ◌∷◌, Bool, true, false, cond, Option, Some}
 use Rattle.std.proofs.Common.{BTreeMap, Less, Equal, Greater, None, Ordering, ap, arith, bytes_eq, inl, inr, is_eq, map}
 use Rattle.std.proofs.Common.{codes, nat_cmp, option_and_then, option_map, refl, sym}
 use denote.Ref.{Bor}

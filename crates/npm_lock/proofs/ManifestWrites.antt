@@ -1,5 +1,5 @@
 -- What is written through a reference into an object.
-use Rattle.std.proofs.Common.{◌≡◌, ◌∙◌, ℕ, List, [], ◌∷◌, Bool, true, false, Option, Some, None, Result, Ok, Err, OnOk}
+use Rattle.std.proofs.Common.{◌≡◌, ◌∙◌, ℕ, List, [], ◌∷◌, Bool, true, false, Some, None, Result, Ok, Err, OnOk}
 use Rattle.std.proofs.Common.{String, Global, bytes_eq, is_eq, nat_cmp, refl, string_bytes, sym}
 use Rattle.std.proofs.lemmas.Map.Text.{is_eq-slice_cmp}
 use Rattle.std.specs.BTreeMap.{is_at}

@@ -1,7 +1,7 @@
 -- Which folders are workspaces of the root: npm's "package.json", "workspaces".
 use Rattle.std.specs.Prelude.{◌≡◌, ◌≢◌, ◌==◌, ◌||◌, ◌&&◌, ℕ, List, [], ◌∷◌, Bool, false, true, not, if◌then◌else◌}
 use Rattle.std.specs.Prelude.{Option, Some, None, option_and_then, bytes_eq, codes, length, nat_eq}
-use Rattle.std.specs.List.{ends_with, list_any, starts_with}
+use Rattle.std.specs.List.{ends_with, list_any}
 use Rattle.std.specs.Option.{option_map_or, option_or}
 use Rattle.serde_json.specs.Data.{Data, Items, item, no_items}
 use Rattle.serde_json.specs.Find.{as_array, as_str, get}

@@ -1,32 +1,32 @@
-//! The index of a lock file: which packages a name may lead to.
+//! The index of a lock file: which package a name has in the `node_modules` of a folder.
 //!
-//! See docs/DECISIONS.md, "The index has packages by the ends of their folders".
-ghost use Rattle.std.specs.Prelude.{◌≡◌, [], ◌∷◌, ◌++◌, ℕ, List, IfOk, OnOk, Some};
-ghost use Rattle.std.specs.Option.{option_map_or};
+//! See docs/DECISIONS.md, "The index has packages by their names and folders".
+ghost use Rattle.std.specs.Prelude.{◌≡◌, ◌∷◌, ◌++◌, ◌↔◌, ℕ, List, IfOk, IsSome, IsTrue, OnOk, Some};
+ghost use Rattle.std.specs.Option.{MatchOption};
 ghost use Rattle.serde_json.specs.Find.{get};
 ghost use Rattle.serde_json.specs.View.{view};
-ghost use Rattle.npm_lock.specs.Private.Index.{IsAdded, IsIndexOf, IsEnd, IsLast, IsMore, at_end};
+ghost use Rattle.npm_lock.specs.Private.Index.{IsAdded, IsIndexOf, IsEnd, IsLast, IsLastTo, IsMore, IsPlain, IsUpTo};
+ghost use Rattle.npm_lock.specs.Private.Index.{at_place};
 ghost use Rattle.npm_lock.specs.Private.PackageValue.{packages_data};
 
 use crate::Result;
+use crate::folder::is_modules;
 use crate::place::{Lock, Package};
-use crate::search::{front_of, rest_of, split_last};
-use std::alloc::Global;
+use crate::search::{front_of, inside, rest_of, split_last};
 use std::collections::BTreeMap;
 
-/// What is at a key of `packages`.
+/// A package, and the folder in whose `node_modules` it is.
 #[derive(Clone, Copy)]
-pub(crate) struct Candidate<'v> {
-    /// The key.
-    pub(crate) place: &'v str,
+pub(crate) struct Hit<'v> {
+    pub(crate) folder: &'v str,
     /// The package there, or the target of a link there.
     pub(crate) found: Package<'v>,
 }
 
-/// All packages, by the ends of their keys: `b` for `node_modules/b`, and `@a/b` for `node_modules/@a/b`.
+/// All packages, by their names and the folders in whose `node_modules` they are.
 #[derive(Drop)]
 pub(crate) struct Index<'v> {
-    by_end: BTreeMap<&'v str, Vec<Candidate<'v>>>,
+    by_name: BTreeMap<(&'v str, &'v [u8]), Hit<'v>>,
 }
 
 impl<'v> Index<'v> {
@@ -35,7 +35,7 @@ impl<'v> Index<'v> {
         ensures { IfOk result (λ index. IsIndexOf (packages_data lock.entry) index) }
     {
         let mut index = Index {
-            by_end: BTreeMap::new(lock.alloc),
+            by_name: BTreeMap::new(lock.alloc),
         };
         for (folder, member) in lock.members.iter() {
             let folder = folder.as_str();
@@ -44,42 +44,45 @@ impl<'v> Index<'v> {
         Ok(index)
     }
 
-    /// Adds a member of `packages`, but not a link whose target is not there.
+    /// Adds a member of `packages` that is in a `node_modules`, but not a link whose target is not there.
     fn add_member(&mut self, lock: Lock<'v>, placed: Package<'v>) -> Result<()>
         requires { get placed.folder.now (packages_data lock) ≡ Some (view placed.member.now) }
         ensures { OnOk result (IsMore (packages_data lock.entry) placed.entry.folder.now self.old self.new) }
     {
-        match lock.found_at(placed) {
-            Some(found) => {
-                let place = placed.folder;
-                self.add(lock.alloc, Candidate { place, found })
-            }
-            None => Ok(()),
+        let Some(found) = lock.found_at(placed) else {
+            return Ok(());
+        };
+        let name = end_of(placed.folder);
+        match inside(placed.folder, name) {
+            Some(folder) if !is_modules(folder) => self.add(name, Hit { folder, found }),
+            _ => Ok(()),
         }
     }
 
-    /// Adds what is at a key.
-    fn add(&mut self, alloc: Global, candidate: Candidate<'v>) -> Result<()>
-        ensures { OnOk result (IsAdded candidate.entry self.old self.new) }
+    /// Adds the package of a name in the `node_modules` of a folder.
+    fn add(&mut self, name: &'v str, hit: Hit<'v>) -> Result<()>
+        ensures { OnOk result (IsAdded name.now hit.entry self.old self.new) }
     {
-        let list = self
-            .by_end
-            .entry(end_of(candidate.place))?
-            .or_insert(Vec::new(alloc));
-        if list.is_empty() {
-            // Mostly it stays alone, and a list that grows from nothing takes room for four.
-            list.reserve_exact(1)?;
-        }
-        list.push(candidate)?;
+        self.by_name.insert((name, hit.folder.as_bytes()), hit)?;
         Ok(())
     }
 
-    /// The packages whose keys have the end of this name, or `None` if there are none.
-    pub(crate) fn candidates(&self, name: &'v str) -> Option<&[Candidate<'v>]>
-        ensures { (end : List ℕ) × IsEnd name.now end × (option_map_or (λ list. list.now) result [] ≡ at_end self.now end) }
+    /// The package of a name in the last folder that is not after these bytes.
+    pub(crate) fn last_to(&self, name: &'v str, left: &'v [u8]) -> Option<Hit<'v>>
+        ensures { MatchOption result
+            ((folder : List ℕ) → IsSome (at_place self.now name.now folder) → IsUpTo folder left.now → ⊥)
+            (IsLastTo self.now name.now left.now) }
     {
-        Some(self.by_end.get(&end_of(name))?.as_slice())
+        let (key, hit) = self.by_name.range(..=(name, left)).next_back()?;
+        if key.0 == name { Some(*hit) } else { None }
     }
+}
+
+/// Returns `true` for a name of one part, or of a scope and a part, as npm's names are.
+pub(crate) fn is_plain(name: &str) -> bool
+    ensures { IsTrue result ↔ IsPlain name.now }
+{
+    end_of(name) == name
 }
 
 /// The last part of a path, with the scope before it.

@@ -6,14 +6,14 @@ ghost use Rattle.serde_json.specs.View.{view};
 ghost use Rattle.npm_lock.specs.Folders as Folders;
 ghost use Rattle.npm_lock.specs.Packages.{IsFound, IsFoundIn, IsPassed};
 ghost use Rattle.npm_lock.specs.Packages as Packages;
-ghost use Rattle.npm_lock.specs.Private.Index.{IsIndexOf};
+ghost use Rattle.npm_lock.specs.Private.Index.{IsIndexOf, IsPlain};
 ghost use Rattle.npm_lock.specs.Private.PackageValue.{package_value, packages_data};
-ghost use Rattle.npm_lock.specs.Private.Search.{IsOutermostFrom};
+ghost use Rattle.npm_lock.specs.Private.Search.{IsNearest, IsOutermostFrom};
 
 use crate::Result;
 use crate::folder::is_modules;
-use crate::index::Index;
-use crate::search::{above_of, nearest};
+use crate::index::{Hit, Index, is_plain};
+use crate::search::{above_of, is_reached, shared};
 use node_semver::Version;
 use serde_json::{Map, Value};
 use std::alloc::Global;
@@ -35,19 +35,13 @@ pub(crate) struct Package<'v> {
     pub(crate) member: &'v Value,
 }
 
-/// Up to so many packages of one name are looked at one by one, and more for a long folder: going up from it builds a text for
-/// each folder above, which takes time that grows with the square of its bytes.
-const MANY: usize = 32;
-
-const BYTES_PER_PACKAGE: usize = 512;
-
 impl<'v> Lock<'v> {
     /// Finds a name in the `node_modules` of the package's folder, or else of the next folder above. Also returns `true`
     /// if that is the `node_modules` of the folder itself.
     pub(crate) fn find(
         self,
         index: &Index<'v>,
-        from: &str,
+        from: &'v str,
         outermost: &str,
         name: &'v str,
     ) -> Result<Option<(Package<'v>, bool)>>
@@ -58,21 +52,43 @@ impl<'v> Lock<'v> {
         ensures own { IfOk result (λ found. IfSome found (λ f. IsTrue f.1
             ↔ IsFoundIn (packages_data self.entry) name.now from.now (package_value f.0))) }
     {
-        let Some(candidates) = index.candidates(name) else {
-            return Ok(None);
-        };
-        let bytes = from.len();
-        let more = bytes.saturating_add(bytes.saturating_mul(bytes) / BYTES_PER_PACKAGE);
-        if candidates.len().saturating_sub(MANY) > more {
+        if !is_plain(name) {
             return self.find_above(from, name);
         }
-        match nearest(candidates, from, outermost, name) {
+        match self.nearest(index, from, outermost, name) {
             Some(hit) => Ok(Some((hit.found, hit.folder.len() == from.len()))),
             None => Ok(None),
         }
     }
 
-    /// The same, folder by folder: this takes less time where many packages have the name.
+    /// The nearest package of a plain name: that of the last folder in the order of bytes, or else of the last one that is not
+    /// after what the two folders share.
+    fn nearest(
+        self,
+        index: &Index<'v>,
+        from: &'v str,
+        outermost: &str,
+        name: &'v str,
+    ) -> Option<Hit<'v>>
+        requires index { IsIndexOf (packages_data self) index.now }
+        requires outermost { IsOutermostFrom from.now outermost.now }
+        requires plain { IsPlain name.now }
+        ensures { IsNearest (packages_data self.entry) from.now name.now result }
+    {
+        let mut left = from.as_bytes();
+        'nearer: loop {
+            let hit = index.last_to(name, left)?;
+            if is_reached(from, outermost, hit.folder) {
+                return Some(hit);
+            }
+            if left.is_empty() {
+                return None;
+            }
+            left = shared(left, hit.folder.as_bytes());
+        }
+    }
+
+    /// The same for any name, folder by folder.
     fn find_above(self, from: &str, name: &str) -> Result<Option<(Package<'v>, bool)>>
         ensures found { IfOk result (λ found. IsFound (packages_data self.entry) name.now from.now
             (option_map (λ f. package_value f.0) found)) }

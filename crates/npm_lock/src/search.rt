@@ -1,23 +1,11 @@
 //! Where the names of a package are looked up.
-ghost use Rattle.std.specs.Prelude.{◌≡◌, ◌≢◌, ◌↔◌, ◌++◌, ◌∷◌, ℕ, List, IsTrue};
-ghost use Rattle.std.specs.List.{AllByRecursion};
+ghost use Rattle.std.specs.Prelude.{◌≡◌, ◌≢◌, ◌<◌, ◌↔◌, ◌++◌, ◌∷◌, ℕ, List, IsTrue, length};
 ghost use Rattle.std.specs.Option.{MatchOption};
-ghost use Rattle.serde_json.specs.Data.{Data};
 ghost use Rattle.npm_lock.specs.Folders.{IsAbove, IsOutermost, place_in};
-ghost use Rattle.npm_lock.specs.Private.Index.{HasNoSlash, IsAt};
-ghost use Rattle.npm_lock.specs.Private.Search as Search;
-ghost use Rattle.npm_lock.specs.Private.Search.{IsFront, IsNearest, IsOutermostFrom, IsPlaceOf, IsReached};
+ghost use Rattle.npm_lock.specs.Private.Index.{HasNoSlash};
+ghost use Rattle.npm_lock.specs.Private.Search.{BeginsWith, IsFront, IsOutermostFrom, IsReached};
 
-use crate::folder::{is_modules, is_up};
-use crate::index::Candidate;
-use crate::place::Package;
-
-/// A package that is found for a name, and the folder in whose `node_modules` it is.
-#[derive(Clone, Copy)]
-pub(crate) struct Hit<'v> {
-    pub(crate) folder: &'v str,
-    pub(crate) found: Package<'v>,
-}
+use crate::folder::is_up;
 
 /// The last folder above this one in which names are looked up.
 pub(crate) fn outermost_of(folder: &str) -> &str
@@ -51,53 +39,22 @@ pub(crate) fn split_last(path: &str) -> Option<(&str, &str)>
     path.rsplit_once('/')
 }
 
-/// The nearest package of these that is found for a name.
-pub(crate) fn nearest<'v>(
-    candidates: &[Candidate<'v>],
-    from: &str,
-    outermost: &str,
-    name: &str,
-) -> Option<Hit<'v>>
-    requires { IsOutermostFrom from.now outermost.now }
-    ensures { (packages : Data) → AllByRecursion (IsAt packages) candidates.now
-        → IsNearest packages from.now name.now candidates.now result }
+/// What two texts both begin with, but the whole of neither.
+pub(crate) fn shared<'t>(left: &'t [u8], folder: &[u8]) -> &'t [u8]
+    ensures kept { (start : List ℕ) → BeginsWith left.now start → BeginsWith folder.now start
+        → length start < length folder.now → length start < length left.now → BeginsWith result.now start }
+    ensures shorter { 0 < length left.now → length result.now < length left.now }
 {
-    let mut best = None;
-    for candidate in candidates {
-        best = nearer(best, hit_of(*candidate, from, outermost, name));
+    let end = left.len().min(folder.len()).saturating_sub(1);
+    let mut same = 0;
+    'bytes: while same < end && left[same] == folder[same] {
+        same += 1;
     }
-    best
-}
-
-/// The nearer of two.
-fn nearer<'v>(first: Option<Hit<'v>>, second: Option<Hit<'v>>) -> Option<Hit<'v>>
-    ensures { result ≡ Search.nearer first.entry second.entry }
-{
-    match (first, second) {
-        (Some(first), Some(second)) if first.folder.len() < second.folder.len() => Some(second),
-        (Some(first), _) => Some(first),
-        (None, second) => second,
-    }
-}
-
-/// What is found at a key for a name, if names are looked up there.
-fn hit_of<'v>(candidate: Candidate<'v>, from: &str, outermost: &str, name: &str) -> Option<Hit<'v>>
-    requires { IsOutermostFrom from.now outermost.now }
-    ensures { MatchOption result
-        ((folder : List ℕ) → ¬ IsPlaceOf from.now name.now candidate.entry.place.now folder)
-        (λ hit. IsPlaceOf from.now name.now candidate.entry.place.now hit.folder.now
-        × (hit.found ≡ candidate.entry.found)) }
-{
-    let folder = inside(candidate.place, name)?;
-    if is_modules(folder) || !is_reached(from, outermost, folder) {
-        return None;
-    }
-    let found = candidate.found;
-    Some(Hit { folder, found })
+    &left[..same]
 }
 
 /// Returns `true` if the folder is this one, or above it and not above the outermost one.
-fn is_reached(from: &str, outermost: &str, folder: &str) -> bool
+pub(crate) fn is_reached(from: &str, outermost: &str, folder: &str) -> bool
     requires { IsOutermostFrom from.now outermost.now }
     ensures { IsTrue result ↔ IsReached from.now folder.now }
 {
@@ -115,7 +72,7 @@ fn is_front(path: &str, front: &str) -> bool
 }
 
 /// The folder in whose `node_modules` a name has this place, if that is its place in one.
-fn inside<'v>(place: &'v str, name: &str) -> Option<&'v str>
+pub(crate) fn inside<'v>(place: &'v str, name: &str) -> Option<&'v str>
     ensures { MatchOption result ((folder : List ℕ) → place.now ≢ place_in folder name.now)
         (λ folder. place.now ≡ place_in folder.now name.now) }
 {

@@ -3,7 +3,7 @@ use Rattle.std.proofs.Common.{◌≡◌, ◌∙◌, List, None, Option, Some, in
 use Rattle.std.proofs.lemmas.List.{length-map}
 use Rattle.serde_json.specs.Data.{Data}
 use Rattle.npm_advisories.specs.Faults.{FaultValue}
-use Rattle.npm_advisories.specs.Files.{IsFileFault}
+use Rattle.npm_advisories.specs.LockFaults.{IsFileFaultBeside}
 use Rattle.npm_lock.specs.Faults.{lock_fault}
 use Rattle.npm_lock.specs.VersionOne.{any_fault, converted}
 use Rattle.npm_lock_check.specs.Linked.{LinkedValue}
@@ -14,7 +14,7 @@ use Rattle.npm_lock_check.specs.declared.run_error.RunError.{RunError}
 
 -- the advisories have this fault
 pub refused_as : (checked file : Data) (advisories : Option Data) (fault : FaultValue) (error : RunError)
-    → advisories ≡ Some file → IsFileFault file (Some fault) → AreRefusedAs fault error
+    → advisories ≡ Some file → IsFileFaultBeside checked file (Some fault) → AreRefusedAs fault error
     → IsAuditRefused checked advisories error
 refused_as checked file advisories fault error is told (inl (name, same, text)) =
     inl (fault.kind, name, fault.place, same, (file, is, rw text told))
@@ -32,7 +32,7 @@ module _ (lock placed checked : Data) (linked : List LinkedValue) (wanted : Want
   refused_check told = inr (inr (same_refused told))
 
   pub refused_audit : IsAuditRefused checked wanted.advisories error → IsRefused lock placed linked wanted error
-  refused_audit (inl told) = inr (inl told)
+  refused_audit (inl told) = inr (inl (rw is at told))
   refused_audit (inr told) = refused_check told
 
 pub refused_lock : (lock placed : Data) (linked : List LinkedValue) (wanted : WantedValue) (error : RunError)

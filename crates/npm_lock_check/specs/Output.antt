@@ -13,12 +13,12 @@ use Rattle.npm_lock.specs.Mismatches.{manifest_fault}
 use Rattle.npm_lock.specs.VersionOne.{any_fault}
 use Rattle.npm_lock.specs.declared.fault.Fault.{Fault}
 use Rattle.npm_advisories.specs.Audit.{FoundValue}
-use Rattle.npm_advisories.specs.Files.{IsFileFault}
+use Rattle.npm_advisories.specs.LockFaults.{IsFileFaultBeside}
 use Rattle.npm_advisories.specs.declared.fault.FaultKind.{FaultKind}
 use Rattle.npm_lock_check.specs.Linked.{LinkedValue, LoadedValue}
 use Rattle.npm_lock_check.specs.WatchedValue.{WatchedValue}
 use Rattle.npm_lock_check.specs.Report.{AreLoaded, IsNotLoaded, IsReportOf, WantedValue, has_packages, manifests_of}
-use Rattle.npm_lock_check.specs.Report.{placed}
+use Rattle.npm_lock_check.specs.Report.{checked_lock, placed}
 use Rattle.npm_lock_check.specs.declared.folder_name.FolderName.{FolderName}
 use Rattle.npm_lock_check.specs.declared.linked.Loaded.{Loaded}
 use Rattle.npm_lock_check.specs.declared.list_name.ListName.{ListName}
@@ -89,10 +89,11 @@ IsNoLinked linked name fault = linked_fault linked ≡ Some (record { folder = s
 abbrev pub IsNoLockFile : (placed : Data) → (manifest : Option Data) → Fault → Type 0
 IsNoLockFile placed manifest fault = any_fault placed manifest ≡ Some fault
 
--- the value of the advisories has a fault, at this place in the list under this name
-abbrev pub AreNoAdvisories : (advisories : Option Data) → FaultKind → ListName → (place : ℕ) → Type 0
-AreNoAdvisories advisories kind name place = (file : Data) × (advisories ≡ Some file)
-    × IsFileFault file (Some (record { kind = kind; name = string_bytes name.text; place = place }))
+-- the value of the advisories has a fault where the packages of this lock file are installed, at this place in the list
+-- under this name
+abbrev pub AreNoAdvisories : (checked : Data) → (advisories : Option Data) → FaultKind → ListName → (place : ℕ) → Type 0
+AreNoAdvisories checked advisories kind name place = (file : Data) × (advisories ≡ Some file)
+    × IsFileFaultBeside checked file (Some (record { kind = kind; name = string_bytes name.text; place = place }))
 
 -- Why no value was read: what was read begins with a byte order mark, or is not in UTF-8, or is no JSON text, or a read
 -- failed, or memory ran out. It ran out in a read whose error says so, or later: then all was read, and it is in UTF-8
@@ -114,7 +115,8 @@ IsRefusedAs lock linked wanted (NoLockFile fault) =
     IsNoLockFile (placed lock (manifests_of wanted.manifest linked)) wanted.manifest fault
 IsRefusedAs lock linked wanted (NoManifest fault) = IsNoManifest lock wanted.manifest fault
 IsRefusedAs lock linked wanted (NoLinked name fault) = IsNoLinked linked name fault
-IsRefusedAs lock linked wanted (NoAdvisories kind name place) = AreNoAdvisories wanted.advisories kind name place
+IsRefusedAs lock linked wanted (NoAdvisories kind name place) =
+    AreNoAdvisories (checked_lock lock wanted.manifest linked) wanted.advisories kind name place
 IsRefusedAs lock linked wanted _ = ⊥
 
 -- a lock file was read, and the manifests of linked folders were loaded, and one of these values has a fault

@@ -61,7 +61,7 @@ input_words asked (Some Inputs.Advisories) = option_words (codes "--advisories "
 abbrev pub subject_of : ArgumentsValue → StopError → List ℕ
 subject_of asked error = input_words asked (input_of error)
 
--- the name of a list of advisories, which is empty in OSV's form: `, of "lodash"`
+-- the name of a list of advisories, or the first installed package of one in OSV's form; it may be empty: `, of "lodash"`
 abbrev pub list_words : (name : List ℕ) → List ℕ
 list_words [] = []
 list_words (byte ∷ name) = codes ", of " ++ quoted (byte ∷ name)

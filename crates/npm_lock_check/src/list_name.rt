@@ -7,7 +7,8 @@ use crate::shown::write_quoted;
 use npm_advisories::FaultKind;
 use std::fmt;
 
-/// The name that a list of advisories stands under. It is empty for a list in OSV's form.
+/// The name that a list of advisories stands under. In OSV's form the first installed package that the advisory is about, and
+/// empty if there is none.
 #[derive(Debug, PartialEq, Eq, Drop)]
 pub struct ListName {
     pub text: String,

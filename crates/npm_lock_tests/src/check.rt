@@ -236,54 +236,7 @@ fn finds_the_problems_of_specs_and_workspaces(rt: HostRuntime) {
     each(&rt, &SPECS);
 }
 
-const FOLDERS: [(&str, &str); 6] = [
-    // Packages in the order of their folders' bytes, and the dependencies of each in the order of their names' bytes.
-    (
-        r#""w": {"dependencies": {"b": "1", "@s/a": "1", "B": "1"}}, "node_modules/z": {"dependencies": {"a": "1"}},
-            "node_modules/Z": {"dependencies": {"a": "1"}}"#,
-        "missing a of node_modules/Z, missing a of node_modules/z, missing @s/a of w, missing B of w, missing b of w",
-    ),
-    // Folders that are no packages, many deep: the nearest `node_modules` above counts.
-    (
-        r#""f/f/f/f": {"version": "1.0.0", "dependencies": {"a": "1", "b": "1", "c": "1", "node_modules": "1"}},
-            "node_modules/a": {"version": "2.0.0"}, "f/f/node_modules/a": {"version": "1.0.0"},
-            "f/node_modules/b": {"version": "2.0.0"}, "f/f/node_modules": {"version": "1.0.0"}"#,
-        "invalid b of f/f/f/f, missing c of f/f/f/f, missing node_modules of f/f/f/f",
-    ),
-    // A package in another, and again.
-    (
-        r#""node_modules/a": {"version": "1.0.0", "dependencies": {"a": "2"}},
-            "node_modules/a/node_modules/a": {"version": "2.0.0", "dependencies": {"a": "3"}},
-            "node_modules/a/node_modules/a/node_modules/a": {"version": "3.0.0", "dependencies": {"a": "4", "b": "1"}}"#,
-        "invalid a of node_modules/a/node_modules/a/node_modules/a, missing b of node_modules/a/node_modules/a/node_modules/a",
-    ),
-    // Names with two parts, names that begin alike, and names with empty parts.
-    (
-        r#""": {"dependencies": {"@s/p": "1", "@s/q": "1", "@s": "1", "p": "1", "@": "1"}},
-            "node_modules/@s/p": {"version": "1.0.0"}, "node_modules/@s/q/r": {"version": "1.0.0"}"#,
-        "missing @, missing @s, missing @s/q, missing p",
-    ),
-    (
-        r#""": {"dependencies": {"": "1", "/": "1", "a/": "1", "/a": "1", "a": "1"}},
-            "node_modules/": {"version": "2.0.0"}, "node_modules/a/": {"version": "1.0.0"},
-            "node_modules//a": {"version": "2.0.0"}, "/node_modules/a": {"version": "1.0.0"}"#,
-        "invalid , missing /, invalid /a, missing a",
-    ),
-    // From a folder that leads up from the root no name is looked up in the root.
-    (
-        r#""../x": {"version": "1.0.0", "dependencies": {"a": "1", "b": "1", "c": "1"}},
-            "../x/node_modules/a": {"version": "1.0.0"}, "../node_modules/b": {"version": "1.0.0"},
-            "node_modules/c": {"version": "1.0.0"}"#,
-        "missing c of ../x",
-    ),
-];
-
-#[test]
-fn finds_the_problems_of_folders(rt: HostRuntime) {
-    each(&rt, &FOLDERS);
-}
-
-fn each(rt: &(impl Abort + AllocGlobal), rows: &[(&str, &str)]) {
+pub fn each(rt: &(impl Abort + AllocGlobal), rows: &[(&str, &str)]) {
     for (packages, problems) in rows {
         assert!(rt;
             finds_in_packages(rt.alloc(), packages, problems),

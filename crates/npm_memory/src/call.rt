@@ -2,6 +2,7 @@
 use crate::answer;
 use crate::answer::Answer;
 use crate::list::{text_of_found, text_of_mismatches, text_of_problems, text_of_texts};
+use crate::picked::picked;
 use memory_trials::{CallError, Trial};
 use node_semver::Version;
 use npm_advisories::{LockError, Severity, audit_lock};
@@ -9,7 +10,8 @@ use npm_lock::{CheckError, Dependents, Problems};
 use serde_json::Value;
 use std::alloc::{AllocError, Global};
 
-/// A call and its arguments: a lock file, or advisories; a manifest, or a lock file; and a text.
+/// A call and its arguments: a lock file, advisories, or the document of a package; a manifest, a lock file, or options; and
+/// a text.
 #[derive(Drop)]
 pub(crate) struct Call {
     name: Name,
@@ -34,6 +36,8 @@ enum Name {
     Dependents,
     /// From the severity of the text on.
     Audit,
+    /// For the text, with the options of the second value.
+    Pick,
 }
 
 impl Trial for Call {
@@ -66,6 +70,7 @@ impl Trial for Call {
             Name::Folders => folders(alloc, first),
             Name::Dependents => dependents(alloc, first, text),
             Name::Audit => audited(alloc, first, second, text),
+            Name::Pick => picked(alloc, first, second, text),
         }
     }
 
@@ -94,6 +99,7 @@ fn name_of(name: &str) -> Option<Name> {
         "npm_lock::linked_folders" => Name::Folders,
         "Dependents::of_lock" => Name::Dependents,
         "npm_advisories::audit_lock" => Name::Audit,
+        "npm_pick::pick" => Name::Pick,
         _ => return None,
     })
 }

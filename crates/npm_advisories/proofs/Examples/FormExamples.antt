@@ -118,31 +118,54 @@ low_is_above_info = refl
 
 -- ---- faults
 
-pub a_version_has_no_fault : IsFileFault in_osvs None
+-- the names of installed packages
+abbrev installed : List (List ℕ)
+installed = codes "b" ∷ codes "a" ∷ []
+
+pub a_version_has_no_fault : IsFileFault installed in_osvs None
 a_version_has_no_fault is_version told = rw (told.passes (codes "2.0.0") (release 2 0 0) two) refl
 
-pub a_string_is_no_file : IsFileFault (string []) (Some (record { kind = Faults.File; name = []; place = 0 }))
+pub a_string_is_no_file : IsFileFault installed (string []) (Some (record { kind = Faults.File; name = []; place = 0 }))
 a_string_is_no_file is_version told = refl
 
 -- an element about a repository alone has no `package`, or `null`
-pub no_package_has_no_fault : IsFileFault (osv_of (item (only (codes "package") null) (item (object no_members)
+pub no_package_has_no_fault : IsFileFault installed (osv_of (item (only (codes "package") null) (item (object no_members)
     no_items))) None
 no_package_has_no_fault is_version told = refl
 
 -- another type of a range, and none
-pub another_type_is_a_fault : IsFileFault (osv_of (item (element (codes "npm")
+pub another_type_is_a_fault : IsFileFault installed (osv_of (item (element (codes "npm")
     (item (up_to (codes "semver") (codes "2.0.0")) no_items)) no_items))
-    (Some (record { kind = Faults.Type; name = []; place = 0 }))
+    (Some (record { kind = Faults.Type; name = codes "a"; place = 0 }))
 another_type_is_a_fault is_version told = refl
 
 -- the second of a list has no `id`
-pub a_fault_has_its_place : IsFileFault (array (item in_osvs (item (only (codes "affected") null) no_items)))
-    (Some (record { kind = Faults.OsvId; name = []; place = 1 }))
+pub a_fault_has_its_place : IsFileFault installed (array (item in_osvs (item (only (codes "affected")
+    (array (item (element (codes "npm") no_items) no_items))) no_items)))
+    (Some (record { kind = Faults.OsvId; name = codes "a"; place = 1 }))
 a_fault_has_its_place is_version told = rw (told.passes (codes "2.0.0") (release 2 0 0) two) refl
 
 -- an event with two members is none, whatever their texts
-pub two_members_are_no_event : IsFileFault (osv_of (item (element (codes "npm") (item (object
+pub two_members_are_no_event : IsFileFault installed (osv_of (item (element (codes "npm") (item (object
     (member (codes "type") (string (codes "SEMVER")) (member (codes "events") (array (item (object
     (member (codes "fixed") (string (codes "2.0.0")) (member (codes "introduced") (string (codes "0")) no_members)))
-    no_items)) no_members))) no_items)) no_items)) (Some (record { kind = Faults.Event; name = []; place = 0 }))
+    no_items)) no_members))) no_items)) no_items)) (Some (record { kind = Faults.Event; name = codes "a"; place = 0 }))
 two_members_are_no_event is_version told = refl
+
+-- ---- what is not about an installed package
+
+-- neither an object without `id` about `a`, nor one that names no package
+pub about_none_has_no_fault : IsFileFault (codes "b" ∷ []) (array (item (only (codes "affected")
+    (array (item (element (codes "npm") no_items) no_items))) (item (object no_members) no_items))) None
+about_none_has_no_fault is_version told = refl
+
+-- an object whose `affected` is no list may be about any package
+pub about_any_is_a_fault : IsFileFault [] (array (item (only (codes "affected") (string [])) no_items))
+    (Some (record { kind = Faults.OsvId; name = []; place = 0 }))
+about_any_is_a_fault is_version told = refl
+
+-- of `{"a": "", "b": ""}` the fault is that of `b`, if `b` alone is installed
+pub no_list_of_an_installed_name : IsFileFault (codes "b" ∷ [])
+    (object (member (codes "a") (string []) (member (codes "b") (string []) no_members)))
+    (Some (record { kind = Faults.List; name = codes "b"; place = 0 }))
+no_list_of_an_installed_name is_version told = refl

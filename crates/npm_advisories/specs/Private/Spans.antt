@@ -22,6 +22,11 @@ pub record IsHitBy (level : Severity) (installed : Option VersionValue) (advisor
 abbrev pub IsInRange : List Advisory → VersionValue → Type 0
 IsInRange advisories v = AnyByRecursion (λ advisory. RangeContains (sets_of_answer advisory.range) v) advisories
 
+-- none of them is about a version that is known
+abbrev pub IsPast : List Advisory → Option VersionValue → Type 0
+IsPast advisories (Some v) = ¬ IsInRange advisories v
+IsPast advisories None = ⊥
+
 -- the spans can be those of a range, and contain these versions
 pub record Contain (spans : List (Ends VersionValue)) (Has : VersionValue → Type 0) : Type 0 where
   pub holds : IsRangeValue spans

@@ -1,17 +1,49 @@
 //! What is no advisories in OSV's form.
 
 use super::about_a;
-use crate::checks::finds;
-use npm_advisories::Severity;
+use crate::checks::has_fault;
 use std::alloc::Global;
 
-// A text, and its fault: its kind, its name, which is empty in this form, and its place. Those with no fault are read.
-const TEXTS: [(&str, &str); 10] = [
+// A text, and its fault: its kind, the first installed package that the advisory is about, if there is one, and its place. Those with
+// no fault are read.
+const TEXTS: [(&str, &str); 15] = [
     ("[1]", "Advisory  0"),
-    (r#"[{"id": "O"}, {"id": 1}]"#, "OsvId  1"),
-    (r#"{"id": 1}"#, "List id 0"),
-    (r#"{"id": "O", "withdrawn": true}"#, "Withdrawn  0"),
-    (r#"{"id": "O", "withdrawn": null}"#, ""),
+    (
+        r#"[{"id": "O"}, {"id": 1, "affected": [{"package": {"ecosystem": "npm", "name": "a"}}]}]"#,
+        "OsvId a 1",
+    ),
+    (
+        r#"[{"affected": [{"package": {"ecosystem": "npm", "name": "a"}}], "withdrawn": true}]"#,
+        "OsvId a 0",
+    ),
+    (
+        r#"{"id": "O", "withdrawn": true, "affected": [{"package": {"ecosystem": "npm", "name": "a"}, "ranges": 1}]}"#,
+        "Withdrawn a 0",
+    ),
+    (
+        r#"{"id": "O", "withdrawn": null, "affected": [{"package": {"ecosystem": "npm", "name": "b"}}]}"#,
+        "",
+    ),
+    // What is about packages that are not installed is not read: `c` is not, nor is one of another ecosystem.
+    (r#"[{"id": "O"}, {"id": 1}, {"withdrawn": 1}]"#, ""),
+    (
+        r#"[{"id": 1, "affected": [{"package": {"ecosystem": "npm", "name": "c"}, "ranges": 1}, {"package": null}]}]"#,
+        "",
+    ),
+    (
+        r#"[{"withdrawn": 1, "affected": [{"package": {"ecosystem": "PyPI", "name": "a"}, "versions": 1}]}]"#,
+        "",
+    ),
+    (
+        r#"{"id": "O", "affected": [{"package": {"ecosystem": "npm", "name": "c"}, "ranges": 1},
+            {"package": {"ecosystem": "npm", "name": "b"}, "versions": 1}]}"#,
+        "Versions b 0",
+    ),
+    (
+        r#"[{"id": "O", "affected": [{"package": {"ecosystem": "npm", "name": "c"}, "versions": 1}]},
+            {"id": "P", "affected": [{"package": {"ecosystem": "npm", "name": "c"}}, {}, 1]}]"#,
+        "Package  1",
+    ),
     (r#"{"id": "O", "affected": {}}"#, "Affected  0"),
     (
         r#"{"id": "O", "affected": {}, "withdrawn": "2022-01-01T00:00:00Z"}"#,
@@ -30,53 +62,53 @@ const TEXTS: [(&str, &str); 10] = [
 
 // Members of an element of `affected`, and the fault.
 const MEMBERS: [(&str, &str); 13] = [
-    (r#""ranges": {}"#, "Ranges  0"),
-    (r#""ranges": [{"events": []}]"#, "Type  0"),
+    (r#""ranges": {}"#, "Ranges a 0"),
+    (r#""ranges": [{"events": []}]"#, "Type a 0"),
     (
         r#""ranges": [{"type": "SEMVER", "events": {}}]"#,
-        "Events  0",
+        "Events a 0",
     ),
     (
         r#""ranges": [{"type": "SEMVER", "events": [{}]}]"#,
-        "Event  0",
+        "Event a 0",
     ),
     (
         r#""ranges": [{"type": "SEMVER", "events": [{"introduced": "1.2"}]}]"#,
-        "Event  0",
+        "Event a 0",
     ),
     (
         r#""ranges": [{"type": "SEMVER", "events": [{"fixed": "0"}]}]"#,
-        "Event  0",
+        "Event a 0",
     ),
     (
         r#""ranges": [{"type": "SEMVER", "events": [{"introduced": "0", "fixed": "1.0.0"}]}]"#,
-        "Event  0",
+        "Event a 0",
     ),
     (
         r#""ranges": [{"type": "SEMVER", "events": [{"introduced": "0"}, {"limit": "1.0"}]}]"#,
-        "Event  0",
+        "Event a 0",
     ),
     (
         r#""ranges": [{"type": "SEMVER", "events": [{"limit": "1.0.0", "fixed": "1.0.0"}]}]"#,
-        "Event  0",
+        "Event a 0",
     ),
     (
         r#""ranges": [{"type": "ECOSYSTEM", "events": [{"introduced": "*"}]}]"#,
-        "Event  0",
+        "Event a 0",
     ),
-    (r#""ranges": [{"type": "semver", "events": []}]"#, "Type  0"),
+    (
+        r#""ranges": [{"type": "semver", "events": []}]"#,
+        "Type a 0",
+    ),
     // Of two faults the first is told.
-    (r#""ranges": [{"type": 1}], "versions": 1"#, "Type  0"),
-    (r#""versions": "1.0.0""#, "Versions  0"),
+    (r#""ranges": [{"type": 1}], "versions": 1"#, "Type a 0"),
+    (r#""versions": "1.0.0""#, "Versions a 0"),
 ];
 
 #[test]
 fn refuses_what_the_schema_does_not_allow(rt: HostRuntime) {
     for (text, wanted) in &TEXTS {
-        assert!(rt;
-            finds(rt.alloc(), text, Severity::Info, &[], wanted),
-            "{text}"
-        );
+        assert!(rt; has_fault(rt.alloc(), text, wanted), "{text}");
     }
     for (members, wanted) in &MEMBERS {
         assert!(rt; refuses_members(rt.alloc(), members, wanted), "{members}");
@@ -85,7 +117,7 @@ fn refuses_what_the_schema_does_not_allow(rt: HostRuntime) {
 
 fn refuses_members(alloc: Global, members: &str, wanted: &str) -> bool {
     match &about_a(alloc, members) {
-        Ok(text) => finds(alloc, text, Severity::Info, &[], wanted),
+        Ok(text) => has_fault(alloc, text, wanted),
         Err(_) => false,
     }
 }

@@ -1,7 +1,7 @@
 -- What the definitions say of some versions of installed packages.
 use Rattle.std.proofs.Common.{◌≡◌, codes, refl, false}
 use lib.Utf8.{encode}
-use Rattle.std.proofs.Common.{List, ℕ, ◌++◌, ◌∷◌, []}
+use Rattle.std.proofs.Common.{◌++◌, ◌∷◌, []}
 use Rattle.std.specs.Char.{is_ascii_digit}
 use Rattle.std.specs.Prelude.{slice_index}
 use Rattle.std.specs.Str.{chars}

@@ -1,5 +1,5 @@
 -- What an index of the patterns of workspaces says of a folder.
-use Rattle.std.specs.Prelude.{◌≡◌, ◌||◌, ℕ, List, Bool, if◌then◌else◌, codes, is_some, nat_eq}
+use Rattle.std.specs.Prelude.{◌||◌, ℕ, List, Bool, if◌then◌else◌, codes, is_some, nat_eq}
 use Rattle.std.specs.BTreeMap.{get_by}
 use Rattle.std.specs.Cmp.Lexicographic.{slice_cmp}
 use Rattle.std.specs.List.{ends_with, list_any}

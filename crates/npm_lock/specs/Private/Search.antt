@@ -1,15 +1,11 @@
 -- The folders in which a name is looked up, and what is found there.
-use Rattle.std.specs.Prelude.{◌≡◌, ◌⊎◌, ◌≤◌, ℕ, List, [], ◌∷◌, ◌++◌, false, Option, Some, None, length}
-use Rattle.std.specs.Prelude.{if◌then◌else◌, nat_lt}
-use Rattle.std.specs.List.{AllByRecursion}
+use Rattle.std.specs.Prelude.{◌≡◌, ◌⊎◌, ◌≤◌, ℕ, List, [], ◌∷◌, ◌++◌, Option, Some, length}
 use Rattle.std.specs.Option.{IfSome}
 use Rattle.serde_json.specs.Data.{Data}
-use Rattle.npm_lock.specs.Folders.{IsAbove, IsOutermost, is_modules, place_in}
-use Rattle.npm_lock.specs.Packages.{package_at}
-use Rattle.npm_lock.specs.Private.Index.{HasPlace, IsAt}
+use Rattle.npm_lock.specs.Folders.{IsAbove, IsOutermost}
+use Rattle.npm_lock.specs.Packages.{IsFoundIn, Package}
 use Rattle.npm_lock.specs.Private.PackageValue.{package_value}
-use Rattle.npm_lock.specs.declared.index.Candidate.{Candidate}
-use Rattle.npm_lock.specs.declared.search.Hit.{Hit}
+use Rattle.npm_lock.specs.declared.index.Hit.{Hit}
 
 -- a folder in which names are looked up from another: that one, or one above it
 pub data IsReached : (from to : List ℕ) → Type 0 where
@@ -25,40 +21,21 @@ pub record IsOutermostFrom (from outermost : List ℕ) : Type 0 where
 abbrev pub IsFront : (path front : List ℕ) → Type 0
 IsFront path front = (front ≡ []) ⊎ (path ≡ front) ⊎ ((rest : List ℕ) × (path ≡ front ++ (47 ∷ rest)))
 
--- the name has this place in the `node_modules` of a folder in which it is looked up
-pub record IsPlaceOf (from name place folder : List ℕ) : Type 0 where
-  pub is : place ≡ place_in folder name
-  pub reached : IsReached from folder
-  pub no_modules : is_modules folder ≡ false
+-- a text begins with these bytes
+abbrev pub BeginsWith : (text start : List ℕ) → Type 0
+BeginsWith text start = (rest : List ℕ) × (text ≡ start ++ rest)
 
 -- the package of a hit is in the `node_modules` of its folder, in which the name is looked up
 pub record IsHit (packages : Data) (from name : List ℕ) (hit : Hit) : Type 0 where
   pub reached : IsReached from hit.folder.now
-  pub no_modules : is_modules hit.folder.now ≡ false
-  pub there : package_at packages (place_in hit.folder.now name) ≡ Some (package_value hit.found)
+  pub found : IsFoundIn packages name hit.folder.now (package_value hit.found)
 
 -- the hit is at least as near as this folder
 abbrev pub IsCovered : Option Hit → (folder : List ℕ) → Type 0
 IsCovered best folder = (hit : Hit) × (best ≡ Some hit) × (length folder ≤ length hit.folder.now)
 
--- the nearest hit among these candidates
-pub record IsNearest (packages : Data) (from name : List ℕ) (candidates : List Candidate) (best : Option Hit)
-    : Type 0 where
+-- the nearest hit, if there is one
+pub record IsNearest (packages : Data) (from name : List ℕ) (best : Option Hit) : Type 0 where
   pub hit : IfSome best (IsHit packages from name)
-  pub nearest : (place folder : List ℕ) → HasPlace place candidates → IsPlaceOf from name place folder
+  pub nearest : (folder : List ℕ) (found : Package) → IsReached from folder → IsFoundIn packages name folder found
       → IsCovered best folder
-
--- the nearest hit among the candidates so far, and those that are left
-pub record IsNearestSoFar (packages : Data) (from name : List ℕ) (candidates left : List Candidate)
-    (best : Option Hit) : Type 0 where
-  pub right : AllByRecursion (IsAt packages) left
-  pub hit : IfSome best (IsHit packages from name)
-  pub nearest : (place folder : List ℕ) → HasPlace place candidates → IsPlaceOf from name place folder
-      → IsCovered best folder ⊎ HasPlace place left
-
--- the nearer of two
-abbrev pub nearer : Option Hit → Option Hit → Option Hit
-nearer None second = second
-nearer (Some first) None = Some first
-nearer (Some first) (Some second) =
-    if nat_lt (length first.folder.now) (length second.folder.now) then Some second else Some first

@@ -4,6 +4,7 @@ use Rattle.std.specs.Prelude.{◌≡◌, ◌⊎◌, ℕ, List, Option, Some, str
 use Rattle.serde_json.specs.Data.{Data}
 use Rattle.npm_lock.specs.Faults.{lock_fault}
 use Rattle.npm_lock.specs.Mismatches.{manifest_fault}
+use Rattle.npm_lock.specs.VersionOne.{converted}
 use Rattle.npm_lock.specs.declared.fault.Fault.{Fault}
 use Rattle.npm_advisories.specs.Faults.{FaultValue}
 use Rattle.npm_advisories.specs.declared.fault.FaultKind.{FaultKind}
@@ -56,15 +57,17 @@ AreRefusedAs fault error = ((name : ListName) × (error ≡ NoAdvisories fault.k
     × (string_bytes name.text ≡ fault.name)) ⊎ (error ≡ Memory)
 
 -- the advisories of a check
-abbrev pub AreAdvisoriesRefused : (advisories : Option Data) → RunError → Type 0
-AreAdvisoriesRefused advisories error = (kind : FaultKind) × (name : ListName) × (place : ℕ)
-    × (error ≡ NoAdvisories kind name place) × AreNoAdvisories advisories kind name place
+abbrev pub AreAdvisoriesRefused : (checked : Data) → (advisories : Option Data) → RunError → Type 0
+AreAdvisoriesRefused checked advisories error = (kind : FaultKind) × (name : ListName) × (place : ℕ)
+    × (error ≡ NoAdvisories kind name place) × AreNoAdvisories checked advisories kind name place
 
 -- the advisories, or the lock file for them
 abbrev pub IsAuditRefused : (checked : Data) → (advisories : Option Data) → RunError → Type 0
-IsAuditRefused checked advisories error = AreAdvisoriesRefused advisories error ⊎ IsCheckRefused checked error
+IsAuditRefused checked advisories error =
+    AreAdvisoriesRefused checked advisories error ⊎ IsCheckRefused checked error
 
 -- any of them
 abbrev pub IsRefused : (lock placed : Data) → (linked : List LinkedValue) → WantedValue → RunError → Type 0
 IsRefused lock placed linked wanted error = IsCompareRefused lock wanted.manifest linked error
-    ⊎ AreAdvisoriesRefused wanted.advisories error ⊎ IsLockRefused placed wanted.manifest error
+    ⊎ AreAdvisoriesRefused (converted placed wanted.manifest) wanted.advisories error
+    ⊎ IsLockRefused placed wanted.manifest error

@@ -1,5 +1,5 @@
 -- With prereleases included a text admits what the sets of its range contain.
-use Rattle.std.proofs.Common.{◌≡◌, codes, rules}
+use Rattle.std.proofs.Common.{◌≡◌, rules}
 use Rattle.serde_json.specs.View.{view}
 use Rattle.npm_advisories.specs.Advisories.{npm_range_text}
 use Rattle.npm_advisories.proofs.advisory.range_of.Goals as goal

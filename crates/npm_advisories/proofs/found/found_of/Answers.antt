@@ -4,26 +4,33 @@ use Rattle.std.specs.List.{AllZip}
 use Rattle.npm_advisories.specs.Advisories.{about_name, about_value}
 use Rattle.npm_advisories.specs.Audit.{version_or_least}
 use Rattle.npm_advisories.specs.Hits.{AreHits, none}
+use Rattle.npm_advisories.specs.Private.Index.{at_name}
 use Rattle.npm_advisories.specs.Private.Reading.{IsAdvisory}
 use Rattle.npm_advisories.proofs.Auditing.{empty-of, some-of}
-use Rattle.npm_advisories.proofs.Indexing.{index-named}
-use Rattle.npm_advisories.proofs.Keeping.{admitted-same, hits-same, unhit-same}
+use Rattle.npm_advisories.proofs.Keeping.{admitted-same, hits-same, none-hit, unhit-same}
 use Rattle.npm_advisories.proofs.Results.{same-offer}
 use Rattle.npm_advisories.proofs.found.found_of.Goals as goal
 
 pub returns-in_default : goal.returns-in_default
-returns-in_default c = λ values is v text.
+returns-in_default c = λ values are v text.
     let name = c.args.installed.now.name.now in
     hits-same c.args.level v (about_name name values) [] []
-    (subst (AllZip IsAdvisory (about_name name values)) (sym c.in_default.ensures)
-    (index-named name values c.args.index.now is)) none
+    (subst (AllZip IsAdvisory (about_name name values)) (sym c.in_default.ensures) are) none
 
-pub returns-then-is_empty : goal.returns-then-is_empty
-returns-then-is_empty c = λ values is v text.
+pub returns-then-are_past : goal.returns-then-are_past
+returns-then-are_past c = λ values are v text.
     let name = c.args.installed.now.name.now in
     let version = c.read_version-version.result in
-    let read = subst (AllZip IsAdvisory (about_name name values)) (sym c.in-Some.ensures)
-    (index-named name values c.args.index.now is) in
+    let past = c.are_past.ensures c.args.index.now c.requires c.if-are_past.true in
+    subst (λ w. AreHits c.args.level w (about_name name values) []) (sym (c.read_version-version.ensures.only v text))
+    (hits-same c.args.level version (about_name name values) (at_name c.args.index.now name) [] are
+    (none-hit c.args.level version (at_name c.args.index.now name) past))
+
+pub returns-then-is_empty : goal.returns-then-is_empty
+returns-then-is_empty c = λ values are v text.
+    let name = c.args.installed.now.name.now in
+    let version = c.read_version-version.result in
+    let read = subst (AllZip IsAdvisory (about_name name values)) (sym c.in-Some.ensures) are in
     let none : c.in_ok-hits.hits.items ≡ [] =
     sym c.as_slice.ensures.value ∙ empty-of c.as_slice.result.now (sym c.is_empty.ensures ∙ c.if-is_empty.true) in
     subst (λ w. AreHits c.args.level w (about_name name values) []) (sym (c.read_version-version.ensures.only v text))
@@ -34,12 +41,11 @@ pub offer_above-requires : goal.offer_above-requires
 offer_above-requires c = c.read_version-version.ensures.end
 
 pub returns : goal.returns
-returns c = λ values is.
+returns c = λ values are.
     let name = c.args.installed.now.name.now in
     let version = c.read_version-version.result in
     let advisories = about_name name values in
-    let read = subst (AllZip IsAdvisory (about_name name values)) (sym c.in-Some.ensures)
-    (index-named name values c.args.index.now is) in
+    let read = subst (AllZip IsAdvisory (about_name name values)) (sym c.in-Some.ensures) are in
     let some = some-of about_value c.as_slice.result.now (sym c.is_empty.ensures ∙ c.if-is_empty.false) in
     record {
       version = version;

@@ -1,5 +1,5 @@
 -- What lies outside the spans is what is offered.
-use Rattle.std.proofs.Common.{◌≡◌, map, subst, sym}
+use Rattle.std.proofs.Common.{map}
 use Rattle.npm_advisories.proofs.Offering.{contain-joined, outside-admitted, outside-unhit}
 use Rattle.npm_advisories.proofs.Results.{same-offer}
 use Rattle.npm_advisories.proofs.offer.offer_of.Goals as goal

@@ -7,6 +7,7 @@ use Rattle.npm_advisories.specs.Advisories.{AboutValue, AdvisoryValue, about_val
 use Rattle.npm_advisories.specs.OsvFaults.{affected_fault}
 use Rattle.npm_advisories.specs.OsvForm.{affected_list, npm_name, osv_affected}
 use Rattle.npm_advisories.specs.Private.VersionTest.{is_version}
+use Rattle.npm_advisories.specs.Private.Index.{has_name}
 use Rattle.npm_advisories.proofs.Indexing.{adds-both}
 use Rattle.npm_advisories.proofs.Walking.{fault-found, fault-passed, read-passed}
 use Rattle.npm_advisories.proofs.osv.add_affected.Goals as goal
@@ -21,17 +22,17 @@ loop-one-preserved c =
     let value = part about (view c.one-item.result) in
     record {
       front = c.loop-one.invariant.front ++ value;
-      adds = adds-both _ _ _ c.loop-one.invariant.front value c.loop-one.invariant.adds c.in_ok-add_one.ensures.read;
+      adds = adds-both (has_name c.args.names.now) _ _ _ c.loop-one.invariant.front value c.loop-one.invariant.adds c.in_ok-add_one.ensures.read;
       rest = read-passed c.args.affected.now c.loop-one.one-index c.one-item.result c.loop-one-test.true c.one-item.is
           (affected_list about) (part about) (λ d others. refl) _ c.loop-one.invariant.front c.loop-one.invariant.rest;
       fault = fault-passed c.args.affected.now c.loop-one.one-index c.one-item.result c.loop-one-test.true c.one-item.is
-          (affected_fault is_version) _ c.in_ok-add_one.ensures.sound c.loop-one.invariant.fault;
+          (affected_fault is_version (has_name c.args.names.now)) _ c.in_ok-add_one.ensures.sound c.loop-one.invariant.fault;
     }
 
 pub returns-in_err-add_one-clause-refused : goal.returns-in_err-add_one-clause-refused
 returns-in_err-add_one-clause-refused c =
     let fault = fault-found c.args.affected.now c.loop-one.one-index c.one-item.result c.loop-one-test.true
     c.one-item.is
-    (affected_fault is_version) _ c.in_err-add_one.field-0.0 c.in_err-add_one.ensures.refused c.loop-one.invariant.fault
+    (affected_fault is_version (has_name c.args.names.now)) _ c.in_err-add_one.field-0.0 c.in_err-add_one.ensures.refused c.loop-one.invariant.fault
     in
     search (rules, fault)

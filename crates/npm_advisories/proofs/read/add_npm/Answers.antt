@@ -5,6 +5,7 @@ use Rattle.std.specs.Option.{option_map_or}
 use Rattle.serde_json.specs.Find.{as_array}
 use Rattle.serde_json.specs.View.{members_view, view}
 use Rattle.npm_advisories.specs.Advisories.{npm_list, npm_members}
+use Rattle.npm_advisories.specs.Private.Index.{has_name}
 use Rattle.npm_advisories.proofs.Indexing.{adds-both}
 use Rattle.npm_advisories.proofs.read.add_npm.Goals as goal
 
@@ -16,7 +17,7 @@ loop-name-preserved c =
     let sound = rw c.as_str.ensures.value at c.in_ok-read_member.ensures.sound in
     record {
       front = c.loop-name.invariant.front ++ here;
-      adds = adds-both _ _ _ c.loop-name.invariant.front here c.loop-name.invariant.adds
+      adds = adds-both (has_name c.args.names.now) _ _ _ c.loop-name.invariant.front here c.loop-name.invariant.adds
           (rw c.as_str.ensures.value at c.in_ok-read_member.ensures.read);
       rest = rest ∙ sym (append_assoc c.loop-name.invariant.front here (npm_members (members_view c.next.new.self)));
       fault = fault ∙ (rw sound refl);

@@ -1,14 +1,13 @@
 -- Each name is the first that is left of both groups.
-use Rattle.std.proofs.Common.{◌≡◌, ◌∙◌, ◌∷◌, ◌++◌, [], ℕ, List, Option, Some, None, ap, append_assoc, append-nil, arith}
+use Rattle.std.proofs.Common.{◌≡◌, ◌∙◌, ◌∷◌, ◌++◌, [], ℕ, List, ap, append-nil, arith}
 use Rattle.std.proofs.Common.{inl, inr}
-use Rattle.std.proofs.Common.{map, option_and_then, option_map, refl, rules, sym, unwrap_or}
+use Rattle.std.proofs.Common.{map, option_and_then, option_map, refl, rules, sym}
 use Rattle.std.specs.List.{filter_map}
 use Rattle.std.specs.Option.{option_to_list}
-use Rattle.serde_json.specs.Data.{no_members}
 use Rattle.serde_json.specs.Find.{as_str, get, get_member}
-use Rattle.serde_json.specs.View.{members_view, view}
-use Rattle.npm_lock.specs.Mismatches.{MismatchValue, group_text, mismatch_of, mismatch_value}
-use Rattle.npm_lock.specs.Private.GroupSpecs.{IsFirstOf, left_of}
+use Rattle.serde_json.specs.View.{view}
+use Rattle.npm_lock.specs.Mismatches.{group_text, mismatch_of, mismatch_value}
+use Rattle.npm_lock.specs.Private.GroupSpecs.{left_of}
 use Rattle.npm_lock.proofs.GroupWalk.{group_names, in_members, grown, is_there, next_names, none_left, was_there}
 use Rattle.npm_lock.proofs.manifest.add_group.Goals as goal
 

@@ -3,7 +3,7 @@ use Rattle.std.proofs.Common.{◌≡◌, ◌∙◌, ℕ, List, None, Option, Som
 use denote.Ref.{Bor}
 use Rattle.std.specs.Option.{MatchOption}
 use Rattle.serde_json.specs.Data.{Members}
-use Rattle.npm_lock.specs.Private.GroupSpecs.{HasNone, IsFirstOf, first_key, left_of}
+use Rattle.npm_lock.specs.Private.GroupSpecs.{HasNone, IsFirstOf, first_key}
 use Rattle.npm_lock.proofs.GroupWalk.{first_alone, first_locked, first_of_locked, first_of_specs, no_first}
 use Rattle.npm_lock.proofs.manifest.first_name.Goals as goal
 use Rattle.npm_lock.proofs.manifest.first_name.Goals.{in_default-name-via-in-Some-name+else-lt}

@@ -1,5 +1,5 @@
 -- The map has the changed value under its name, or is what it was.
-use Rattle.std.proofs.Common.{◌≡◌, ◌∙◌, None, Some, ap, refl, sym}
+use Rattle.std.proofs.Common.{◌∙◌, ap, sym}
 use Rattle.std.specs.Option.{option_copied_mut}
 use Rattle.serde_json.specs.View.{view}
 use Rattle.npm_lock.specs.ManifestPlace.{with_member}

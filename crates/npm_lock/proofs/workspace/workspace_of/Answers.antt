@@ -1,5 +1,5 @@
 -- The index says which case of the definition this is.
-use Rattle.std.proofs.Common.{◌≡◌, false, subst, sym}
+use Rattle.std.proofs.Common.{subst}
 use Rattle.serde_json.specs.View.{view}
 use Rattle.npm_lock.specs.Folders.{IsInstalled}
 use Rattle.npm_lock.specs.Workspaces.{IsWorkspace, installed}

@@ -1,9 +1,9 @@
 -- The end is doubtful, or it is not.
 use Rattle.std.proofs.Common.{◌≡◌, ◌∙◌, rules, subst, sym}
 use Rattle.std.specs.List.{Contains}
-use Rattle.semver_cuts.specs.Ends.{IsCutAtMost, IsCutBelow}
+use Rattle.semver_cuts.specs.Ends.{IsCutAtMost}
 use Rattle.node_semver.specs.Cuts.{After, Before}
-use Rattle.node_semver.specs.Versions.{VersionValue, version_cmp}
+use Rattle.node_semver.specs.Versions.{version_cmp}
 use Rattle.npm_advisories.specs.OsvRanges.{IsReachedBefore}
 use Rattle.npm_advisories.specs.Private.OsvReading.{IsNextEnd}
 use Rattle.npm_advisories.proofs.OsvEnds.{doubtful, ends-here}

@@ -1,10 +1,9 @@
 -- The first member is the name's, or no member is.
-use Rattle.std.proofs.Common.{◌≡◌, ◌∙◌, ℕ, List, true, false, None, Some, ap, bytes_eq, refl, rules, string_bytes, sym}
+use Rattle.std.proofs.Common.{◌≡◌, ℕ, List, true, false, None, bytes_eq, refl, rules, string_bytes, sym}
 use Rattle.std.proofs.lemmas.Slice.Eq.{bytes_eq-Decides}
-use Rattle.serde_json.specs.Data.{member}
 use Rattle.serde_json.specs.Find.{get_member}
 use Rattle.serde_json.specs.View.{members_view, view}
-use Rattle.npm_lock.specs.Private.GroupSpecs.{AreSorted, IsFirst, IsLeft, left_of}
+use Rattle.npm_lock.specs.Private.GroupSpecs.{left_of}
 use Rattle.npm_lock.specs.declared.group.GroupSpecs.{GroupSpecs}
 use Rattle.npm_lock.proofs.GroupWalk.{first_taken, first_value, none_taken, not_taken, not_there}
 use Rattle.npm_lock.proofs.group.GroupSpecs.take.Goals as goal

@@ -2,8 +2,9 @@
 use Rattle.std.proofs.Common.{◌≡◌, inl, inr, string_bytes}
 use Rattle.std.specs.List.Sorted.{IsStrictlySortedBy}
 use Rattle.serde_json.specs.View.{members_view, view}
+use Rattle.npm_lock.specs.Folders.{place_in}
 use Rattle.npm_lock.specs.Private.PackageValue.{packages_data}
-use Rattle.npm_lock.proofs.Candidates.{first_member, has_next, later_member, some_member}
+use Rattle.npm_lock.proofs.Indexing.{first_member, has_next, later_member, some_member}
 use Rattle.npm_lock.proofs.Groups.{absent}
 use Rattle.npm_lock.proofs.index.Index.of_lock.Goals as goal
 
@@ -13,9 +14,9 @@ loop-folder-init c =
     record {
       sorted = rw entries c.iter-folder-items.ensures.ordered;
       members = λ key value is. is;
-      sound = λ last. rw c.new.ensures.empty tt;
-      complete = λ place last found is is_last.
-          inr (rw entries (some_member (packages_data c.args.lock) place found is));
+      sound = λ name folder. rw c.new.ensures.empty tt;
+      complete = λ name folder found plain is.
+          inr (rw entries (some_member (packages_data c.args.lock) (place_in folder name) found is.found));
     }
 
 pub add_member-requires : goal.add_member-requires
@@ -38,16 +39,16 @@ loop-folder-preserved c =
           (view c.in-Some.member.now) value (members_view c.next.new.self)
           (absent c.in-Some.folder.now c.next.new.self sorted.0) is));
       sound = more.sound c.loop-folder.invariant.sound;
-      complete = λ place last found is is_last. has_next (packages_data c.args.lock) c.loop-folder.index _ place last _ _
-          (members_view c.next.new.self) found is is_last more
-          (rw c.in-Some.ensures.steps at (c.loop-folder.invariant.complete place last found is is_last));
+      complete = λ name folder found plain is. has_next (packages_data c.args.lock) c.loop-folder.index _ name folder _ _
+          (members_view c.next.new.self) found plain is more
+          (rw c.in-Some.ensures.steps at (c.loop-folder.invariant.complete name folder found plain is));
     }
 
 pub returns : goal.returns
 returns c = record {
   sound = c.loop-folder.invariant.sound;
-  complete = λ place last found is is_last. elim
-      (rw c.in-None.ensures.steps.0 at (c.loop-folder.invariant.complete place last found is is_last)) [
+  complete = λ name folder found plain is. elim
+      (rw c.in-None.ensures.steps.0 at (c.loop-folder.invariant.complete name folder found plain is)) [
         | inl there ↦ there
         | inr left ↦ cc left
       ];

@@ -1,0 +1,257 @@
+// Compares what npm_pick::pick picks with what the npm package npm-pick-manifest picks that npm itself has installed, for
+// npm_pick. The words are the program npm_pick_answers, the number of generated cases, and a number that generates other cases.
+'use strict'
+const { execFileSync } = require('child_process')
+const fs = require('fs')
+const path = require('path')
+
+const ROOT = execFileSync('npm', ['root', '-g'], { encoding: 'utf8' }).trim()
+const MODULES = path.join(ROOT, 'npm', 'node_modules')
+const pickManifest = require(path.join(MODULES, 'npm-pick-manifest'))
+const semver = require(path.join(MODULES, 'semver'))
+const npa = require(path.join(MODULES, 'npm-package-arg'))
+
+const [program, count, seed] = [process.argv[2], Number(process.argv[3]), Number(process.argv[4])]
+const isObject = value => typeof value === 'object' && value !== null && !Array.isArray(value)
+const keysOf = value => (isObject(value) ? Object.keys(value) : [])
+const isVersion = key => semver.valid(key, true) !== null
+const tagsOf = packument => (isObject(packument['dist-tags']) ? packument['dist-tags'] : {})
+const keyCase = (key, tail = {}) => ({ packument: { name: 'a', versions: { [key]: { version: key } } }, wanted: '*', ...tail })
+const withTime = time => ({
+  packument: { name: 'a', time: { '1.0.0': time }, versions: { '1.0.0': { version: '1.0.0' } } }, wanted: '*',
+})
+
+// Where npm answers otherwise: the name of a rule, which cases it covers, and an example with the answers of npm and of npm_pick.
+// crates/npm_pick/README.md has the rules by these names, with reasons.
+const RULES = [
+  {
+    name: 'equal versions',
+    covers: ({ packument }) => {
+      const keys = keysOf(packument.versions).filter(isVersion).sort(semver.compareLoose)
+      return keys.some((key, at) => at > 0 && semver.compareLoose(keys[at - 1], key) === 0)
+    },
+    example: [{ packument: { name: 'a', versions: { '1.0.0+b': { version: '1.0.0+b' }, '1.0.0+a': { version: '1.0.0+a' } } },
+      wanted: '*' }, '1.0.0+b', '1.0.0+a'],
+  },
+  {
+    name: 'a time in another form',
+    covers: ({ packument }) => Object.values(isObject(packument.time) ? packument.time : {}).some(time =>
+      time && !(typeof time === 'string' && /^\d{4}-\d\d-\d\dT\d\d:\d\d:\d\d(\.\d+)?Z$/.test(time)) && !Number.isNaN(Date.parse(time))),
+    example: [withTime('2020-01-01'), '1.0.0', '!ENOVERSIONS'],
+  },
+  {
+    name: 'a manifest that counts as false',
+    covers: ({ packument }) => Object.values(isObject(packument.versions) ? packument.versions : {}).some(value => !value),
+    example: [{ packument: { name: 'a', versions: { '1.0.0': null } }, wanted: '1.0.0' }, '!ETARGET', '1.0.0'],
+  },
+  {
+    name: 'a manifest without its version',
+    covers: ({ packument }) => Object.entries(isObject(packument.versions) ? packument.versions : {}).some(([key, value]) =>
+      value && value.version !== key),
+    example: [{ packument: { name: 'a', versions: { '1.0.0': { version: '2.0.0' } } }, wanted: '1', avoid: '2' }, '*2.0.0', '1.0.0'],
+  },
+  {
+    name: 'a tag that names no text',
+    covers: ({ packument }) => Object.values(tagsOf(packument)).some(tag => typeof tag !== 'string'),
+    example: [{ packument: { name: 'a', 'dist-tags': { next: ['1.0.0'] }, versions: { '1.0.0': { version: '1.0.0' } } },
+      wanted: 'next' }, '1.0.0', '!ETARGET'],
+  },
+  {
+    name: 'an empty text',
+    covers: ({ packument, avoid }) => avoid === '' || keysOf(packument.versions).includes(''),
+    example: [keyCase('1.0.0', { avoid: '' }), '1.0.0', '*1.0.0'],
+  },
+  {
+    name: 'members of every object',
+    covers: ({ packument }) => keysOf(packument.versions).concat(Object.values(tagsOf(packument))).some(key => key in Object.prototype),
+    example: [{ packument: { name: 'a', time: {}, versions: { constructor: { version: 'constructor' } } }, wanted: '*' },
+      '!ENOVERSIONS', '!ETARGET'],
+  },
+  {
+    name: 'a location or an alias',
+    covers: ({ wanted }) => { try { return !npa.resolve('a', wanted).registry || npa.resolve('a', wanted).type === 'alias' } catch (_) { return false } },
+    example: [keyCase('1.0.0', { wanted: 'a.tgz' }), '!OTHER', '!ETARGET'],
+  },
+  {
+    name: 'a list in place of an object',
+    covers: ({ packument }) => ['versions', 'dist-tags', 'time'].some(key => packument[key] && !isObject(packument[key])),
+    example: [{ packument: { name: 'a', versions: ['a'] }, wanted: '*' }, '!ETARGET', '!ENOVERSIONS'],
+  },
+]
+
+// ---- what npm picks
+
+function npmAnswer ({ packument, wanted, tag, before, avoid, node, npm }) {
+  const options = { nodeVersion: node || null, npmVersion: npm || null }
+  if (tag !== undefined) options.defaultTag = tag
+  if (before !== undefined) options.before = before
+  if (avoid !== undefined) options.avoid = avoid
+  try {
+    const picked = pickManifest(packument, wanted, options)
+    return (picked._shouldAvoid ? '*' : '') + picked.version
+  } catch (error) {
+    return '!' + (error.code || 'OTHER')
+  }
+}
+
+const CODES = { NoTag: 'ETARGET', NoVersion: 'ETARGET', NoneInRange: 'ETARGET', NoVersions: 'ENOVERSIONS', Wanted: 'EINVALIDTAGNAME' }
+const coded = line => (line[0] === '!' ? '!' + CODES[line.slice(1)] : line)
+
+function ourAnswers (cases) {
+  const input = cases.map(it => JSON.stringify(it) + '\n').join('')
+  const output = execFileSync(program, [], { input, encoding: 'utf8', maxBuffer: 1 << 30 })
+  return output.split('\n').slice(0, -1).map(coded)
+}
+
+// ---- generated cases
+
+let state = seed >>> 0
+function below (limit) { // mulberry32
+  state = (state + 0x6d2b79f5) >>> 0
+  let t = state
+  t = Math.imul(t ^ (t >>> 15), t | 1)
+  t ^= t + Math.imul(t ^ (t >>> 7), t | 61)
+  return ((t ^ (t >>> 14)) >>> 0) % limit
+}
+const one = list => list[below(list.length)]
+const maybe = (chance, make) => (below(100) < chance ? make() : undefined)
+const put = (object, key, value) => { if (value !== undefined) Object.defineProperty(object, key, { value, enumerable: true, writable: true, configurable: true }) }
+
+const number = () => one([0, 1, 1, 2, 3, 10])
+const prerelease = () => one(['alpha', 'beta.1', 'rc.1', 'rc.2', '0', 'x'])
+const version = () => `${number()}.${number()}.${number()}` + (below(4) ? '' : '-' + prerelease())
+const oddKey = () => one(['no', '1.2', 'v1.2.3', ' 1.0.0', '=1.1.1', '1.0.0+a', '1.0.0+b', '01.1.1', '1.2.3beta', '__proto__', 'constructor', ''])
+const key = () => (below(12) ? version() : oddKey())
+const range = () => one([
+  () => '^' + version(), () => '~' + version(), () => '>=' + version(), () => '<' + version(), () => '<=' + version(),
+  () => '>=' + version() + ' <' + version(), () => version() + ' - ' + version(), () => '^' + version() + ' || ^' + version(),
+  () => String(number()), () => number() + '.' + number(), () => number() + '.x', () => '*', () => '*', () => '', () => ' ', () => 'x',
+])()
+const time = () => one([
+  () => `202${below(4)}-0${1 + below(9)}-1${below(10)}T0${below(10)}:00:00.000Z`, () => `202${below(4)}-0${1 + below(9)}-1${below(10)}T0${below(10)}:00:00.000Z`,
+  () => `202${below(4)}-0${1 + below(9)}-1${below(10)}T0${below(10)}:00:00Z`, () => one(['no time', '', null, false, 0, {}, true, '2020-01-01', 2021, 'Jan 1 2021']),
+])
+const truth = () => one([true, false, null, 0, -0, 1, 0.5, '', 'old', [], {}, 'false'])
+const engine = () => one([() => '>=' + version(), () => '^' + number(), () => '*', () => 'no range', () => truth(), () => '>=1 <3'])()
+
+function manifest (version) {
+  if (below(200) === 0) return one([null, 0, '', 'text', 7, [], true])
+  const made = { version }
+  put(made, 'deprecated', maybe(25, truth))
+  put(made, 'engines', maybe(30, () => {
+    if (below(12) === 0) return one([null, [], 'node', 7, '', ['node >= 4']])
+    const engines = {}
+    put(engines, 'node', maybe(80, engine))
+    put(engines, 'npm', maybe(30, engine))
+    return engines
+  }))
+  return made
+}
+
+function packument () {
+  const made = { name: 'a' }
+  const keys = Array.from({ length: below(9) }, key)
+  const all = {}
+  for (const key of keys) put(all, key, manifest(key))
+  put(made, 'versions', below(60) ? all : one([null, [], 'no', 7, undefined]))
+  const tag = () => (keys.length && below(6) ? one(keys) : one([version(), 'no', 'constructor', 7, null]))
+  const tags = {}
+  put(tags, 'latest', maybe(80, tag))
+  put(tags, 'next', maybe(50, tag))
+  put(tags, 'beta', maybe(20, tag))
+  put(made, 'dist-tags', below(40) ? tags : one([null, [], 'no', undefined]))
+  put(made, 'time', maybe(60, () => {
+    const times = { created: '2019-01-01T00:00:00.000Z' }
+    for (const key of keys.concat(Object.values(tags).filter(tag => typeof tag === 'string'))) put(times, key, maybe(85, time()))
+    return below(40) ? times : one([null, [], 'no', 7])
+  }))
+  return [made, keys]
+}
+
+function generated () {
+  const [made, keys] = packument()
+  const own = keys.length ? one(keys) : version()
+  const made_case = { packument: made, wanted: one([
+    range, range, range, range, version, () => own, () => own, () => '^' + own, () => '=v' + own, () => own + '+build',
+    () => one(['latest', 'next', 'beta', 'gone', 'a b', 'a/b', ' latest', 'npm:a@1', 'a.tgz', 'valueOf', '@a']),
+  ])() }
+  put(made_case, 'tag', maybe(15, () => one(['next', 'beta', 'gone'])))
+  put(made_case, 'before', maybe(40, () => `202${below(4)}-0${1 + below(9)}-15T00:00:00.000Z`))
+  put(made_case, 'avoid', maybe(35, () => one([range(), range(), 'no range'])))
+  put(made_case, 'node', maybe(60, () => version()))
+  put(made_case, 'npm', maybe(30, () => version()))
+  return made_case
+}
+
+// ---- documents of the installed packages
+
+function manifestsBelow (folder, found) {
+  let entries
+  try { entries = fs.readdirSync(folder, { withFileTypes: true }) } catch (_) { return }
+  for (const entry of entries) {
+    const place = path.join(folder, entry.name)
+    if (entry.isDirectory()) manifestsBelow(place, found)
+    if (entry.name !== 'package.json') continue
+    try {
+      const manifest = JSON.parse(fs.readFileSync(place, 'utf8'))
+      if (isObject(manifest) && typeof manifest.name === 'string' && isVersion(manifest.version)) found.push(manifest)
+    } catch (_) { }
+  }
+}
+
+function installed () {
+  const found = []
+  for (const folder of [ROOT, '/usr/share/nodejs']) manifestsBelow(folder, found)
+  const documents = new Map()
+  for (const manifest of found) {
+    const document = documents.get(manifest.name) || { name: manifest.name, 'dist-tags': {}, versions: {} }
+    document.versions[manifest.version] = manifest
+    document['dist-tags'].latest = manifest.version
+    documents.set(manifest.name, document)
+  }
+  const specs = new Map()
+  for (const { dependencies } of found) {
+    for (const [name, spec] of Object.entries(dependencies || {})) {
+      if (documents.has(name)) specs.set(name + ' ' + spec, [name, spec])
+    }
+  }
+  const cases = [...specs.values()].map(([name, wanted]) => ({ packument: documents.get(name), wanted, node: '18.0.0', npm: '10.0.0' }))
+  for (const packument of documents.values()) cases.push({ packument, wanted: '*', node: '12.0.0' })
+  return cases
+}
+
+// ---- the comparison
+
+let failed = 0
+const examples = RULES.map(rule => rule.example[0])
+ourAnswers(examples).forEach((ours, at) => {
+  const { name, covers, example: [it, npm, wanted] } = RULES[at]
+  const found = npmAnswer(it)
+  if (!covers(it) || found !== npm || ours !== wanted) {
+    failed++
+    console.log(`WRONG: the example of '${name}': npm ${found}, npm_pick ${ours}, covered ${covers(it)}`)
+  }
+})
+
+function compare (cases, what) {
+  const used = {}
+  let covered = 0
+  ourAnswers(cases).forEach((ours, at) => {
+    const npm = npmAnswer(cases[at])
+    if (npm === ours) return
+    const rule = RULES.find(rule => rule.covers(cases[at]))
+    if (rule) {
+      covered++
+      used[rule.name] = (used[rule.name] || 0) + 1
+    } else if (failed++ < 20) {
+      console.log(`WRONG: npm ${npm}, npm_pick ${ours}: ${JSON.stringify(cases[at])}`)
+    }
+  })
+  console.log(`${what}: ${cases.length} cases, ${covered} of them differ as a rule says: ${JSON.stringify(used)}`)
+}
+
+compare(installed(), 'documents of the installed packages')
+for (let done = 0; done < count; done += 10000) {
+  compare(Array.from({ length: Math.min(10000, count - done) }, generated), 'generated documents')
+}
+process.exit(failed ? 1 : 0)

@@ -1,0 +1,60 @@
+-- What private functions say of ranks.
+use Rattle.std.specs.Prelude.{◌≡◌, ◌≢◌, ◌↔◌, ◌⊎◌, ◌++◌, ℕ, List, Option, Some, None, option_map}
+use Rattle.std.specs.declared.cmp.Ordering.TheVariants.{Less}
+use Rattle.semver_cuts.specs.Ends.{Ends}
+use Rattle.serde_json.specs.Data.{Data, Members}
+use Rattle.serde_json.specs.View.{view}
+use Rattle.node_semver.specs.RangeAlgebra.{sets_of_answer}
+use Rattle.node_semver.specs.Ranges.{RangeAdmits, RangeContains}
+use Rattle.node_semver.specs.Versions.{VersionValue}
+use Rattle.npm_lock.specs.Verdict.{Admits, of_dependencies}
+use Rattle.npm_pick.specs.Packument.{Release, releases_among}
+use Rattle.npm_pick.specs.Rank as Ranks
+use Rattle.npm_pick.specs.Rank.{HasNone, IsAvoided, IsBest, rank_cmp}
+use Rattle.npm_pick.specs.declared.asked.Asked.{Asked}
+use Rattle.npm_pick.specs.declared.best.Found.{Found}
+use Rattle.npm_pick.specs.declared.options.Options.{Options}
+use Rattle.npm_pick.specs.declared.rank.Rank.{Rank}
+
+-- the rank that a value holds
+abbrev pub rank_value : Rank → Ranks.Rank
+rank_value rank = record {
+  is_avoided = rank.is_avoided;
+  is_deprecated = rank.is_deprecated;
+  fits = rank.fits;
+  version = rank.version;
+}
+
+-- the range of what is avoided was read
+abbrev pub IsAvoidRead : Option (List ℕ) → Option (List (Ends VersionValue)) → Type 0
+IsAvoidRead text range = (v : VersionValue) → RangeContains (sets_of_answer range) v ↔ IsAvoided text v
+
+-- the ranges are those of their texts
+pub record IsRead (asked : Asked) : Type 0 where
+  pub wanted : (v : VersionValue) → RangeAdmits asked.wanted v ↔ Admits of_dependencies asked.range.now v
+  pub avoid : IsAvoidRead (option_map (λ text. text.now) asked.options.now.avoid) asked.avoid
+
+-- the release that was found
+abbrev pub release_of : Found → Release
+release_of found = record { key = found.key.now; manifest = view found.manifest.now }
+
+-- the best of these releases was found, or there is none
+abbrev pub IsBestOrNone : (packument : Data) → Options → (range : List ℕ) → List Release → Option Found → Type 0
+IsBestOrNone packument options range releases None = HasNone packument options range releases
+IsBestOrNone packument options range releases (Some found) =
+    IsBest packument options range releases (release_of found) (rank_value found.rank)
+
+-- the best of those releases that are done was found; the others are left
+pub record IsBestSoFar (packument : Data) (options : Options) (range : List ℕ) (all left : Members)
+    (best : Option Found)
+    : Type 0 where
+  pub done : List Release
+  pub parts : releases_among all ≡ done ++ releases_among left
+  pub found : IsBestOrNone packument options range done best
+
+-- the next one if its rank is higher, or if it is the first
+abbrev pub IsBetter : Option Found → Found → Found → Type 0
+IsBetter None next better = better ≡ next
+IsBetter (Some best) next better =
+    ((rank_cmp (rank_value best.rank) (rank_value next.rank) ≡ Less) × (better ≡ next))
+    ⊎ ((rank_cmp (rank_value best.rank) (rank_value next.rank) ≢ Less) × (better ≡ best))

@@ -1,0 +1,36 @@
+-- When a version was published: the member `time` of a document.
+use Rattle.std.specs.Prelude.{◌||◌, ℕ, ℤ, List, Bool, true, false, not, Option, Some, None, Ok, Err, Result, codes}
+use Rattle.std.specs.Prelude.{int_le, option_and_then}
+use Rattle.std.specs.Option.{option_map_or}
+use Rattle.serde_json.specs.Data.{Data}
+use Rattle.serde_json.specs.Find.{as_str, get}
+use Rattle.jiff.specs.Words.{parse_timestamp}
+use Rattle.jiff_core.specs.declared.timestamp.Timestamp.{Timestamp}
+use Rattle.jiff_core.specs.declared.error.Error.{Error}
+use Rattle.npm_lock.specs.Asked.{is_true}
+
+-- what stands in `time` for a version
+abbrev pub time_of : (packument : Data) → (key : List ℕ) → Option Data
+time_of packument key = option_and_then (get key) (get (codes "time") packument)
+
+-- the instant is not after the other
+abbrev pub is_at_most : (before : Option Timestamp) → (nanosecond : ℤ) → Bool
+is_at_most None nanosecond = true
+is_at_most (Some before) nanosecond = int_le nanosecond before.nanosecond
+
+-- the same of what was read of a text; what is no time is in no time
+abbrev pub is_read_in_time : (before : Option Timestamp) → Result ℤ Error → Bool
+is_read_in_time before (Ok nanosecond) = is_at_most before nanosecond
+is_read_in_time before (Err _) = false
+
+-- The same of a text: `2024-03-01T12:00:00.000Z`. The text of no time is not in time, even if no time is asked for.
+abbrev pub is_text_in_time : (before : Option Timestamp) → (text : List ℕ) → Bool
+is_text_in_time before text = is_read_in_time before (parse_timestamp text)
+
+-- The same of what stands for a version. What JavaScript counts as false counts as no time.
+abbrev pub is_in_time : (before : Option Timestamp) → (time : Data) → Bool
+is_in_time before time = not (is_true time) || option_map_or (is_text_in_time before) (as_str time) false
+
+-- the version was not published after this time; a version without a time counts as published
+abbrev pub is_published : (before : Option Timestamp) → (packument : Data) → (key : List ℕ) → Bool
+is_published before packument key = option_map_or (is_in_time before) (time_of packument key) true

@@ -1,0 +1,21 @@
+//! The version of a package that npm would install: npm's `npm-pick-manifest`.
+//!
+//! [`pick`] reads the document of a package as a registry serves it, whole or abbreviated, and picks one of its versions.
+#![tactic(auto)]
+
+mod asked;
+mod best;
+mod error;
+mod member;
+mod options;
+mod picked;
+mod ranged;
+mod rank;
+mod time;
+
+pub use error::PickError;
+pub use options::Options;
+pub use picked::{Picked, pick};
+
+/// The result of what fails by memory alone, if no other error is named.
+type Result<T, E = std::alloc::AllocError> = std::result::Result<T, E>;

@@ -1,0 +1,19 @@
+//! What a caller can ask beside the version.
+
+use jiff::Timestamp;
+use node_semver::VersionRef;
+
+/// What is asked beside the version, the tag or the range.
+#[derive(Drop)]
+pub struct Options<'o> {
+    /// The version of this tag is preferred: `latest` in npm.
+    pub default_tag: &'o str,
+    /// Versions that were published after this time are left out.
+    pub before: Option<Timestamp>,
+    /// A range. Its versions are picked only if no other version is left.
+    pub avoid: Option<&'o str>,
+    /// The version of Node, for `engines`. If it is `None`, any version of Node is fine.
+    pub node: Option<VersionRef<'o>>,
+    /// The version of npm, for `engines`. If it is `None`, any version of npm is fine.
+    pub npm: Option<VersionRef<'o>>,
+}

@@ -1,0 +1,169 @@
+//! The version of a document that npm would install.
+ghost use Rattle.std.specs.Prelude.{◌≡◌, IfOk, string_bytes};
+ghost use Rattle.std.specs.List.{list_all};
+ghost use Rattle.serde_json.specs.View.{view};
+ghost use Rattle.node_semver.specs.Versions.{version_text, without_build};
+ghost use Rattle.npm_lock.specs.RangeText as RangeText;
+ghost use Rattle.npm_pick.specs.Pick as Picks;
+ghost use Rattle.npm_pick.specs.Pick.{IsAnswer, IsPicked, IsPickedAt, IsPickedByTag, answer_value};
+
+use crate::asked::{OF_DEPENDENCIES, range_of};
+use crate::error::PickError;
+use crate::member::tagged;
+use crate::options::Options;
+use crate::ranged::{pick_at, pick_in};
+use crate::time::is_published;
+use node_semver::VersionRef;
+use npm_lock::installed_version;
+use serde_json::Value;
+use std::alloc::{AllocError, Global};
+
+/// The version that is picked.
+#[derive(Clone, Copy)]
+pub struct Picked<'v> {
+    /// The version, as it is written in `versions`.
+    pub key: &'v str,
+    /// What stands for it in `versions`.
+    pub manifest: &'v Value,
+    /// It is in the range of the versions to avoid, and no other version was left.
+    pub is_avoided: bool,
+}
+
+/// Picks the version of a package that npm would install for a version, a tag or a range.
+///
+/// For a range it picks the version of the default tag, if that is in the range and in time, not to be avoided, not
+/// deprecated, and fits the versions of Node and npm. Else it picks the version with the highest rank. These count, the
+/// first most: not to be avoided; not to be deprecated and to fit; to fit; not to be deprecated; the order of versions. So
+/// a deprecated version is picked if no other version is in the range.
+///
+/// For a version or a tag only that version will do. If the version of a tag was published after `before`, the highest
+/// version at or below it is picked. The empty text is `*`.
+///
+/// # Errors
+///
+/// - `foo bar`: `Wanted`, it is no version, no range and no tag.
+/// - `next`: `NoTag`, there is no such tag.
+/// - `1.2.3`: `NoVersion`, there is no such version, or it was published after `before`.
+/// - `^9`: `NoneInRange`, or `NoVersions` if no version at all was published in time.
+/// - any text: `Memory` if an allocation fails.
+///
+/// # Memory
+///
+/// Allocates the ranges while they are asked, and for a version its text. The answer borrows the document.
+///
+/// # Examples
+///
+/// Of 1.2.0, 1.3.0 and 2.0.0, where `latest` is 1.2.0, it picks 1.2.0 for `^1` and for `*`, and 1.3.0 for `>=1.3 <2`.
+///
+/// # Source
+///
+/// npm's `npm-pick-manifest` 9.1.0.
+pub fn pick<'v>(
+    alloc: Global,
+    packument: &'v Value,
+    wanted: &str,
+    options: &Options<'_>,
+) -> Result<Picked<'v>, PickError>
+    ensures { IsAnswer (IsPicked (view packument.now) options.now (RangeText.filled wanted.now)) (answer_value result) }
+{
+    pick_filled(alloc, packument, filled(wanted), options)
+}
+
+/// Returns the text, or `*` for the empty one.
+fn filled(wanted: &str) -> &str
+    ensures { result.now ≡ RangeText.filled wanted.now }
+{
+    if wanted.is_empty() { "*" } else { wanted }
+}
+
+/// Picks for a text that is a version, a range or a tag.
+fn pick_filled<'v>(
+    alloc: Global,
+    packument: &'v Value,
+    wanted: &str,
+    options: &Options<'_>,
+) -> Result<Picked<'v>, PickError>
+    ensures { IsAnswer (IsPicked (view packument.now) options.now wanted.now) (answer_value result) }
+{
+    if let Some(version) = installed_version(wanted) {
+        return pick_version(alloc, packument, &version, options);
+    }
+    match range_of(alloc, wanted, OF_DEPENDENCIES)? {
+        Some(range) => pick_in(alloc, packument, wanted, range, options),
+        None if is_tag(wanted) => pick_by_tag(alloc, packument, wanted, options),
+        None => Err(PickError::Wanted),
+    }
+}
+
+/// Picks a version.
+fn pick_version<'v>(
+    alloc: Global,
+    packument: &'v Value,
+    version: &VersionRef<'_>,
+    options: &Options<'_>,
+) -> Result<Picked<'v>, PickError>
+    ensures { IsAnswer (IsPickedAt (view packument.now) options.now (version_text (without_build version.now)))
+        (answer_value result) }
+{
+    let text = text_of(alloc, version)?;
+    pick_at(alloc, packument, text.as_str(), options)
+}
+
+/// The text of a version without its build.
+fn text_of(alloc: Global, version: &VersionRef<'_>) -> Result<String, AllocError>
+    ensures { IfOk result (λ text. string_bytes text ≡ version_text (without_build version.now)) }
+{
+    let mut version = version.to_version(alloc)?;
+    version.build = Vec::new(alloc);
+    format!(in alloc; "{version}")
+}
+
+/// Picks the version that a tag names, or if that was published too late the highest one below it.
+fn pick_by_tag<'v>(
+    alloc: Global,
+    packument: &'v Value,
+    tag: &str,
+    options: &Options<'_>,
+) -> Result<Picked<'v>, PickError>
+    ensures { IsAnswer (IsPickedByTag (view packument.now) options.now tag.now) (answer_value result) }
+{
+    let Some(key) = tagged(packument, tag) else {
+        return Err(PickError::NoTag);
+    };
+    if is_published(packument, options.before, key) {
+        return pick_at(alloc, packument, key, options);
+    }
+    let text = up_to(alloc, key)?;
+    match range_of(alloc, text.as_str(), OF_DEPENDENCIES)? {
+        Some(range) => pick_in(alloc, packument, text.as_str(), range, options),
+        None => Err(PickError::Wanted),
+    }
+}
+
+/// The range of a version and of all below it.
+fn up_to(alloc: Global, key: &str) -> Result<String, AllocError>
+    ensures { IfOk result (λ text. string_bytes text ≡ Picks.up_to key.now) }
+{
+    let mut text = String::from_str(alloc, "<=")?;
+    text.push_str(key)?;
+    Ok(text)
+}
+
+/// Returns `true` if the text can be a tag. White space around it does not count.
+fn is_tag(text: &str) -> bool
+    ensures { result ≡ RangeText.is_tag text.now }
+{
+    are_tag_bytes(text.trim())
+}
+
+fn are_tag_bytes(text: &str) -> bool
+    ensures { result ≡ list_all RangeText.is_tag_byte text.now }
+{
+    text.bytes().all(is_tag_byte)
+}
+
+fn is_tag_byte(byte: u8) -> bool
+    ensures { result ≡ RangeText.is_tag_byte byte }
+{
+    byte.is_ascii_alphanumeric() || b"-_.!~*'()".contains(&byte)
+}

@@ -1,0 +1,180 @@
+//! What is picked for a range, and where only one version will do.
+ghost use Rattle.std.specs.Prelude.{◌≡◌, ◌↔◌, IfNone, IfOk, IfSome, IsTrue, option_map};
+ghost use Rattle.serde_json.specs.View.{members_view, view};
+ghost use Rattle.node_semver.specs.Ranges.{RangeAdmits};
+ghost use Rattle.node_semver.specs.Versions.{VersionValue};
+ghost use Rattle.npm_lock.specs.Verdict.{Admits, of_dependencies};
+ghost use Rattle.npm_pick.specs.Packument.{releases_among};
+ghost use Rattle.npm_pick.specs.Pick as Picks;
+ghost use Rattle.npm_pick.specs.Pick.{IsAnswer, IsPickedAt, IsPickedIn, answer_value};
+ghost use Rattle.npm_pick.specs.Private.Ranking.{IsRead};
+ghost use Rattle.npm_pick.specs.Private.Picking.{IsDefaultOrNone, IsKeyAvoidedBy, IsRankedIn, HasSomeInTime};
+
+use crate::Result;
+use crate::asked::{Asked, avoided, is_in};
+use crate::best::best_of;
+use crate::error::PickError;
+use crate::member::{has_true, release_at, tagged, versions_of};
+use crate::options::Options;
+use crate::picked::Picked;
+use crate::time::is_published;
+use node_semver::Range;
+use npm_lock::installed_version;
+use serde_json::{Map, Value};
+use std::alloc::Global;
+
+/// Picks the version with this key.
+pub(crate) fn pick_at<'v>(
+    alloc: Global,
+    packument: &'v Value,
+    key: &str,
+    options: &Options<'_>,
+) -> Result<Picked<'v>, PickError>
+    ensures { IsAnswer (IsPickedAt (view packument.now) options.now key.now) (answer_value result) }
+{
+    if !is_published(packument, options.before, key) {
+        return Err(PickError::NoVersion);
+    }
+    let Some((key, manifest)) = release_at(packument, key) else {
+        return Err(PickError::NoVersion);
+    };
+    let avoid = avoided(alloc, options.avoid)?;
+    Ok(Picked {
+        key,
+        manifest,
+        is_avoided: is_key_avoided(&avoid, key),
+    })
+}
+
+/// Returns `true` if the key is a version that should be avoided.
+fn is_key_avoided(avoid: &Option<Range>, key: &str) -> bool
+    ensures { IsTrue result ↔ IsKeyAvoidedBy avoid.now key.now }
+{
+    match installed_version(key) {
+        Some(version) => is_in(avoid, &version),
+        None => false,
+    }
+}
+
+/// Picks a version in a range.
+pub(crate) fn pick_in<'v>(
+    alloc: Global,
+    packument: &'v Value,
+    text: &str,
+    range: Range,
+    options: &Options<'_>,
+) -> Result<Picked<'v>, PickError>
+    requires { (v : VersionValue) → RangeAdmits range v ↔ Admits of_dependencies text.now v }
+    ensures { IsAnswer (IsPickedIn (view packument.now) options.now text.now) (answer_value result) }
+{
+    let asked = Asked {
+        packument,
+        options,
+        range: text,
+        wanted: range,
+        avoid: avoided(alloc, options.avoid)?,
+    };
+    if let Some(picked) = default_of(alloc, packument, &asked)? {
+        return Ok(picked);
+    }
+    let Some(versions) = versions_of(packument) else {
+        return Err(PickError::NoVersions);
+    };
+    pick_ranked(alloc, &asked, versions)
+}
+
+/// The version of the default tag, if it is picked.
+fn default_of<'v>(
+    alloc: Global,
+    packument: &'v Value,
+    asked: &Asked<'_>,
+) -> Result<Option<Picked<'v>>>
+    requires read { IsRead asked.now }
+    requires same { view packument.now ≡ view asked.now.packument.now }
+    ensures { IfOk result (λ picked. IsDefaultOrNone (view packument.now) asked.now.options.now asked.now.range.now
+        (option_map Picks.picked_value picked)) }
+{
+    let Some(key) = tagged(packument, asked.options.default_tag) else {
+        return Ok(None);
+    };
+    let Some((key, manifest)) = release_at(packument, key) else {
+        return Ok(None);
+    };
+    if !is_suitable(alloc, asked, key, manifest)? {
+        return Ok(None);
+    }
+    Ok(Some(Picked {
+        key,
+        manifest,
+        is_avoided: false,
+    }))
+}
+
+/// Returns `true` if the version is picked if the default tag names it.
+fn is_suitable(alloc: Global, asked: &Asked<'_>, key: &str, manifest: &Value) -> Result<bool>
+    requires { IsRead asked.now }
+    ensures { IfOk result (λ suitable. IsTrue suitable ↔ Picks.IsSuitable (view asked.now.packument.now)
+        asked.now.options.now asked.now.range.now key.now (view manifest.now)) }
+{
+    if !is_in_range(asked, key) {
+        return Ok(false);
+    }
+    if !is_published(asked.packument, asked.options.before, key) {
+        return Ok(false);
+    }
+    if is_key_avoided(&asked.avoid, key) {
+        return Ok(false);
+    }
+    if has_true(manifest, "deprecated") {
+        return Ok(false);
+    }
+    asked.fits(alloc, manifest)
+}
+
+/// Returns `true` if the key is a version in the range, or if the range is `*`.
+fn is_in_range(asked: &Asked<'_>, key: &str) -> bool
+    requires { IsRead asked.now }
+    ensures { IsTrue result ↔ Picks.IsInRange asked.now.range.now key.now }
+{
+    if asked.range == "*" {
+        return true;
+    }
+    match installed_version(key) {
+        Some(version) => asked.wanted.satisfies(&version),
+        None => false,
+    }
+}
+
+/// Picks the version with the highest rank.
+fn pick_ranked<'v>(
+    alloc: Global,
+    asked: &Asked<'_>,
+    versions: &'v Map<String, Value>,
+) -> Result<Picked<'v>, PickError>
+    requires { IsRead asked.now }
+    ensures { IsAnswer (IsRankedIn (view asked.now.packument.now) asked.now.options.now asked.now.range.now
+        (releases_among (members_view versions.now.entries))) (answer_value result) }
+{
+    match best_of(alloc, asked, versions)? {
+        Some(best) => Ok(Picked {
+            key: best.key,
+            manifest: best.manifest,
+            is_avoided: best.rank.is_avoided,
+        }),
+        None if has_some_in_time(asked, versions) => Err(PickError::NoneInRange),
+        None => Err(PickError::NoVersions),
+    }
+}
+
+/// Returns `true` if some version was published in time.
+fn has_some_in_time(asked: &Asked<'_>, versions: &Map<String, Value>) -> bool
+    ensures { IsTrue result ↔ HasSomeInTime (view asked.now.packument.now) asked.now.options.now
+        (releases_among (members_view versions.now.entries)) }
+{
+    for (key, _) in versions.iter() {
+        if is_published(asked.packument, asked.options.before, key.as_str()) {
+            return true;
+        }
+    }
+    false
+}

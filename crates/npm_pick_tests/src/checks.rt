@@ -1,0 +1,91 @@
+use jiff::Timestamp;
+use node_semver::VersionRef;
+use npm_pick::{Options, PickError, Picked, pick};
+use serde_json::Value;
+use std::alloc::Global;
+
+// What is asked beside the version, as texts; an empty text is nothing.
+#[derive(Clone, Copy)]
+pub(crate) struct Asks {
+    pub(crate) before: &'static str,
+    pub(crate) avoid: &'static str,
+    pub(crate) node: &'static str,
+    pub(crate) npm: &'static str,
+}
+
+pub(crate) const NOTHING: Asks = Asks {
+    before: "",
+    avoid: "",
+    node: "",
+    npm: "",
+};
+
+fn version_of(text: &str) -> Option<VersionRef<'_>> {
+    match VersionRef::parse(text) {
+        Ok(version) => Some(version),
+        Err(_) => None,
+    }
+}
+
+fn time_of(text: &str) -> Option<Timestamp> {
+    match text.parse::<Timestamp>() {
+        Ok(time) => Some(time),
+        Err(_) => None,
+    }
+}
+
+fn options_of(asks: Asks) -> Options<'static> {
+    Options {
+        default_tag: "latest",
+        before: time_of(asks.before),
+        avoid: if asks.avoid.is_empty() {
+            None
+        } else {
+            Some(asks.avoid)
+        },
+        node: version_of(asks.node),
+        npm: version_of(asks.npm),
+    }
+}
+
+// The key that is picked, with ` avoided` after one that should be avoided, or the name of the error.
+fn answer_text(alloc: Global, answer: Result<Picked<'_>, PickError>) -> Option<String> {
+    match answer {
+        Ok(picked) if picked.is_avoided => format!(in alloc; "{} avoided", picked.key).ok(),
+        Ok(picked) => format!(in alloc; "{}", picked.key).ok(),
+        Err(error) => format!(in alloc; "{error:?}").ok(),
+    }
+}
+
+fn is_text(made: Option<String>, wanted: &str) -> bool {
+    match &made {
+        Some(text) => text.as_str() == wanted,
+        None => false,
+    }
+}
+
+// Returns `true` if this is picked of the document with this JSON text.
+pub(crate) fn picks(alloc: Global, document: &str, wanted: &str, asks: Asks, answer: &str) -> bool {
+    match &Value::from_str(alloc, document) {
+        Ok(packument) => is_text(
+            answer_text(alloc, pick(alloc, packument, wanted, &options_of(asks))),
+            answer,
+        ),
+        Err(_) => false,
+    }
+}
+
+// Returns the first row that is not so, as a place from 0.
+pub(crate) fn first_wrong(
+    alloc: Global,
+    document: &str,
+    asks: Asks,
+    rows: &[(&str, &str)],
+) -> Option<usize> {
+    for (place, (wanted, answer)) in rows.iter().enumerate() {
+        if !picks(alloc, document, wanted, asks, answer) {
+            return Some(place);
+        }
+    }
+    None
+}

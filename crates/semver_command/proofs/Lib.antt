@@ -1,0 +1,7 @@
+pub mod AllTexts
+pub mod Answered
+pub mod ArgumentSteps
+pub mod BareTexts
+pub mod Choosing
+pub mod Increments
+pub mod ReadTexts

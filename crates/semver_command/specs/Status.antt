@@ -1,0 +1,10 @@
+-- The exit status.
+use Rattle.std.specs.Prelude.{ℕ}
+use Rattle.semver_command.specs.declared.reply.Ending.{Ending}
+use Rattle.semver_command.specs.declared.reply.Ending.TheVariants.{Misused, Nothing, Written}
+
+-- 0 if something was written, and 1 if not
+abbrev pub status_of_ending : Ending → ℕ
+status_of_ending Written = 0
+status_of_ending Nothing = 1
+status_of_ending Misused = 1

@@ -1,0 +1,103 @@
+"""Archives that are the same byte for byte whenever the same files go in: names in order, one time, root as owner."""
+import gzip
+import hashlib
+import io
+import os
+import tarfile
+
+
+def files_below(folder):
+    """The paths of the files and links below a folder, from there, in order."""
+    found = []
+    for at, folders, names in os.walk(folder):
+        folders.sort()
+        found += [os.path.relpath(os.path.join(at, name), folder) for name in names]
+        found += [os.path.relpath(os.path.join(at, name), folder) for name in folders if os.path.islink(os.path.join(at, name))]
+    return sorted(found)
+
+
+def folders_above(names):
+    """The folders that the paths lie in, in order."""
+    found = set()
+    for name in names:
+        while name := os.path.dirname(name):
+            found.add(name)
+    return sorted(found)
+
+
+def add(archive, folder, name, inside, date):
+    path = os.path.join(folder, name)
+    entry = archive.gettarinfo(path, inside)
+    entry.uid = entry.gid = 0
+    entry.uname = entry.gname = "root"
+    entry.mtime = date
+    entry.mode = 0o755 if entry.isdir() or entry.mode & 0o100 else 0o644
+    if entry.isreg():
+        with open(path, "rb") as file:
+            archive.addfile(entry, file)
+    else:
+        archive.addfile(entry)
+
+
+def tar_of(folder, date, top=""):
+    """A tar archive of a folder, in memory. `top` is put before each path."""
+    out = io.BytesIO()
+    names = files_below(folder)
+    with tarfile.open(fileobj=out, mode="w", format=tarfile.GNU_FORMAT) as archive:
+        for name in ["", *folders_above(names)] if top else folders_above(names):
+            add(archive, folder, name, (top + name).rstrip("/"), date)
+        for name in names:
+            add(archive, folder, name, top + name, date)
+    return out.getvalue()
+
+
+def gzipped(content, date):
+    out = io.BytesIO()
+    with gzip.GzipFile(filename="", mode="wb", fileobj=out, mtime=date, compresslevel=9) as file:
+        file.write(content)
+    return out.getvalue()
+
+
+def write(path, content):
+    os.makedirs(os.path.dirname(path), exist_ok=True)
+    with open(path, "wb") as file:
+        file.write(content if isinstance(content, bytes) else content.encode())
+
+
+def sha256(path):
+    with open(path, "rb") as file:
+        return hashlib.sha256(file.read()).hexdigest()
+
+
+def ar_of(members, date):
+    """An archive of `ar`, as a Debian package is one: pairs of a name and its content."""
+    out = b"!<arch>\n"
+    for name, content in members:
+        out += f"{name:<16}{date:<12}{0:<6}{0:<6}{'100644':<8}{len(content):<10}`\n".encode() + content + b"\n" * (len(content) % 2)
+    return out
+
+
+def deb_of(folder, control, date):
+    """A Debian package of the files in a folder, with these fields of its control file."""
+    sums = "".join(f"{md5(os.path.join(folder, name))}  {name}\n" for name in files_below(folder))
+    control_folder = {"control": control, "md5sums": sums}
+    out = io.BytesIO()
+    with tarfile.open(fileobj=out, mode="w", format=tarfile.GNU_FORMAT) as archive:
+        root = tarfile.TarInfo("./")
+        root.type, root.mode, root.mtime, root.uname, root.gname = tarfile.DIRTYPE, 0o755, date, "root", "root"
+        archive.addfile(root)
+        for name, text in sorted(control_folder.items()):
+            entry = tarfile.TarInfo("./" + name)
+            entry.size, entry.mode, entry.mtime, entry.uname, entry.gname = len(text.encode()), 0o644, date, "root", "root"
+            archive.addfile(entry, io.BytesIO(text.encode()))
+    members = [
+        ("debian-binary", b"2.0\n"),
+        ("control.tar.gz", gzipped(out.getvalue(), date)),
+        ("data.tar.gz", gzipped(tar_of(folder, date, "./"), date)),
+    ]
+    return ar_of(members, date)
+
+
+def md5(path):
+    with open(path, "rb") as file:
+        return hashlib.md5(file.read()).hexdigest()

@@ -1,0 +1,105 @@
+"""The libraries of a release: for C, for Node with its native part built, and for Python as a wheel and as sources."""
+import glob
+import os
+import re
+import shutil
+import subprocess
+import sys
+import tarfile
+
+import archives
+from versions import ROOT
+
+BINDINGS = os.path.join(ROOT, "bindings")
+# The oldest GNU C library that the native parts may need: that of manylinux_2_28.
+GLIBC = (2, 28)
+PYTHON = "/usr/bin/python3"
+
+
+def run(*words, at=ROOT, **env):
+    ran = subprocess.run(words, cwd=at, env={**os.environ, **env}, stdin=subprocess.DEVNULL, capture_output=True, text=True)
+    if ran.returncode:
+        sys.exit(f"release: {' '.join(words)}: status {ran.returncode}\n{ran.stdout[-2000:]}{ran.stderr[-2000:]}")
+    return ran.stdout
+
+
+def copied(name, room):
+    """A copy of the tracked files of a folder of `bindings`."""
+    names = run("git", "ls-files", "-z", f"bindings/{name}").split("\0")[:-1]
+    for one in names:
+        path = os.path.join(room, os.path.relpath(one, "bindings"))
+        os.makedirs(os.path.dirname(path), exist_ok=True)
+        shutil.copy(os.path.join(ROOT, one), path)
+    return os.path.join(room, name)
+
+
+def check_glibc(path):
+    """Stops if a native part needs a newer C library, or a library beside it."""
+    symbols = run("objdump", "-T", path)
+    newest = max((tuple(map(int, it.split("."))) for it in re.findall(r"GLIBC_([0-9.]+)", symbols)), default=(0,))
+    needed = set(re.findall(r"NEEDED +(\S+)", run("objdump", "-p", path))) - {"libc.so.6", "libm.so.6", "libpthread.so.0"}
+    if newest > GLIBC or needed:
+        sys.exit(f"release: {path} needs GLIBC {newest} and {', '.join(sorted(needed)) or 'no other library'}")
+
+
+def library():
+    """Builds the library for C over the exports that the gate has proved."""
+    run(os.path.join(ROOT, ".ci", "packages", "library"))
+    run("make", "-C", os.path.join(BINDINGS, "c"))
+
+
+def install_c(folder):
+    """The library for C below a folder that can be moved: pkg-config and CMake find it from where they are."""
+    stage = folder + ".stage"
+    run("make", "-C", os.path.join(BINDINGS, "c"), "install", "PREFIX=/usr/local", f"DESTDIR={stage}")
+    shutil.copytree(os.path.join(stage, "usr/local"), folder, symlinks=True, dirs_exist_ok=True)
+    shutil.rmtree(stage)
+    path = os.path.join(folder, "lib/pkgconfig/node_semver.pc")
+    with open(path, encoding="utf-8") as file:
+        lines = file.read().split("\n")
+    moved = {"prefix": "${pcfiledir}/../..", "libdir": "${prefix}/lib", "includedir": "${prefix}/include"}
+    lines = [re.sub(r"^(prefix|libdir|includedir)=.*", lambda it: f"{it[1]}={moved[it[1]]}", line) for line in lines]
+    with open(path, "w", encoding="utf-8") as file:
+        file.write("\n".join(lines))
+    check_glibc(os.path.join(folder, "lib/libnode_semver.so"))
+
+
+def node_package(room, out):
+    """The package for Node with its native part, so that installing it takes no compiler."""
+    at = copied("node", room)
+    run("node", os.path.join(BINDINGS, "node", "build.js"), "--library")
+    for name in ("lib/libnode_semver.a", "lib/node_semver.h", "LICENSE"):
+        os.makedirs(os.path.dirname(os.path.join(at, name)), exist_ok=True)
+        shutil.copy(os.path.join(BINDINGS, "node", name), os.path.join(at, name))
+    run("node", "build.js", at=at)
+    made = os.path.join(at, "build/Release/node_semver.node")
+    run("strip", "--strip-unneeded", made)
+    check_glibc(made)
+    to = os.path.join(at, "prebuilt/linux-x64/node_semver.node")
+    os.makedirs(os.path.dirname(to))
+    os.rename(made, to)
+    shutil.rmtree(os.path.join(at, "build"))
+    run("npm", "pack", "--ignore-scripts", "--pack-destination", out, at=at)
+
+
+def python_packages(room, out, date):
+    """The wheel, one for each Python from 3.10 on, and the sources, which bring the proved library."""
+    at = copied("python", room)
+    os.makedirs(os.path.join(at, "lib"))
+    shutil.copy(os.path.join(BINDINGS, "c/build/libnode_semver.a"), os.path.join(at, "lib"))
+    shutil.copy(os.path.join(BINDINGS, "c/include/node_semver.h"), os.path.join(at, "lib"))
+    if os.path.islink(os.path.join(at, "LICENSE")) or not os.path.exists(os.path.join(at, "LICENSE")):
+        shutil.copy(os.path.join(ROOT, "LICENSE"), os.path.join(at, "LICENSE"))
+    stamp = {"SOURCE_DATE_EPOCH": str(date), "CFLAGS": "-g0"}
+    run(PYTHON, "setup.py", "-q", "sdist", "--dist-dir", os.path.join(room, "sdist"), at=at, **stamp)
+    sources = glob.glob(os.path.join(room, "sdist", "*.tar.gz"))[0]
+    with tarfile.open(sources) as archive:
+        archive.extractall(os.path.join(room, "unpacked"), filter="data") if hasattr(tarfile, "data_filter") else archive.extractall(
+            os.path.join(room, "unpacked")
+        )
+    name = os.path.basename(sources)[: -len(".tar.gz")]
+    packed = archives.tar_of(os.path.join(room, "unpacked", name), date, name + "/")
+    archives.write(os.path.join(out, os.path.basename(sources)), archives.gzipped(packed, date))
+    platform = f"manylinux_{GLIBC[0]}_{GLIBC[1]}_x86_64"
+    run(PYTHON, "setup.py", "-q", "bdist_wheel", "--plat-name", platform, "--dist-dir", out, at=at, **stamp)
+    check_glibc(glob.glob(os.path.join(at, "build/released/lib*/node_semver/*.so"))[0])

@@ -5,12 +5,15 @@
 /* Writes bytes as the functions of node_semver.h that have a room do. */
 typedef size_t writer(const void *value, size_t place, unsigned char *room, size_t size);
 
-/* A Buffer of the bytes that `write` writes; NULL with an exception pending if memory runs out. */
-static napi_value written(napi_env env, writer *write, const void *value, size_t place) {
+/* A Buffer of the bytes that `write` writes, at least so many; NULL with an exception pending if memory runs out. */
+static napi_value written(napi_env env, writer *write, const void *value, size_t place, size_t least) {
     unsigned char room[256];
     void *bytes = NULL;
     napi_value buffer = NULL;
     size_t length = write(value, place, room, sizeof room);
+    if (length < least) {
+        return out_of_memory(env);
+    }
     if (length <= sizeof room) {
         return napi_create_buffer_copy(env, length, room, &bytes, &buffer) == napi_ok ? buffer : out_of_memory(env);
     }
@@ -44,8 +47,7 @@ napi_value sort_key(napi_env env, napi_callback_info info) {
     if (status != NODE_SEMVER_OK) {
         return status == NODE_SEMVER_REFUSED ? of_null(env) : failed(env, status);
     }
-    bool is_made = node_semver_version_key(&version.handle, (unsigned char[1]){0}, 0) != 0;
-    result = is_made ? written(env, write_key, &version.handle, 0) : out_of_memory(env);
+    result = written(env, write_key, &version.handle, 0, 1);
     let_version_go(&version);
     return result;
 }
@@ -57,8 +59,8 @@ static bool put_interval(napi_env env, napi_value array, uint32_t at, const node
     if (napi_open_handle_scope(env, &scope) != napi_ok) {
         return false;
     }
-    napi_value lower = written(env, write_lower, intervals, place);
-    napi_value upper = lower == NULL ? NULL : written(env, write_upper, intervals, place);
+    napi_value lower = written(env, write_lower, intervals, place, 0);
+    napi_value upper = lower == NULL ? NULL : written(env, write_upper, intervals, place, 0);
     napi_value kind = upper == NULL ? NULL : of_bool(env, is_of_prereleases);
     bool is_put = kind != NULL && napi_set_element(env, array, at, lower) == napi_ok
         && napi_set_element(env, array, at + 1, upper) == napi_ok && napi_set_element(env, array, at + 2, kind) == napi_ok;

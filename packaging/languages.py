@@ -1,5 +1,6 @@
 """The libraries of a release: for C, for Node with its native part built, and for Python as a wheel and as sources."""
 import glob
+import json
 import os
 import re
 import shutil
@@ -79,6 +80,11 @@ def node_package(room, out):
     os.makedirs(os.path.dirname(to))
     os.rename(made, to)
     shutil.rmtree(os.path.join(at, "build"))
+    path = os.path.join(at, "package.json")
+    with open(path, encoding="utf-8") as file:
+        package = json.load(file)
+    package["files"] = sorted([*package["files"], "prebuilt/"])
+    archives.write(path, json.dumps(package, indent=2) + "\n")
     run("npm", "pack", "--ignore-scripts", "--pack-destination", out, at=at)
 
 

@@ -8,6 +8,16 @@ from versions import ROOT
 sys.path.insert(0, os.path.join(ROOT, ".ci", "shared"))
 import crates
 
+
+def kit():
+    """The folder of the toolchain."""
+    said = subprocess.run(["rt", "doc"], capture_output=True, text=True, check=True).stdout
+    return os.path.dirname(said.split("\n")[0])
+
+
+sys.path.insert(0, os.path.join(kit(), "bin"))
+import rtlib
+
 # The crate of each program, and the name that it is installed under.
 PROGRAMS = {
     "npm_lock_check": "npm_lock_check",
@@ -22,18 +32,26 @@ def listed():
     return [(crate, name) for crate, name in PROGRAMS.items() if os.path.isdir(os.path.join(ROOT, "crates", crate))]
 
 
-def kit():
-    """The folder of the toolchain."""
-    said = subprocess.run(["rt", "doc"], capture_output=True, text=True, check=True).stdout
-    return os.path.dirname(said.split("\n")[0])
+def object_of(crate):
+    """The object file of a program. The gate leaves it, but for a crate that an earlier run on this machine has proved: that
+    is proved and compiled once more, over the libraries that the gate has proved."""
+    folder = os.path.join(ROOT, "crates", crate)
+    made, below = os.path.join(folder, "out", f"{crate}.o"), crates.below(crate)
+    if crates.is_built(made, *below).returncode:
+        sources = crates.is_built("--sources", *below).stdout.strip()
+        known = {it.name: it for it in rtlib.crates_below(ROOT)}
+        words = [*known[crate].words(["--jobs", "1"], False), "--toolchain", os.path.join(kit(), "toolchain"), "--backend", "llvm"]
+        words = [rtlib.RATTLE, "build", *words, "-o", f"out/{crate}.o"]
+        ran = subprocess.run(words, cwd=folder, capture_output=True, text=True)
+        if ran.returncode:
+            sys.exit(f"{ran.stdout[-2000:]}{ran.stderr[-2000:]}\nrelease: {crate} was not compiled")
+        crates.is_built("--note", sources, made, *below)
+    return made
 
 
 def link(crate, path):
     """Links the program of a crate, if it was built of the sources as they stand."""
-    crates.program(crate)
-    made = os.path.join(ROOT, "crates", crate, "out", f"{crate}.o")
-    if not os.path.exists(made):
-        sys.exit(f"release: no {os.path.relpath(made, ROOT)}: the gate leaves it")
+    made = object_of(crate)
     parts = [os.path.join(kit(), "c", name) for name in ("libos_c.a", "liblibc_c.a")]
     subprocess.run(["cc", "-static", "-s", "-Wl,--build-id=none", "-o", path, made, *parts], check=True)
 

@@ -12,7 +12,7 @@ fn first_wrong_document(alloc: Global, rows: &[(&str, &str)]) -> Option<usize> {
 }
 
 #[test]
-fn reads_odd_documents(rt: HostRuntime) {
+fn reads_documents_without_versions(rt: HostRuntime) {
     let rows = [
         ("{}", "NoVersions"),
         ("[]", "NoVersions"),
@@ -20,6 +20,13 @@ fn reads_odd_documents(rt: HostRuntime) {
         ("7", "NoVersions"),
         (r#"{"versions": []}"#, "NoVersions"),
         (r#"{"versions": {}}"#, "NoVersions"),
+    ];
+    assert_eq!(rt; first_wrong_document(rt.alloc(), &rows), None);
+}
+
+#[test]
+fn reads_odd_members(rt: HostRuntime) {
+    let rows = [
         (r#"{"versions": {"no": {}}}"#, "NoneInRange"),
         (r#"{"versions": {"__proto__": {}, "1.0.0": {}}}"#, "1.0.0"),
         (

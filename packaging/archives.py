@@ -4,6 +4,7 @@ import hashlib
 import io
 import os
 import tarfile
+import tempfile
 
 
 def files_below(folder):
@@ -64,9 +65,9 @@ def write(path, content):
         file.write(content if isinstance(content, bytes) else content.encode())
 
 
-def sha256(path):
+def sum_of(path, kind="sha256"):
     with open(path, "rb") as file:
-        return hashlib.sha256(file.read()).hexdigest()
+        return hashlib.new(kind, file.read()).hexdigest()
 
 
 def ar_of(members, date):
@@ -79,25 +80,9 @@ def ar_of(members, date):
 
 def deb_of(folder, control, date):
     """A Debian package of the files in a folder, with these fields of its control file."""
-    sums = "".join(f"{md5(os.path.join(folder, name))}  {name}\n" for name in files_below(folder))
-    control_folder = {"control": control, "md5sums": sums}
-    out = io.BytesIO()
-    with tarfile.open(fileobj=out, mode="w", format=tarfile.GNU_FORMAT) as archive:
-        root = tarfile.TarInfo("./")
-        root.type, root.mode, root.mtime, root.uname, root.gname = tarfile.DIRTYPE, 0o755, date, "root", "root"
-        archive.addfile(root)
-        for name, text in sorted(control_folder.items()):
-            entry = tarfile.TarInfo("./" + name)
-            entry.size, entry.mode, entry.mtime, entry.uname, entry.gname = len(text.encode()), 0o644, date, "root", "root"
-            archive.addfile(entry, io.BytesIO(text.encode()))
-    members = [
-        ("debian-binary", b"2.0\n"),
-        ("control.tar.gz", gzipped(out.getvalue(), date)),
-        ("data.tar.gz", gzipped(tar_of(folder, date, "./"), date)),
-    ]
-    return ar_of(members, date)
-
-
-def md5(path):
-    with open(path, "rb") as file:
-        return hashlib.md5(file.read()).hexdigest()
+    sums = "".join(f"{sum_of(os.path.join(folder, name), 'md5')}  {name}\n" for name in files_below(folder))
+    with tempfile.TemporaryDirectory() as told:
+        write(os.path.join(told, "control"), control)
+        write(os.path.join(told, "md5sums"), sums)
+        parts = [gzipped(tar_of(it, date, "./"), date) for it in (told, folder)]
+    return ar_of(zip(("debian-binary", "control.tar.gz", "data.tar.gz"), (b"2.0\n", *parts)), date)

@@ -100,9 +100,7 @@ def python_packages(room, out, date):
     run(PYTHON, "setup.py", "-q", "sdist", "--dist-dir", os.path.join(room, "sdist"), at=at, **stamp)
     sources = glob.glob(os.path.join(room, "sdist", "*.tar.gz"))[0]
     with tarfile.open(sources) as archive:
-        archive.extractall(os.path.join(room, "unpacked"), filter="data") if hasattr(tarfile, "data_filter") else archive.extractall(
-            os.path.join(room, "unpacked")
-        )
+        archive.extractall(os.path.join(room, "unpacked"))
     name = os.path.basename(sources)[: -len(".tar.gz")]
     packed = archives.tar_of(os.path.join(room, "unpacked", name), date, name + "/")
     archives.write(os.path.join(out, os.path.basename(sources)), archives.gzipped(packed, date))

@@ -50,6 +50,11 @@ class Help:
                 yield name, takes, " ".join(lines)
 
 
+def day_of(date):
+    """The day of a time in seconds since 1970."""
+    return time.strftime("%Y-%m-%d", time.gmtime(date))
+
+
 def roff(text):
     """A text as troff reads it."""
     text = text.replace("\\", "\\e").replace("-", "\\-")
@@ -60,8 +65,7 @@ def man_page(name, help_text, version, date):
     """The page of section 1."""
     said = Help(help_text)
     title = said.title.rstrip(".")
-    day = time.strftime("%Y-%m-%d", time.gmtime(date))
-    out = [f'.TH {name.upper()} 1 "{day}" "denimscree {version}" "User Commands"', ".SH NAME"]
+    out = [f'.TH {name.upper()} 1 "{day_of(date)}" "denimscree {version}" "User Commands"', ".SH NAME"]
     out += [f"{roff(name)} \\- {roff(title[:1].lower() + title[1:])}", ".SH SYNOPSIS"]
     for usage in said.usage or [name]:
         out += [f".B {roff(usage)}", ".br"]

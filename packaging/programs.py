@@ -15,7 +15,8 @@ def kit():
     return os.path.dirname(said.split("\n")[0])
 
 
-sys.path.insert(0, os.path.join(kit(), "bin"))
+KIT = kit()
+sys.path.insert(0, os.path.join(KIT, "bin"))
 import rtlib
 
 # The crate of each program, and the name that it is installed under.
@@ -40,7 +41,7 @@ def object_of(crate):
     if crates.is_built(made, *below).returncode:
         sources = crates.is_built("--sources", *below).stdout.strip()
         known = {it.name: it for it in rtlib.crates_below(ROOT)}
-        words = [*known[crate].words(["--jobs", "1"], False), "--toolchain", os.path.join(kit(), "toolchain"), "--backend", "llvm"]
+        words = [*known[crate].words(["--jobs", "1"], False), "--toolchain", os.path.join(KIT, "toolchain"), "--backend", "llvm"]
         words = [rtlib.RATTLE, "build", *words, "-o", f"out/{crate}.o"]
         ran = subprocess.run(words, cwd=folder, capture_output=True, text=True)
         if ran.returncode:
@@ -52,7 +53,7 @@ def object_of(crate):
 def link(crate, path):
     """Links the program of a crate, if it was built of the sources as they stand."""
     made = object_of(crate)
-    parts = [os.path.join(kit(), "c", name) for name in ("libos_c.a", "liblibc_c.a")]
+    parts = [os.path.join(KIT, "c", name) for name in ("libos_c.a", "liblibc_c.a")]
     subprocess.run(["cc", "-static", "-s", "-Wl,--build-id=none", "-o", path, made, *parts], check=True)
 
 

@@ -3,7 +3,7 @@ use Rattle.std.proofs.Common.{◌≡◌, ℕ, List, Option, Some, None, ap, arit
 use Rattle.semver_versions.specs.Lemmas.Public.{is-version_in, one_reading, version_in}
 use Rattle.node_semver.specs.Ranges.{IsRangeEnd}
 use Rattle.node_semver.specs.Versions.{IsVersionText, VersionValue, least_of}
-use Rattle.npm_lock.specs.InstalledVersions.{IsInstalledVersion, bare}
+use Rattle.npm_texts.specs.InstalledVersions.{IsInstalledVersion, bare}
 use Rattle.npm_advisories.specs.Audit.{IsReadAs, IsUnread, as_text, by_npm, unread}
 use Rattle.npm_advisories.proofs.Releases.{version-end}
 

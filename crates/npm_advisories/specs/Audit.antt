@@ -1,7 +1,7 @@
 -- What an audit finds: npm's "npm audit".
 use Rattle.std.specs.Prelude.{◌≡◌, ◌≢◌, ℕ, List, [], ◌∷◌, Option, Some, None, map}
 use Rattle.node_semver.specs.Versions.{IsVersionText, VersionValue, least_of}
-use Rattle.npm_lock.specs.InstalledVersions.{IsInstalledVersion}
+use Rattle.npm_texts.specs.InstalledVersions.{IsInstalledVersion}
 use Rattle.npm_advisories.specs.Advisories.{AboutValue, AdvisoryValue, about_name, about_value}
 use Rattle.npm_advisories.specs.Hits.{AreHits}
 use Rattle.npm_advisories.specs.Offers.{IsAdmitted, IsLeastOrNone, IsUnhit}

@@ -27,7 +27,7 @@ use crate::read::read_file;
 use crate::severity::Severity;
 use crate::unions::Unions;
 use node_semver::{Version, VersionRef};
-use npm_lock::installed_version;
+use npm_texts::installed_version;
 use serde_json::Value;
 use std::alloc::Global;
 

@@ -5,6 +5,4 @@ pub mod OutcomeExamples
 pub mod SpecExamples
 pub mod OverrideExamples
 pub mod WorkspaceExamples
-pub mod VersionOneExamples
-pub mod InstalledExamples
 pub mod WordExamples

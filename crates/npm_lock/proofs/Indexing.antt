@@ -16,7 +16,7 @@ use Rattle.npm_lock.specs.Private.PackageValue.{package_value}
 use Rattle.npm_lock.specs.declared.index.Hit.{Hit}
 use Rattle.npm_lock.specs.declared.index.Index.{Index}
 use Rattle.npm_lock.proofs.Fronts.{end_of_place, same_end, same_place}
-use Rattle.npm_lock.proofs.NameLists.{exact, itself}
+use Rattle.npm_texts.specs.Lemmas.Keys.{exact, itself}
 
 -- ---- keys
 

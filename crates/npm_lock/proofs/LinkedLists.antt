@@ -15,8 +15,8 @@ use Rattle.serde_json.specs.Data.{Data, Members, member, object}
 use Rattle.serde_json.specs.Find.{as_object, get, get_member}
 use Rattle.npm_lock.specs.LinkedFolders.{AreLinkedFolders, IsLinkTo, IsLinked}
 use Rattle.npm_lock.specs.Private.Linked.{AreKeys, HasFolder, IsLinkedAmong}
-use Rattle.npm_lock.proofs.Groups.{in_no_group, is_object_of}
-use Rattle.npm_lock.proofs.NameLists.{exact, itself}
+use Rattle.npm_texts.specs.Lemmas.Objects.{in_no_group, is_object_of}
+use Rattle.npm_texts.specs.Lemmas.Keys.{exact, itself}
 
 -- ---- one more member
 

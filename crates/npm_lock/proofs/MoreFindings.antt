@@ -7,7 +7,8 @@ use Rattle.serde_json.specs.Data.{Data, Members, object}
 use Rattle.serde_json.specs.Find.{get}
 use Rattle.node_semver.specs.Versions.{VersionValue}
 use Rattle.npm_lock.specs.Findings.{AreDependencyFindings, AreMemberFindings, Finding}
-use Rattle.npm_lock.specs.Findings.{AreFindings, IsChecked, IsReport, keys_of}
+use Rattle.npm_lock.specs.Findings.{AreFindings, IsChecked, IsReport}
+use Rattle.npm_texts.specs.ObjectKeys.{keys_of}
 use Rattle.npm_lock.specs.Findings.{IsNodeOutcome, of_package}
 use Rattle.npm_lock.specs.Outcomes.{ProblemValue}
 use Rattle.npm_lock.specs.Packages.{is_link}

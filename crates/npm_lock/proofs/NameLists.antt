@@ -15,27 +15,13 @@ use Rattle.serde_json.specs.Data.{Data}
 use Rattle.serde_json.specs.View.{members_view}
 use Rattle.serde_json.specs.declared.value.Value.{Value}
 use Rattle.npm_lock.specs.Asked.{asked_of}
-use Rattle.npm_lock.specs.Findings.{AreNames, keys_of}
+use Rattle.npm_lock.specs.Findings.{AreNames}
+use Rattle.npm_texts.specs.ObjectKeys.{keys_of}
 use Rattle.npm_lock.specs.Private.PackageValue.{asked_value}
 use Rattle.npm_lock.specs.Private.Groups.{AreAsked, at_name, names_of}
 use Rattle.npm_lock.specs.declared.asked.Asked.{Asked}
 
 -- ---- texts
-
-pub exact : (x y : List ℕ) → is_eq (slice_cmp nat_cmp x y) ≡ true → x ≡ y
-exact x y equal = (bytes_eq-Decides x y).0 (sym (is_eq-slice_cmp x y) ∙ equal)
-
-pub other : (x y : List ℕ) → is_eq (slice_cmp nat_cmp x y) ≡ false → bytes_eq y x ≡ false
-other x y differ = apart (bytes_eq y x) refl where
-  apart : (b : Bool) → bytes_eq y x ≡ b → b ≡ false
-  apart true same =
-      let is : y ≡ x = (bytes_eq-Decides y x).0 same in
-      let equal : bytes_eq x y ≡ true = (bytes_eq-Decides x y).1 (sym is) in
-      cc (is_eq-slice_cmp x y, equal, differ)
-  apart false same = refl
-
-pub itself : (x : List ℕ) → is_eq (slice_cmp nat_cmp x x) ≡ true
-itself x = is_eq-slice_cmp x x ∙ (bytes_eq-Decides x x).1 refl
 
 -- what is above a text is not that text
 above : (x y : List ℕ) → slice_cmp nat_cmp x y ≡ Less → is_eq (slice_cmp nat_cmp y x) ≡ false
@@ -131,17 +117,3 @@ module _ (asker : Data) (is_installed : Bool) where
       (λ some. let at_all : IsSome (at_name all name) = rw (asks name) some in names_at all.entries name at_all),
     );
   }
-
--- ---- the keys of an object
-
-below_keys : (key : String Global) (entries : List (String Global × Value))
-    → AllByRecursion (λ y. string_cmp key y ≡ Less) (tree_keys entries)
-    → AllByRecursion (λ y. slice_cmp nat_cmp (string_bytes key) y ≡ Less) (keys_of (members_view entries))
-below_keys key [] below = tt
-below_keys key (e ∷ entries) below = (below.0, below_keys key entries below.1)
-
-pub sorted_keys : (entries : List (String Global × Value)) → IsStrictlySortedBy string_cmp (tree_keys entries)
-    → IsStrictlySortedBy (slice_cmp nat_cmp) (keys_of (members_view entries))
-unfolding IsStrictlySortedBy
-sorted_keys [] sorted = tt
-sorted_keys (e ∷ entries) sorted = (below_keys e.0 entries sorted.0, sorted_keys entries sorted.1)

@@ -1,11 +1,10 @@
 -- What a package depends on: npm's "package.json", from "dependencies" to "optionalDependencies".
-use Rattle.std.specs.Prelude.{◌==◌, ℕ, List, Bool, true, false, not, if◌then◌else◌, Option, None, option_and_then}
-use Rattle.std.specs.Prelude.{option_map, codes, length}
-use Rattle.std.specs.Float.{float_zero}
-use Rattle.std.specs.Float.Ieee.{eq}
+use Rattle.std.specs.Prelude.{ℕ, List, Bool, true, false, not, if◌then◌else◌, Option, None, option_and_then, option_map}
+use Rattle.std.specs.Prelude.{codes}
 use Rattle.std.specs.Option.{option_map_or, option_or}
-use Rattle.serde_json.specs.Data.{Data, array, boolean, null, number, object, string}
-use Rattle.serde_json.specs.Find.{as_str, get, to_float}
+use Rattle.serde_json.specs.Data.{Data}
+use Rattle.serde_json.specs.Find.{as_str, get}
+use Rattle.npm_texts.specs.Truth.{has_true}
 
 -- a package's dependency on a name: its spec, whether it must be found, whether it is a peer, whether it counts in
 -- development alone, and whether `overrides` change it in a way that is not read here
@@ -19,19 +18,6 @@ pub record AskedValue : Type 0 where
 -- the spec of a name in a group: `^1` for `a` in `{"dependencies": {"a": "^1"}}`
 abbrev pub spec_in : (member : Data) → (group name : List ℕ) → Option (List ℕ)
 spec_in member group name = option_and_then as_str (option_and_then (get name) (get group member))
-
--- what counts as true in JavaScript: all values but `null`, `false`, zero and the empty string
-abbrev pub is_true : Data → Bool
-is_true null = false
-is_true (boolean b) = b
-is_true (number n) = not (eq (to_float n) float_zero)
-is_true (string text) = not (length text == 0)
-is_true (array _) = true
-is_true (object _) = true
-
--- a member that is there and counts as true
-abbrev pub has_true : (key : List ℕ) → Data → Bool
-has_true key value = option_map_or is_true (get key value) false
 
 -- a peer that may be missing: `{"peerDependenciesMeta": {"a": {"optional": true}}}` says so of `a`
 abbrev pub is_optional_peer : (member : Data) → (name : List ℕ) → Bool

@@ -15,7 +15,7 @@ use Rattle.npm_lock.specs.Folders.{IsInstalled}
 use Rattle.npm_lock.specs.Overrides.{overridden}
 use Rattle.npm_lock.specs.Packages.{IsFound, Package, is_link}
 use Rattle.npm_lock.specs.declared.dependents.Dependents.{Dependents}
-use Rattle.npm_lock.specs.RangeText.{SpecValue, in_registry, location, refused, spec_of}
+use Rattle.npm_texts.specs.RangeText.{SpecValue, in_registry, location, refused, spec_of}
 
 -- The range or the tag that a spec asks for. A URL, a repository, a file or a folder is no range, and neither is a
 -- refused spec: both stand as `no range`, which npm refuses as a range

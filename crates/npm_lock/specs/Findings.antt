@@ -86,11 +86,6 @@ AreFindings packages version (member folder entry others) found = (here : List F
     × AreMemberFindings packages version folder entry here × AreFindings packages version others later
     × (found ≡ here ++ later)
 
--- the keys of an object
-abbrev pub keys_of : Members → List (List ℕ)
-keys_of no_members = []
-keys_of (member key value others) = key ∷ keys_of others
-
 -- ---- the list of problems, and the counts
 
 -- the problem that was found, if there is one

@@ -3,15 +3,12 @@
 -- ProblemJson is what is written for a problem. All other words are there for these three.
 
 -- ---- the packages of a lock file
-pub mod Texts  -- a text without its start or its end
 pub mod Folders  -- folders of packages
 pub mod Packages  -- packages, links, and where a name is found
 pub mod Asked  -- what a package depends on
 -- ---- one dependency
 pub mod Overrides  -- which dependencies `overrides` change
 pub mod Workspaces  -- which folders are workspaces of the root
-pub mod RangeText  -- which specs are ranges
-pub mod InstalledVersions  -- what the version of an installed package is read as
 pub mod Verdict  -- whether a version is what a spec asks for
 pub mod Outcomes  -- what is wrong with a dependency, and with the version of Node
 -- ---- the whole file
@@ -19,11 +16,6 @@ pub mod Findings  -- all problems of a lock file in their order, and the counts
 pub mod ProblemJson  -- a problem as a JSON object
 pub mod Dependents  -- by which texts an installed package is asked for
 pub mod Faults  -- which values are no lock file
-pub mod VersionOne  -- lock files of version 1, and the `packages` that they stand for
--- ---- a manifest beside the lock file
-pub mod Mismatches  -- where a manifest and the lock file do not ask for the same
-pub mod MismatchJson  -- such a mismatch as a JSON object
-pub mod ManifestPlace  -- a manifest in the place of a package
 pub mod LinkedFolders  -- the folders of packages that links name
 -- ---- not part of any public contract: what private functions compute
 pub mod Private

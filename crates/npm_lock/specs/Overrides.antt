@@ -6,7 +6,7 @@ use Rattle.std.specs.Option.{option_map_or}
 use Rattle.serde_json.specs.Data.{Data, Members, member, no_members, object}
 use Rattle.serde_json.specs.Find.{as_object, as_str, get}
 use Rattle.npm_lock.specs.Asked.{AskedValue}
-use Rattle.npm_lock.specs.RangeText.{is_at_sign}
+use Rattle.npm_texts.specs.RangeText.{is_at_sign}
 
 -- what `overrides` say of a name: the spec that counts in place of others, or that it is not read here
 pub data RuleValue : Type 0 where

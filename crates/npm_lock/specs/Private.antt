@@ -1,5 +1,4 @@
 pub mod Adding  -- what a call adds to the problems
-pub mod GroupSpecs  -- what is left of a group
 pub mod Groups  -- what a map of names has
 pub mod Index  -- what the index of the folders has
 pub mod Linked  -- what a map of folders has

@@ -2,29 +2,13 @@
 -- "engines".
 use Rattle.std.specs.Prelude.{◌≡◌, ℕ, List, Bool, true, false, Option, Some, None, IfSome, bytes_eq, codes}
 use Rattle.std.specs.Str.{trim}
-use Rattle.npm_semver.specs.NpmRanges.{IsNpmRefused, NpmOptions, NpmTextAdmits, with_plain_spaces}
 use Rattle.node_semver.specs.Versions.{VersionValue}
-use Rattle.npm_lock.specs.InstalledVersions.{IsInstalledVersion}
-use Rattle.npm_lock.specs.RangeText.{in_registry, is_tag, location, refused, spec_of}
+use Rattle.npm_texts.specs.Admission.{Admits, IsNoRange, of_dependencies, of_engines}
+use Rattle.npm_texts.specs.InstalledVersions.{IsInstalledVersion}
+use Rattle.npm_texts.specs.RangeText.{in_registry, is_tag, location, refused, spec_of}
 use Rattle.npm_lock.specs.declared.problem.Reason.TheVariants.{Location, Tag}
 use Rattle.npm_lock.specs.declared.verdict.Verdict.{Verdict}
 use Rattle.npm_lock.specs.declared.verdict.Verdict.TheVariants.{Invalid, Unchecked, Valid}
-
--- ---- how npm reads ranges: those of dependencies in loose form, and those of engines with prereleases included
-
-abbrev pub of_dependencies : NpmOptions
-of_dependencies = record { loose = true; include_prerelease = false }
-
-abbrev pub of_engines : NpmOptions
-of_engines = record { loose = false; include_prerelease = true }
-
--- the text is no range
-abbrev pub IsNoRange : NpmOptions → (text : List ℕ) → Type 0
-IsNoRange options text = IsNpmRefused options (with_plain_spaces text)
-
--- the text is a range that admits the version
-abbrev pub Admits : NpmOptions → (text : List ℕ) → VersionValue → Type 0
-Admits options text v = NpmTextAdmits options (with_plain_spaces text) v
 
 -- ---- dependencies
 

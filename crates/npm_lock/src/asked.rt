@@ -6,6 +6,7 @@ ghost use Rattle.npm_lock.specs.Asked as Asks;
 ghost use Rattle.npm_lock.specs.Private.Groups.{at_name, is_needed_in};
 
 use crate::Result;
+use npm_texts::has_true;
 use serde_json::Value;
 use std::alloc::Global;
 use std::collections::BTreeMap;
@@ -91,28 +92,3 @@ pub(crate) fn accepted_of<'v>(asker: &'v Value, name: &str) -> Option<&'v str>
 {
     asker.get("acceptDependencies")?.get(name)?.as_str()
 }
-
-/// Returns `true` if a member is there and counts as true.
-pub(crate) fn has_true(value: &Value, key: &str) -> bool
-    ensures { result ≡ Asks.has_true key.now (view value.now) }
-{
-    value.get(key).is_some_and(is_true)
-}
-
-/// Returns `true` if JavaScript counts the value as true.
-fn is_true(value: &Value) -> bool
-    ensures { result ≡ Asks.is_true (view value.now) }
-{
-    if let Some(mark) = value.as_bool() {
-        return mark;
-    }
-    if let Some(number) = value.as_f64() {
-        return !(number == ZERO);
-    }
-    if let Some(text) = value.as_str() {
-        return !text.is_empty();
-    }
-    !value.is_null()
-}
-
-const ZERO: f64 = 0.0;

@@ -113,7 +113,7 @@ fn check_member(lock: Lock<'_>, member: &Value) -> Result<(), Fault>
 }
 
 /// Fails if a package that is no link has a fault.
-pub(crate) fn check_package(member: &Value) -> Result<(), Fault>
+pub fn check_package(member: &Value) -> Result<(), Fault>
     ensures { result_err result ≡ Faults.package_fault (view member.now) }
 {
     if !has_text_version(member) {
@@ -126,7 +126,7 @@ pub(crate) fn check_package(member: &Value) -> Result<(), Fault>
 }
 
 /// Returns `true` if `version` is a string, or absent.
-pub(crate) fn has_text_version(member: &Value) -> bool
+pub fn has_text_version(member: &Value) -> bool
     ensures { result ≡ Faults.has_text_version (view member.now) }
 {
     member.get("version").is_none_or(Value::is_string)
@@ -146,7 +146,7 @@ fn check_group(member: &Value, group: &str) -> Result<(), Fault>
 }
 
 /// Fails if this is no object of strings.
-pub(crate) fn check_specs(group: &Value) -> Result<(), Fault>
+pub fn check_specs(group: &Value) -> Result<(), Fault>
     ensures { result_err result ≡ Faults.specs_fault (as_object (view group.now)) }
 {
     let specs = group.as_object().ok_or(Fault::Dependencies)?;

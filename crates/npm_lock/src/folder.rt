@@ -3,7 +3,7 @@ ghost use Rattle.std.specs.Prelude.{◌≡◌, ◌↔◌, IsTrue};
 ghost use Rattle.npm_lock.specs.Folders.{IsInstalled};
 ghost use Rattle.npm_lock.specs.Folders as Folders;
 
-use crate::text::ends_with;
+use npm_texts::ends_with;
 
 /// Returns `true` for `..`, `../..` and so on.
 #[inline(always)]

@@ -11,13 +11,14 @@ ghost use Rattle.npm_lock.specs.Private.Patterns.{ArePatternsOf};
 ghost use Rattle.npm_lock.specs.Private.Search.{IsOutermostFrom};
 
 use crate::Result;
-use crate::asked::{Asked, has_true};
+use crate::asked::Asked;
 use crate::index::Index;
 use crate::place::{Lock, Package};
 use crate::problem::{Dependency, Kind, Problem, Problems, Reason, Unchecked};
 use crate::verdict::{Verdict, is_contained, verdict_of_both};
 use crate::workspace::{Patterns, Workspace, workspace_of};
 use node_semver::Version;
+use npm_texts::{copied, has_true};
 use serde_json::Value;
 use std::alloc::Global;
 
@@ -213,11 +214,4 @@ fn version_of(member: &Value) -> Option<&str>
     ensures { option_map (λ version. version.now) result ≡ Outcomes.version_of (view member.now) }
 {
     member.get("version")?.as_str()
-}
-
-/// A copy of a text that may be absent.
-pub(crate) fn copied(alloc: Global, text: Option<&str>) -> Result<Option<String>>
-    ensures { IfOk result (λ copy. option_map string_bytes copy ≡ option_map (λ text. text.now) text.entry) }
-{
-    text.map(|text| String::from_str(alloc, text)).transpose()
 }

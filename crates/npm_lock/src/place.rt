@@ -165,7 +165,7 @@ pub(crate) fn linked_folder(resolved: &str) -> &str
 }
 
 /// The folder of a name in the `node_modules` of a folder.
-pub(crate) fn place_text(alloc: Global, folder: &str, name: &str) -> Result<String>
+pub fn place_text(alloc: Global, folder: &str, name: &str) -> Result<String>
     ensures { IfOk result (λ text. string_bytes text ≡ Folders.place_in folder.now name.now) }
 {
     // One allocation. A text that grows from nothing takes three or four.
@@ -181,7 +181,7 @@ pub(crate) fn place_text(alloc: Global, folder: &str, name: &str) -> Result<Stri
 }
 
 /// Returns `true` if a member of `packages` is a link, and no package of its own.
-pub(crate) fn is_link(member: &Value) -> bool
+pub fn is_link(member: &Value) -> bool
     ensures { result ≡ Packages.is_link (view member.now) }
 {
     member.get("link").and_then(Value::as_bool).unwrap_or(false)

@@ -1,6 +1,6 @@
 //! What is wrong with a dependency, or not known of it, and its JSON object.
 ghost use Rattle.std.specs.Prelude.{◌≡◌, [], ◌∷◌, IfOk, OnOk, None, option_map};
-ghost use Rattle.serde_json.specs.Data.{boolean, put as with_member, string};
+ghost use Rattle.serde_json.specs.Data.{boolean, put as with_member};
 ghost use Rattle.serde_json.specs.View.{members_view, view};
 ghost use Rattle.npm_lock.specs.Findings.{IsReport, of_dependency, of_package};
 ghost use Rattle.npm_lock.specs.Outcomes.{dependency_value, problem_value, unchecked_value};
@@ -8,6 +8,7 @@ ghost use Rattle.npm_lock.specs.Private.Adding.{Adds};
 ghost use Rattle.npm_lock.specs.ProblemJson.{dependency_members, kind_text, problem_data, reason_text, unchecked_data};
 
 use crate::Result;
+use npm_texts::put_text;
 use serde_json::{Map, Value, put};
 use std::alloc::Global;
 
@@ -153,19 +154,6 @@ fn put_bool(members: &mut Map<String, Value>, alloc: Global, name: &str, value: 
         ≡ with_member name.now (boolean value) (members_view members.old.entries)) }
 {
     put(members, alloc, name, Value::Bool(value))
-}
-
-/// Adds a member whose value is a text.
-pub(crate) fn put_text(
-    members: &mut Map<String, Value>,
-    alloc: Global,
-    name: &str,
-    text: &str,
-) -> Result<()>
-    ensures { OnOk result (members_view members.new.entries
-        ≡ with_member name.now (string text.now) (members_view members.old.entries)) }
-{
-    put(members, alloc, name, Value::try_from_str(alloc, text)?)
 }
 
 /// The problems of a lock file, and what was counted.

@@ -1,22 +1,20 @@
 //! Whether a version satisfies a dependency's spec.
-ghost use Rattle.std.specs.Prelude.{◌≡◌, ◌↔◌, List, ℕ, IfOk, IfNone, IfSome, IsTrue, false, if◌then◌else◌, option_map};
-ghost use Rattle.npm_semver.specs.NpmRanges.{NpmSetsAdmit};
+ghost use Rattle.std.specs.Prelude.{◌≡◌, ◌↔◌, List, ℕ, IfOk, IsTrue, false, if◌then◌else◌, option_map};
 ghost use Rattle.node_semver.specs.Ranges.{RangeAdmits};
 ghost use Rattle.node_semver.specs.Versions.{VersionValue};
 ghost use Rattle.serde_json.specs.View.{view};
 ghost use Rattle.npm_lock.specs.Asked.{accepted_of};
 ghost use Rattle.npm_lock.specs.Verdict as Verdicts;
-ghost use Rattle.npm_lock.specs.Verdict.{Admits, IsContained, IsNoRange, IsVerdict, IsVerdictOfBoth, IsVerdictOfText};
+ghost use Rattle.npm_lock.specs.Verdict.{IsContained, IsVerdict, IsVerdictOfBoth, IsVerdictOfText};
+ghost use Rattle.npm_texts.specs.Admission.{Admits, IsNoRange, of_dependencies};
 
 use crate::Result;
 use crate::asked::accepted_of;
-use crate::installed::installed_version;
 use crate::problem::Reason;
-use crate::range_text::{Spec, is_tag, spec_of};
 use node_semver::{Range, Version};
-use npm_semver::NpmOptions;
+use npm_texts::{OF_DEPENDENCIES, OF_ENGINES, Spec, installed_version, is_tag, range_of, spec_of};
 use serde_json::Value;
-use std::alloc::{AllocError, Global};
+use std::alloc::Global;
 
 /// Whether a version satisfies a spec.
 #[derive(Clone, Copy, Debug, PartialEq, Eq, Drop)]
@@ -97,8 +95,8 @@ fn asks_for_any(text: &str) -> bool
 /// Returns `true` if the version of a package satisfies a range. A text that npm reads no version in does not, and neither does
 /// none.
 fn is_satisfied(range: &Range, version: Option<&str>) -> bool
-    ensures { (text : List ℕ) → Verdicts.asks_for_any text ≡ false → ¬ IsNoRange Verdicts.of_dependencies text
-        → ((v : VersionValue) → RangeAdmits range.now v ↔ Admits Verdicts.of_dependencies text v)
+    ensures { (text : List ℕ) → Verdicts.asks_for_any text ≡ false → ¬ IsNoRange of_dependencies text
+        → ((v : VersionValue) → RangeAdmits range.now v ↔ Admits of_dependencies text v)
         → IsVerdictOfText (option_map (λ t. t.now) version.entry) text
         (if result then Verdict.Valid else Verdict.Invalid) }
 {
@@ -119,31 +117,5 @@ pub(crate) fn is_contained(alloc: Global, text: &str, version: &Version) -> Resu
     match range_of(alloc, text, OF_ENGINES)? {
         Some(range) => Ok(range.contains(version)),
         None => Ok(false),
-    }
-}
-
-/// How npm reads the ranges of dependencies.
-const OF_DEPENDENCIES: NpmOptions = NpmOptions {
-    loose: true,
-    include_prerelease: false,
-};
-
-/// How npm reads the ranges of engines.
-const OF_ENGINES: NpmOptions = NpmOptions {
-    loose: false,
-    include_prerelease: true,
-};
-
-/// The range of a text as npm reads it, or `None` if it is none.
-fn range_of(alloc: Global, text: &str, options: NpmOptions) -> Result<Option<Range>>
-    ensures refused { IfOk result (λ range. IfNone range (IsNoRange options text.now)) }
-    ensures accepted { IfOk result (λ range. IfSome range (λ range. ¬ IsNoRange options text.now)) }
-    ensures means { IfOk result (λ range. IfSome range (λ range.
-        (v : VersionValue) → NpmSetsAdmit options.include_prerelease range v ↔ Admits options text.now v)) }
-{
-    match npm_semver::parse_range(alloc, text, options) {
-        Ok(range) => Ok(Some(range)),
-        Err(error) if error.is_out_of_memory() => Err(AllocError),
-        Err(_) => Ok(None),
     }
 }

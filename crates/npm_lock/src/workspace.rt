@@ -9,7 +9,7 @@ ghost use Rattle.npm_lock.specs.Private.Patterns.{ArePatternsOf, by_index, has_m
 use crate::Result;
 use crate::folder::is_installed;
 use crate::place::{Package, linked_folder};
-use crate::text::{ends_with, rest_after, without_end};
+use npm_texts::{ends_with, rest_after, without_end};
 use serde_json::Value;
 use std::alloc::Global;
 use std::collections::BTreeMap;

@@ -8,7 +8,7 @@ use Rattle.std.specs.Prelude.{nat_eq}
 use Rattle.std.specs.Str.Pattern.{LacksTextAt, RFindsText, SplitsAroundMatch}
 use Rattle.std.proofs.lemmas.Str.Pattern.{starts_text}
 use denote.Ref.{Bor}
-use Rattle.npm_lock.specs.Texts.{rest_after}
+use Rattle.npm_texts.specs.Texts.{rest_after}
 use Rattle.npm_lock_check.specs.Sentence.{last_name}
 
 abbrev modules : List ℕ

@@ -5,8 +5,8 @@ use Rattle.std.proofs.lemmas.List.{drop_more}
 use Rattle.serde_json.proofs.OnLiterals.{serde_json_on_literals}
 use Rattle.serde_json.specs.Data.{no_members, put, string}
 use Rattle.serde_json.specs.Written.{has_float, members_have_float}
-use Rattle.npm_lock.specs.MismatchJson.{mismatch_data}
-use Rattle.npm_lock.specs.Mismatches.{MismatchValue}
+use Rattle.npm_manifests.specs.MismatchJson.{mismatch_data}
+use Rattle.npm_manifests.specs.Mismatches.{MismatchValue}
 use Rattle.npm_lock.specs.Outcomes.{ProblemValue, UncheckedValue}
 use Rattle.npm_lock.specs.ProblemJson.{problem_data, reason_text, unchecked_data, with_text}
 use Rattle.npm_lock_check.specs.Report.{AreLines, lines, one_more}

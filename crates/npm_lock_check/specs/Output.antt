@@ -9,8 +9,8 @@ use Rattle.serde_json.specs.Data.{Data}
 use Rattle.serde_json.specs.Read.{read}
 use Rattle.serde_json.specs.View.{view}
 use Rattle.serde_json.specs.declared.value.Value.{Value}
-use Rattle.npm_lock.specs.Mismatches.{manifest_fault}
-use Rattle.npm_lock.specs.VersionOne.{any_fault}
+use Rattle.npm_manifests.specs.Mismatches.{manifest_fault}
+use Rattle.npm_lock_version_one.specs.VersionOne.{any_fault}
 use Rattle.npm_lock.specs.declared.fault.Fault.{Fault}
 use Rattle.npm_advisories.specs.Audit.{FoundValue}
 use Rattle.npm_advisories.specs.LockFaults.{IsFileFaultBeside}

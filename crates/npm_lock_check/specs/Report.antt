@@ -12,13 +12,13 @@ use Rattle.serde_json.specs.Written.{compact_text, has_float}
 use Rattle.serde_json.specs.declared.value.Value.{Value}
 use Rattle.node_semver.specs.Versions.{VersionValue}
 use Rattle.npm_lock.specs.Findings as Findings
-use Rattle.npm_lock.specs.ManifestPlace.{with_manifest}
-use Rattle.npm_lock.specs.MismatchJson.{mismatch_data}
-use Rattle.npm_lock.specs.Mismatches.{AreMismatches, MismatchValue, mismatch_value}
+use Rattle.npm_manifests.specs.ManifestPlace.{with_manifest}
+use Rattle.npm_manifests.specs.MismatchJson.{mismatch_data}
+use Rattle.npm_manifests.specs.Mismatches.{AreMismatches, MismatchValue, mismatch_value}
 use Rattle.npm_lock.specs.Outcomes.{ProblemValue, UncheckedValue, problem_value, unchecked_value}
 use Rattle.npm_lock.specs.ProblemJson.{problem_data, unchecked_data}
-use Rattle.npm_lock.specs.VersionOne.{converted}
-use Rattle.npm_lock.specs.declared.mismatch.Mismatch.{Mismatch}
+use Rattle.npm_lock_version_one.specs.VersionOne.{converted}
+use Rattle.npm_manifests.specs.declared.mismatch.Mismatch.{Mismatch}
 use Rattle.npm_lock.specs.declared.problem.Problems.{Problems}
 use Rattle.npm_advisories.specs.Files.{advisories_of}
 use Rattle.npm_advisories.specs.Audit.{FoundValue, InstalledValue, IsAudit}

@@ -1,7 +1,7 @@
 //! The lines that are written about a lock file.
 ghost use Rattle.std.specs.Prelude.{◌≡◌, ◌++◌, List, ℕ, IfOk, OnOk, map};
 ghost use Rattle.npm_advisories.specs.Audit.{found_value};
-ghost use Rattle.npm_lock.specs.Mismatches.{mismatch_value};
+ghost use Rattle.npm_manifests.specs.Mismatches.{mismatch_value};
 ghost use Rattle.npm_lock.specs.Outcomes.{problem_value, unchecked_value};
 ghost use Rattle.npm_lock_check.specs.Report as Reports;
 ghost use Rattle.npm_lock_check.specs.Linked.{folder_text};
@@ -16,7 +16,8 @@ use crate::sentence::{push_mismatch_sentence, push_sentence, push_unchecked_sent
 use crate::unread::{push_unread_sentence, unread_json};
 use crate::wanted::Wanted;
 use npm_advisories::Found;
-use npm_lock::{Mismatch, Problem, Unchecked};
+use npm_lock::{Problem, Unchecked};
+use npm_manifests::Mismatch;
 use serde_json::Value;
 use std::alloc::{AllocError, Global};
 

@@ -4,7 +4,7 @@ ghost use Rattle.std.specs.Fn.{FnOnceReturnsAt};
 ghost use Rattle.std.specs.Io.KnownBytes.{Appends};
 ghost use Rattle.serde_json.specs.View.{view};
 ghost use Rattle.npm_lock.specs.Faults.{lock_fault};
-ghost use Rattle.npm_lock.specs.VersionOne.{any_fault, converted};
+ghost use Rattle.npm_lock_version_one.specs.VersionOne.{any_fault, converted};
 ghost use Rattle.npm_advisories.specs.Audit.{FoundValue};
 ghost use Rattle.npm_lock_check.specs.Kinds.{has};
 ghost use Rattle.npm_lock_check.specs.Linked.{loaded_value};
@@ -23,7 +23,8 @@ use crate::run_error::{LoadError, RunError, StopError, failure_error, json_error
 use crate::sync::{compare, is_compared};
 use crate::wanted::Wanted;
 use crate::watched::Watched;
-use npm_lock::{CheckError, Problem, Problems, check, convert};
+use npm_lock::{CheckError, Problem, Problems, check};
+use npm_lock_version_one::convert;
 use serde_json::Value;
 use std::alloc::Global;
 use std::io::{Read, Write};

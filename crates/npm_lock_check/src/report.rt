@@ -3,7 +3,8 @@ ghost use Rattle.std.specs.Prelude.{◌≡◌, ◌↔◌, IsTrue};
 ghost use Rattle.npm_lock_check.specs.Report.{IsClean};
 
 use crate::folder_name::FolderName;
-use npm_lock::{Mismatch, Problems};
+use npm_lock::Problems;
+use npm_manifests::Mismatch;
 use std::fmt;
 
 /// What was written about a lock file.

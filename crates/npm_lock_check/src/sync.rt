@@ -1,7 +1,7 @@
 //! The manifests of the root and of linked folders, beside a lock file.
 ghost use Rattle.std.specs.Prelude.{◌≡◌, ◌++◌, [], List, None, IfErr, IfOk, OnOk, Some, map, option_map};
 ghost use Rattle.serde_json.specs.View.{view};
-ghost use Rattle.npm_lock.specs.Mismatches.{AreMismatches, manifest_fault};
+ghost use Rattle.npm_manifests.specs.Mismatches.{AreMismatches, manifest_fault};
 ghost use Rattle.npm_lock_check.specs.Linked.{linked_value};
 ghost use Rattle.npm_lock_check.specs.Private.Refusals.{AreLinkedRefused, IsCompareRefused, IsManifestRefused, IsOneRefused};
 ghost use Rattle.npm_lock_check.specs.Report.{AreAllMismatches, AreLeftMismatches, has_packages, is_compared, manifests_of};
@@ -11,7 +11,8 @@ use crate::folder_name::FolderName;
 use crate::linked::Linked;
 use crate::run_error::RunError;
 use crate::wanted::Wanted;
-use npm_lock::{CheckError, Fault, Mismatch, mismatches_of, put_manifest};
+use npm_lock::{CheckError, Fault};
+use npm_manifests::{Mismatch, mismatches_of, put_manifest};
 use serde_json::Value;
 use std::alloc::Global;
 

@@ -1,5 +1,6 @@
 use node_semver::Version;
-use npm_lock::{CheckError, Problem, Problems, Unchecked, check, check_any};
+use npm_lock::{CheckError, Problem, Problems, Unchecked, check};
+use npm_lock_version_one::check_any;
 use serde_json::Value;
 use std::alloc::{AllocError, Global};
 

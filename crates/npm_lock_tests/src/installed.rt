@@ -1,6 +1,6 @@
 //! Tests of the versions of installed packages, as npm reads them.
 use crate::checks::is_text;
-use npm_lock::installed_version;
+use npm_texts::installed_version;
 use std::alloc::{AllocError, Global};
 
 // Source: `new SemVer(text, { loose: true })` of npm's package `semver` 7.6.2, with its build.

@@ -1,6 +1,7 @@
 //! Tests of manifests beside a lock file: which names they do not ask for alike, and what is checked with a manifest.
 use crate::checks::{Findings, fault_text, is_text, push_line, tells};
-use npm_lock::{CheckError, Mismatch, mismatches_of, put_manifest};
+use npm_lock::CheckError;
+use npm_manifests::{Mismatch, mismatches_of, put_manifest};
 use serde_json::Value;
 use std::alloc::{AllocError, Global};
 

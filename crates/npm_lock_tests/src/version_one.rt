@@ -3,7 +3,8 @@ use crate::checks::{
     fault_text, finds, finds_beside, finds_in, finds_in_any, is_text, problems_text,
 };
 use node_semver::Version;
-use npm_lock::{CheckError, Problems, check_any, convert};
+use npm_lock::{CheckError, Problems};
+use npm_lock_version_one::{check_any, convert};
 use serde_json::Value;
 use std::alloc::{AllocError, Global};
 

@@ -92,10 +92,10 @@ impl Trial for Call {
 fn name_of(name: &str) -> Option<Name> {
     Some(match name {
         "npm_lock::check" => Name::Check,
-        "npm_lock::check_any" => Name::CheckAny,
-        "npm_lock::convert" => Name::Convert,
-        "npm_lock::mismatches_of" => Name::Mismatches,
-        "npm_lock::put_manifest" => Name::Put,
+        "npm_lock_version_one::check_any" => Name::CheckAny,
+        "npm_lock_version_one::convert" => Name::Convert,
+        "npm_manifests::mismatches_of" => Name::Mismatches,
+        "npm_manifests::put_manifest" => Name::Put,
         "npm_lock::linked_folders" => Name::Folders,
         "Dependents::of_lock" => Name::Dependents,
         "npm_advisories::audit_lock" => Name::Audit,
@@ -149,7 +149,7 @@ fn any_checked(alloc: Global, lock: &Value, manifest: Option<&Value>, node: &str
     };
     problems(
         alloc,
-        npm_lock::check_any(alloc, lock, manifest, node.as_ref()),
+        npm_lock_version_one::check_any(alloc, lock, manifest, node.as_ref()),
     )
 }
 
@@ -164,7 +164,7 @@ fn converted(alloc: Global, lock: &Value, manifest: Option<&Value>) -> Answer {
     let Ok(copy) = lock.clone() else {
         return Answer::OutOfMemory;
     };
-    match npm_lock::convert(alloc, copy, manifest) {
+    match npm_lock_version_one::convert(alloc, copy, manifest) {
         Ok(made) => Answer::Json(made),
         Err(error) => answer::refused(error),
     }
@@ -174,7 +174,7 @@ fn mismatches(alloc: Global, lock: &Value, manifest: Option<&Value>, folder: &st
     let Some(manifest) = manifest else {
         return Answer::Nothing;
     };
-    match npm_lock::mismatches_of(alloc, lock, folder, manifest) {
+    match npm_manifests::mismatches_of(alloc, lock, folder, manifest) {
         Ok(mismatches) => answer::list(text_of_mismatches(alloc, &mismatches)),
         Err(error) => answer::refused(error),
     }
@@ -192,7 +192,7 @@ fn with_manifest(
         None => Value::Null,
     };
     let mut changed = lock.clone()?;
-    npm_lock::put_manifest(alloc, &mut changed, folder, manifest)?;
+    npm_manifests::put_manifest(alloc, &mut changed, folder, manifest)?;
     Ok(changed)
 }
 

@@ -1,6 +1,7 @@
 //! Texts of lists, each member with a tab after it. They are made within a call, so that no list outlives what it borrows.
 use npm_advisories::Found;
-use npm_lock::{Mismatch, Problem, Problems, Unchecked};
+use npm_lock::{Problem, Problems, Unchecked};
+use npm_manifests::Mismatch;
 use serde_json::Value;
 use std::alloc::{AllocError, Global};
 

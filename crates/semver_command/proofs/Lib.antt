@@ -1,7 +1,6 @@
 pub mod AllTexts
 pub mod Answered
 pub mod ArgumentSteps
-pub mod BareTexts
 pub mod Choosing
 pub mod Increments
 pub mod ReadTexts

@@ -1,25 +1,12 @@
 -- The version that a text is read as: npm's `valid` and `coerce`.
-use Rattle.std.specs.Prelude.{◌≡◌, ◌==◌, ◌≤◌, ◌||◌, ℕ, List, [], ◌∷◌, Bool, true, false, chars, encode_utf8_all}
-use Rattle.std.specs.Prelude.{if◌then◌else◌, length, reverse}
+use Rattle.std.specs.Prelude.{◌≡◌, ◌==◌, ◌≤◌, ℕ, List, [], ◌∷◌, Bool, true, false, chars, encode_utf8_all}
+use Rattle.std.specs.Prelude.{if◌then◌else◌, length}
 use Rattle.npm_semver.specs.Coerce.{IsCoerced}
 use Rattle.npm_semver.specs.CoerceWithPrerelease.{IsCoercedWithPrerelease}
-use Rattle.npm_semver.specs.NpmRanges.{is_space, is_wide_space}
 use Rattle.node_semver.specs.Versions.{IsStrictVersionText, MAX_LENGTH, VersionValue}
+use Rattle.npm_texts.specs.WhiteSpace.{is_white, without_end, without_start}
 use Rattle.semver_texts.specs.Version.{without_build}
 use Rattle.semver_command.specs.declared.asked.Options.{Options}
-
--- white space: `\s` of JavaScript
-abbrev pub is_white : ℕ → Bool
-is_white c = is_space c || is_wide_space c
-
--- the characters from the first on that fails the test
-abbrev pub without_start : (ℕ → Bool) → List ℕ → List ℕ
-without_start test [] = []
-without_start test (c ∷ cs) = if test c then without_start test cs else c ∷ cs
-
--- the characters up to the last that fails the test
-abbrev pub without_end : (ℕ → Bool) → List ℕ → List ℕ
-without_end test cs = reverse (without_start test (reverse cs))
 
 -- the characters without a `v` before the others
 abbrev pub without_mark : List ℕ → List ℕ

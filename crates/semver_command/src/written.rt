@@ -1,14 +1,14 @@
 //! The version that a text is, or that is found in it.
-ghost use Rattle.std.specs.Prelude.{◌≡◌, ◌↔◌, ◌<◌, true, IfOk, IsTrue, MatchOption, chars, length};
-ghost use Rattle.std.specs.Char.{IsScalar};
+ghost use Rattle.std.specs.Prelude.{◌≡◌, true, IfOk, MatchOption, chars};
 ghost use Rattle.node_semver.specs.Versions.{VersionValue};
 ghost use Rattle.semver_texts.specs.Version.{without_build};
 ghost use Rattle.semver_command.specs.Written as Written;
-ghost use Rattle.semver_command.specs.Written.{IsFound, IsRead, IsWritten, without_end, without_start};
+ghost use Rattle.semver_command.specs.Written.{IsFound, IsRead, IsWritten};
 
 use crate::asked::Options;
-use node_semver::{MAX_LENGTH, Version, VersionRef};
+use node_semver::{Version, VersionRef};
 use npm_semver::{CoerceOptions, coerce, coerce_with_prerelease};
+use npm_texts::{is_long, without_white_end, without_white_start};
 use std::alloc::{AllocError, Global};
 
 /// Returns the version that a text is read as, without its build, or `None` if it is read as none.
@@ -91,18 +91,11 @@ fn written_version(text: &str) -> Option<VersionRef<'_>>
     }
 }
 
-/// Returns `true` if the text has more than 256 characters.
-fn is_long(text: &str) -> bool
-    ensures { IsTrue result ↔ MAX_LENGTH < length (chars text.now) }
-{
-    text.len() > MAX_LENGTH && text.chars().count() > MAX_LENGTH
-}
-
 /// The text without white space at its ends, and without a `v` before the rest.
 fn bare(text: &str) -> &str
     ensures { result.now ≡ Written.bare text.now }
 {
-    without_mark(without_last(without_first(text)))
+    without_mark(without_white_end(without_white_start(text)))
 }
 
 /// The text without a `v` at its start.
@@ -113,47 +106,5 @@ fn without_mark(text: &str) -> &str
     match left.next() {
         Some('v') => left.as_str(),
         _ => text,
-    }
-}
-
-/// The text without white space at its start.
-fn without_first(text: &str) -> &str
-    ensures { chars result.now ≡ without_start Written.is_white (chars text.now) }
-{
-    let mut left = text.chars();
-    'white: loop {
-        let rest = left.as_str();
-        match left.next() {
-            Some(c) if is_white(c) => {}
-            _ => return rest,
-        }
-    }
-}
-
-/// The text without white space at its end.
-fn without_last(text: &str) -> &str
-    ensures { chars result.now ≡ without_end Written.is_white (chars text.now) }
-{
-    let mut left = text.chars();
-    'white: loop {
-        let front = left.as_str();
-        match left.next_back() {
-            Some(c) if is_white(c) => {}
-            _ => return front,
-        }
-    }
-}
-
-/// Returns `true` for the white space of JavaScript.
-fn is_white(c: char) -> bool
-    ensures white { result ≡ Written.is_white c }
-    ensures scalar { IsScalar c }
-{
-    match c {
-        ' ' | '\t'..='\r' => true,
-        '\u{a0}' | '\u{1680}' | '\u{2000}'..='\u{200a}' | '\u{2028}' | '\u{2029}' | '\u{202f}' =>
-            true,
-        '\u{205f}' | '\u{3000}' | '\u{feff}' => true,
-        _ => false,
     }
 }

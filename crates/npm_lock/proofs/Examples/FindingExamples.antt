@@ -14,7 +14,7 @@ use Rattle.npm_lock.specs.Findings.{ArePackageFindings}
 use Rattle.npm_lock.specs.Outcomes.{ProblemValue, dependency_of, missing, wrong}
 use Rattle.npm_lock.specs.declared.problem.Kind.TheVariants.{Missing}
 use Rattle.npm_lock.specs.Packages.{IsFound, above, nowhere}
-use Rattle.npm_lock.proofs.NameLists.{exact}
+use Rattle.npm_texts.specs.Lemmas.Keys.{exact}
 
 abbrev pub asker : Data
 asker = object (member (codes "dependencies") (object (member (codes "a") (string (codes "^1")) no_members)) no_members)

@@ -12,7 +12,7 @@ use Rattle.npm_lock.specs.declared.fault.Fault.TheVariants.{Dependencies}
 use Rattle.npm_lock.proofs.Examples.FindingExamples.{no_slash}
 use Rattle.npm_lock.specs.Folders.{IsAbove, is_modules, place_in}
 use Rattle.npm_lock.specs.Packages.{linked_folder, package_at}
-use Rattle.npm_lock.specs.RangeText.{in_registry, is_tag, location, spec_of}
+use Rattle.npm_texts.specs.RangeText.{in_registry, is_tag, location, spec_of}
 
 -- ---- which specs are ranges
 

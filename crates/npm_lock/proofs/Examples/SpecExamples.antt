@@ -2,7 +2,7 @@
 use Rattle.std.proofs.Common.{◌≡◌, true, false, codes, refl, Some, None}
 use lib.Utf8.{encode}
 use Rattle.std.specs.Str.{chars, trim_end, trim_start}
-use Rattle.npm_lock.specs.RangeText.{aliased_name, in_registry, is_tag, location, refused, spec_of}
+use Rattle.npm_texts.specs.RangeText.{aliased_name, in_registry, is_tag, location, refused, spec_of}
 use Rattle.npm_lock.specs.Verdict.{asks_for_any}
 
 pub the_empty_spec_is_any : spec_of (codes "") ≡ in_registry (codes "*")

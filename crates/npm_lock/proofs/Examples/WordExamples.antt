@@ -5,9 +5,8 @@ use Rattle.std.specs.Str.{chars, trim_end, trim_start}
 use lib.Utf8.{encode}
 use Rattle.serde_json.specs.Data.{Data, array, boolean, member, no_items, no_members, number, object, string, unsigned}
 use Rattle.npm_lock.specs.Faults.{groups_fault, lock_fault, package_fault}
-use Rattle.npm_lock.specs.Mismatches as Mismatches
 use Rattle.npm_lock.specs.ProblemJson.{kind_text, reason_text, unchecked_data}
-use Rattle.npm_lock.specs.RangeText.{in_registry, is_tag, location, spec_of}
+use Rattle.npm_texts.specs.RangeText.{in_registry, is_tag, location, spec_of}
 use Rattle.npm_lock.specs.Verdict.{better}
 use Rattle.npm_lock.specs.declared.fault.Fault.TheVariants as Faults
 use Rattle.npm_lock.specs.declared.problem.Kind.TheVariants as Kinds
@@ -145,9 +144,6 @@ pub the_first_package_comes_first : lock_fault (object (member (codes "lockfileV
     ≡ Some Faults.Package
 unfolding eq of_int
 the_first_package_comes_first = refl
-
-pub an_object_comes_first_in_a_manifest : Mismatches.manifest_fault (array no_items) ≡ Some Faults.Manifest
-an_object_comes_first_in_a_manifest = refl
 
 -- ---- two verdicts: the better counts, and of two reasons the first
 

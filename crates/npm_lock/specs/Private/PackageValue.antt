@@ -5,14 +5,11 @@ use Rattle.serde_json.specs.View.{members_view, view}
 use Rattle.npm_lock.specs.Asked.{AskedValue}
 use Rattle.npm_lock.specs.Outcomes.{JudgementValue, fine, unknown, wrong}
 use Rattle.npm_lock.specs.Packages as Packages
-use Rattle.npm_lock.specs.RangeText.{SpecValue, in_registry, location, refused}
 use Rattle.npm_lock.specs.declared.asked.Asked.{Asked}
 use Rattle.npm_lock.specs.declared.outcome.Judgement.{Judgement}
 use Rattle.npm_lock.specs.declared.outcome.Judgement.TheVariants as Judgements
 use Rattle.npm_lock.specs.declared.place.Lock.{Lock}
 use Rattle.npm_lock.specs.declared.place.Package.{Package}
-use Rattle.npm_lock.specs.declared.range_text.Spec.{Spec}
-use Rattle.npm_lock.specs.declared.range_text.Spec.TheVariants as Specs
 
 -- its member `packages`
 abbrev pub packages_data : Lock → Data
@@ -31,12 +28,6 @@ asked_value asked = record {
   is_dev = asked.is_dev;
   is_overridden = asked.is_overridden;
 }
-
--- what a spec is
-abbrev pub spec_value : Spec → SpecValue
-spec_value (Specs.Text range) = in_registry range.now
-spec_value Specs.Location = location
-spec_value Specs.Refused = refused
 
 -- what is found out about a dependency
 abbrev pub judgement_value : Judgement → JudgementValue

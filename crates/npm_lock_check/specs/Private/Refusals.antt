@@ -3,8 +3,8 @@
 use Rattle.std.specs.Prelude.{◌≡◌, ◌⊎◌, ℕ, List, Option, Some, string_bytes}
 use Rattle.serde_json.specs.Data.{Data}
 use Rattle.npm_lock.specs.Faults.{lock_fault}
-use Rattle.npm_lock.specs.Mismatches.{manifest_fault}
-use Rattle.npm_lock.specs.VersionOne.{converted}
+use Rattle.npm_manifests.specs.Mismatches.{manifest_fault}
+use Rattle.npm_lock_version_one.specs.VersionOne.{converted}
 use Rattle.npm_lock.specs.declared.fault.Fault.{Fault}
 use Rattle.npm_advisories.specs.Faults.{FaultValue}
 use Rattle.npm_advisories.specs.declared.fault.FaultKind.{FaultKind}

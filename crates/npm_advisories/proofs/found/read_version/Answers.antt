@@ -1,5 +1,5 @@
 -- A text is read as one version, or as none.
-use Rattle.npm_lock.specs.InstalledVersions.{bare}
+use Rattle.npm_texts.specs.InstalledVersions.{bare}
 use Rattle.npm_advisories.specs.Audit.{as_text, by_npm, unread}
 use Rattle.npm_advisories.proofs.ReadVersions.{least-end, only-as_text, only-by_npm, only-unread}
 use Rattle.npm_advisories.proofs.Releases.{version-end}

@@ -8,7 +8,8 @@ use Rattle.serde_json.specs.View.{members_view, view}
 use Rattle.npm_lock.specs.Asked.{is_optional_peer}
 use Rattle.npm_lock.specs.Private.PackageValue.{asked_value}
 use Rattle.npm_lock.specs.Private.Groups.{at_name, is_needed_in}
-use Rattle.npm_lock.proofs.Groups.{absent, in_group, no_text, of_none, of_peer, of_plain, seen_update, with_text}
+use Rattle.npm_lock.proofs.Groups.{absent, no_text, of_none, of_peer, of_plain, seen_update, with_text}
+use Rattle.npm_texts.specs.Lemmas.Objects.{in_group}
 use Rattle.npm_lock.proofs.asked.add_group.Goals as goal
 use Rattle.npm_lock.proofs.asked.add_group.Goals.{then-is_needed, then-is_peer, else-is_peer, else-is_needed}
 

@@ -8,7 +8,7 @@ use Rattle.serde_json.specs.Find.{as_object, get}
 use Rattle.serde_json.specs.View.{members_view, view}
 use Rattle.npm_lock.specs.Faults as Faults
 use Rattle.npm_lock.specs.declared.fault.Fault.{Fault}
-use Rattle.npm_lock.proofs.Groups.{is_object_of}
+use Rattle.npm_texts.specs.Lemmas.Objects.{is_object_of}
 use Rattle.npm_lock.proofs.fault.lock_of.Goals as goal
 
 refused : (lock packages : Data) (members : Members) (fault : Fault) → Faults.has_format lock ≡ true

@@ -1,6 +1,6 @@
 -- The findings of a member come before those of the members that are left.
 use Rattle.std.proofs.Common.{◌≡◌, ◌++◌, [], refl}
-use Rattle.npm_lock.proofs.NameLists.{sorted_keys}
+use Rattle.npm_texts.specs.Lemmas.Keys.{sorted_keys}
 use Rattle.npm_lock.proofs.Reports.{adds_both, adds_none}
 use Rattle.npm_lock.proofs.lock_file.problems_of.Goals as goal
 

@@ -4,7 +4,7 @@ use Rattle.serde_json.specs.View.{members_view, view}
 use Rattle.npm_lock.specs.Overrides.{both, is_named_among, is_named_in, name_of, rule_if, unread}
 use Rattle.npm_lock.specs.Private.Rules.{rule_at}
 use Rattle.npm_lock.proofs.OverrideRules.{any_unread, both_none, two_added}
-use Rattle.npm_lock.proofs.PackageLists.{is_object}
+use Rattle.npm_texts.specs.Lemmas.Objects.{is_object}
 use Rattle.npm_lock.proofs.overrides.+add_inside.Goals as goal
 
 pub loop-key-preserved : goal.loop-key-preserved

@@ -1,6 +1,7 @@
 use Rattle.std.proofs.Common.{◌≡◌, ◌↔◌, ℕ, List, Bool, IsTrue, true, false, refl}
 use Rattle.node_semver.specs.Versions.{VersionValue}
-use Rattle.npm_lock.specs.Verdict.{Admits, IsContained, IsNoRange, inside, of_engines, outside}
+use Rattle.npm_texts.specs.Admission.{Admits, IsNoRange, of_engines}
+use Rattle.npm_lock.specs.Verdict.{IsContained, inside, outside}
 use Rattle.npm_lock.proofs.verdict.is_contained.Goals as goal
 
 contained : (text : List ℕ) (v : VersionValue) (answer : Bool) → (IsTrue answer ↔ Admits of_engines text v)

@@ -2,8 +2,9 @@ use Rattle.std.proofs.Common.{◌≡◌, ◌↔◌, ℕ, List, Bool, IsTrue, Opt
 use Rattle.std.proofs.Common.{IfNone, None, option_map, refl, rules}
 use Rattle.node_semver.specs.Ranges.{RangeAdmits}
 use Rattle.node_semver.specs.Versions.{VersionValue}
-use Rattle.npm_lock.specs.InstalledVersions.{IsInstalledVersion}
-use Rattle.npm_lock.specs.Verdict.{Admits, IsNoRange, IsVerdictOfText, asks_for_any, no_version, of_dependencies}
+use Rattle.npm_texts.specs.InstalledVersions.{IsInstalledVersion}
+use Rattle.npm_texts.specs.Admission.{Admits, IsNoRange, of_dependencies}
+use Rattle.npm_lock.specs.Verdict.{IsVerdictOfText, asks_for_any, no_version}
 use Rattle.npm_lock.specs.Verdict.{satisfied, unsatisfied}
 use Rattle.npm_lock.specs.declared.verdict.Verdict.TheVariants.{Invalid, Valid}
 use Rattle.npm_lock.proofs.verdict.is_satisfied.Goals as goal

@@ -1,7 +1,7 @@
 -- Each branch is a case of the definition.
 use Rattle.std.proofs.Common.{◌∙◌, ap, sym}
 use Rattle.std.proofs.lemmas.Result.{IfOk-weaker}
-use Rattle.npm_lock.specs.Private.PackageValue.{spec_value}
+use Rattle.npm_texts.specs.RangeText.{spec_value}
 use Rattle.npm_lock.specs.Verdict.{elsewhere, never, of_text}
 use Rattle.npm_lock.proofs.verdict.verdict_of.Goals as goal
 

@@ -2,8 +2,8 @@
 use Rattle.std.proofs.Common.{◌≡◌, arith, string_bytes}
 use Rattle.std.proofs.lemmas.Grind.{common_steps}
 use Rattle.serde_json.specs.Written.{compact_text}
-use Rattle.npm_lock.specs.MismatchJson.{mismatch_data}
-use Rattle.npm_lock.specs.Mismatches.{mismatch_value}
+use Rattle.npm_manifests.specs.MismatchJson.{mismatch_data}
+use Rattle.npm_manifests.specs.Mismatches.{mismatch_value}
 use Rattle.npm_lock_check.proofs.OutputLines.{no_float_mismatch}
 use Rattle.npm_lock_check.proofs.lines.push_mismatch.Goals as goal
 

@@ -1,5 +1,5 @@
 use Rattle.std.proofs.Common.{◌≡◌, ◌++◌, [], ◌∷◌}
-use Rattle.npm_lock.specs.Mismatches.{mismatch_value}
+use Rattle.npm_manifests.specs.Mismatches.{mismatch_value}
 use Rattle.npm_lock_check.specs.Report.{mismatch_text}
 use Rattle.npm_lock_check.proofs.OutputLines.{line_more}
 use Rattle.npm_lock_check.proofs.lines.push_mismatches.Goals as goal

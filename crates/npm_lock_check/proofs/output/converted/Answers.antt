@@ -1,7 +1,7 @@
 -- The lock file of version 1 is refused.
 use Rattle.std.proofs.Common.{◌≡◌, ◌∙◌, Some, ap, Err, inl, option_map, refl}
 use Rattle.serde_json.specs.View.{view}
-use Rattle.npm_lock.specs.VersionOne.{any_fault}
+use Rattle.npm_lock_version_one.specs.VersionOne.{any_fault}
 use Rattle.npm_lock_check.proofs.output.converted.Goals as goal
 
 pub returns-in-Err-Refused-clause-refused : goal.returns-in-Err-Refused-clause-refused

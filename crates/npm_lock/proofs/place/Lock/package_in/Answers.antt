@@ -4,7 +4,7 @@ use Rattle.serde_json.specs.Find.{get}
 use Rattle.serde_json.specs.View.{view}
 use Rattle.npm_lock.specs.Private.PackageValue.{packages_data}
 use Rattle.npm_lock.proofs.MemberLookups.{found_in}
-use Rattle.npm_lock.proofs.NameLists.{exact}
+use Rattle.npm_texts.specs.Lemmas.Keys.{exact}
 use Rattle.npm_lock.proofs.place.Lock.package_in.Goals as goal
 
 pub returns : goal.returns

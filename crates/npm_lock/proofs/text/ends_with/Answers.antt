@@ -1,6 +1,0 @@
--- `ends_with` is the word of std.
-use Rattle.std.proofs.lemmas.Str.Pattern.{ends_text}
-use Rattle.npm_lock.proofs.text.ends_with.Goals as goal
-
-pub returns : goal.returns
-returns c = ends_text c.ends_with.result c.args.end.now c.args.text.now c.ends_with.ensures.cases

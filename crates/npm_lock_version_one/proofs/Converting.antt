@@ -1,0 +1,180 @@
+-- What a file of version 1 is converted to has no fault, if the file has none.
+use Rattle.std.proofs.Common.{◌≡◌, ◌∙◌, ℕ, List, [], ◌∷◌, Bool, true, false, Option, Some, None, codes, refl}
+use Rattle.std.proofs.Common.{if◌then◌else◌, is_some, Ordering, Less, Equal, Greater, nat_cmp}
+use Rattle.std.specs.Float.Ieee.{eq, of_int}
+use Rattle.std.specs.Cmp.Lexicographic.{slice_cmp}
+use Rattle.std.specs.Option.{option_or}
+use Rattle.std.specs.Ordering.{match_ordering}
+use Rattle.std.specs.Prelude.{◌||◌, not, option_and_then, option_map, unwrap_or}
+use Rattle.serde_json.proofs.OnLiterals.{serde_json_on_literals}
+use Rattle.serde_json.specs.Data.{Data, Members, member, no_members, object, put, string}
+use Rattle.serde_json.specs.Find.{as_null, as_object, get}
+use Rattle.npm_lock.specs.Faults.{has_text_version, link_fault, lock_fault, member_fault, members_fault, package_fault}
+use Rattle.npm_lock.specs.Faults.{specs_fault}
+use Rattle.npm_lock.specs.Packages.{Package, is_link}
+use Rattle.npm_lock_version_one.specs.VersionOne as VersionOne
+use Rattle.npm_lock_version_one.specs.VersionOne.{any_fault, converted, entry_fault, file_of, has_named, is_version_one}
+use Rattle.npm_lock_version_one.specs.VersionOne.{manifest_fault, member_of, packages_below, packages_of, required_of}
+use Rattle.npm_lock_version_one.specs.VersionOne.{requires_fault}
+use Rattle.npm_lock_version_one.specs.VersionOne.{name_in, version_in, version_one_fault, with_packages, with_some}
+use Rattle.npm_lock.specs.declared.fault.Fault.{Fault}
+use Rattle.npm_lock.specs.declared.fault.Fault.TheVariants as Faults
+
+-- ---- one package
+
+-- the members of a package, whatever they are
+abbrev made_of : (version name : Option (List ℕ)) (optional dev required : Option Data) → Data
+made_of version name optional dev required = object (with_some (codes "version") (option_map string version)
+    (with_some (codes "optional") optional (with_some (codes "name") (option_map string name)
+    (with_some (codes "dev") dev (with_some (codes "dependencies") required no_members)))))
+
+abbrev required_fault : (required : Option Data) → Option Fault
+required_fault required = option_and_then
+    (λ specs. if is_some (as_null specs) then None else specs_fault (as_object specs)) required
+
+or_none : {A : Type 0} (first : Option A) → option_or (option_or first None) None ≡ first
+or_none None = refl
+or_none (Some x) = refl
+
+made_sound : (packages : Data) (version name : Option (List ℕ)) (optional dev required : Option Data)
+    → member_fault packages (made_of version name optional dev required) ≡ required_fault required
+unfolding serde_json_on_literals
+made_sound packages None None None None None = refl
+made_sound packages None None None None (Some r) = or_none _
+made_sound packages None None None (Some d) None = refl
+made_sound packages None None None (Some d) (Some r) = or_none _
+made_sound packages None None (Some o) None None = refl
+made_sound packages None None (Some o) None (Some r) = or_none _
+made_sound packages None None (Some o) (Some d) None = refl
+made_sound packages None None (Some o) (Some d) (Some r) = or_none _
+made_sound packages None (Some n) None None None = refl
+made_sound packages None (Some n) None None (Some r) = or_none _
+made_sound packages None (Some n) None (Some d) None = refl
+made_sound packages None (Some n) None (Some d) (Some r) = or_none _
+made_sound packages None (Some n) (Some o) None None = refl
+made_sound packages None (Some n) (Some o) None (Some r) = or_none _
+made_sound packages None (Some n) (Some o) (Some d) None = refl
+made_sound packages None (Some n) (Some o) (Some d) (Some r) = or_none _
+made_sound packages (Some v) None None None None = refl
+made_sound packages (Some v) None None None (Some r) = or_none _
+made_sound packages (Some v) None None (Some d) None = refl
+made_sound packages (Some v) None None (Some d) (Some r) = or_none _
+made_sound packages (Some v) None (Some o) None None = refl
+made_sound packages (Some v) None (Some o) None (Some r) = or_none _
+made_sound packages (Some v) None (Some o) (Some d) None = refl
+made_sound packages (Some v) None (Some o) (Some d) (Some r) = or_none _
+made_sound packages (Some v) (Some n) None None None = refl
+made_sound packages (Some v) (Some n) None None (Some r) = or_none _
+made_sound packages (Some v) (Some n) None (Some d) None = refl
+made_sound packages (Some v) (Some n) None (Some d) (Some r) = or_none _
+made_sound packages (Some v) (Some n) (Some o) None None = refl
+made_sound packages (Some v) (Some n) (Some o) None (Some r) = or_none _
+made_sound packages (Some v) (Some n) (Some o) (Some d) None = refl
+made_sound packages (Some v) (Some n) (Some o) (Some d) (Some r) = or_none _
+
+-- the last of three tests
+last : (a b c : Bool) (x y z : Fault) (rest : Option Fault)
+    → (if a then Some x else (if b then Some y else (if c then Some z else rest))) ≡ None → rest ≡ None
+last false false false x y z rest is = is
+last false false true x y z rest is = cc is
+last false true c x y z rest is = cc is
+last true b c x y z rest is = cc is
+
+entry_sound : (packages entry : Data) → entry_fault entry ≡ None → member_fault packages (member_of entry) ≡ None
+entry_sound packages entry none =
+    made_sound packages (version_in entry) (name_in entry) (get (codes "optional") entry) (get (codes "dev") entry) (required_of entry)
+    ∙ last (not (is_some (as_object entry))) (not (has_text_version entry)) (not (has_named entry)) Faults.Entry
+    Faults.PackageVersion Faults.Dependencies (requires_fault entry) none
+
+-- ---- members of `packages`
+
+both_none : {A : Type 0} (first later : Option A) → first ≡ None → later ≡ None → option_or first later ≡ None
+both_none first later is others = rw (is, others) refl
+
+first_none : {A : Type 0} (first later : Option A) → option_or first later ≡ None → first ≡ None
+first_none None later is = refl
+first_none (Some x) later is = cc is
+
+later_none : {A : Type 0} (first later : Option A) → option_or first later ≡ None → later ≡ None
+later_none None later is = is
+later_none (Some x) later is = cc is
+
+-- one more member, or another value for a key
+one_of : (packages : Data) (o : Ordering) (a b c : Members) → members_fault packages a ≡ None
+    → members_fault packages b ≡ None → members_fault packages c ≡ None
+    → members_fault packages (match_ordering o a b c) ≡ None
+one_of packages Less a b c first second third = first
+one_of packages Equal a b c first second third = second
+one_of packages Greater a b c first second third = third
+
+put_sound : (packages : Data) (key : List ℕ) (value : Data) (members : Members) → member_fault packages value ≡ None
+    → members_fault packages members ≡ None → members_fault packages (put key value members) ≡ None
+put_sound packages key value no_members sound none = both_none (member_fault packages value) None sound refl
+put_sound packages key value (member name entry others) sound none =
+    let here = first_none (member_fault packages entry) (members_fault packages others) none in
+    let later = later_none (member_fault packages entry) (members_fault packages others) none in
+    one_of packages (slice_cmp nat_cmp key name) (member key value (member name entry others))
+    (member name value others) (member name entry (put key value others))
+    (both_none (member_fault packages value) (members_fault packages (member name entry others)) sound none)
+    (both_none (member_fault packages value) (members_fault packages others) sound later)
+    (both_none (member_fault packages entry) (members_fault packages (put key value others)) here
+    (put_sound packages key value others sound later))
+
+all_sound : (packages : Data) (list : List Package) (base : Members) → VersionOne.packages_fault list ≡ None
+    → members_fault packages base ≡ None → members_fault packages (with_packages list base) ≡ None
+all_sound packages [] base none sound = sound
+all_sound packages (p ∷ list) base none sound =
+    all_sound packages list (put p.folder (member_of p.member) base)
+    (later_none (entry_fault p.member) (VersionOne.packages_fault list) none)
+    (put_sound packages p.folder (member_of p.member) base
+    (entry_sound packages p.member (first_none (entry_fault p.member) (VersionOne.packages_fault list) none)) sound)
+
+-- ---- the root
+
+tested : (is_object is_link : Bool) (x : Fault) (link own : Option Fault) (y : Fault)
+    → (if not is_object || is_link then Some x else own) ≡ None
+    → (if is_object then (if is_link then link else own) else Some y) ≡ None
+tested true false x link own y is = is
+tested true true x link own y is = cc is
+tested false b x link own y is = cc is
+
+root_sound : (packages : Data) (manifest : Option Data) → option_and_then manifest_fault manifest ≡ None
+    → member_fault packages (unwrap_or manifest (object no_members)) ≡ None
+unfolding serde_json_on_literals
+root_sound packages None is = refl
+root_sound packages (Some m) is = tested (is_some (as_object m)) (is_link m) Faults.Manifest (link_fault packages m)
+    (package_fault m) Faults.Package is
+
+-- ---- all of it
+
+file_fault : (all : Members) → lock_fault (file_of (object all)) ≡ members_fault (object all) all
+unfolding eq of_int serde_json_on_literals
+file_fault all = refl
+
+below_sound : (has : Bool) (below : Option Fault) (x : Fault) → (if has then below else Some x) ≡ None → below ≡ None
+below_sound true below x is = is
+below_sound false below x is = cc is
+
+file_sound : (lock : Data) (manifest : Option Data) → version_one_fault lock manifest ≡ None
+    → lock_fault (file_of (packages_of lock manifest)) ≡ None
+file_sound lock manifest none =
+    let below = VersionOne.packages_fault (packages_below [] lock) in
+    let own = if has_named lock then below else Some Faults.Dependencies in
+    let first : own ≡ None = first_none own (option_and_then manifest_fault manifest) none in
+    let later : option_and_then manifest_fault manifest ≡ None =
+    later_none own (option_and_then manifest_fault manifest) none in
+    let root = member [] (unwrap_or manifest (object no_members)) no_members in
+    let members = with_packages (packages_below [] lock) root in
+    file_fault members ∙ all_sound (object members) (packages_below [] lock) root
+    (below_sound (has_named lock) below Faults.Dependencies first)
+    (both_none (member_fault (object members) (unwrap_or manifest (object no_members))) None
+    (root_sound (object members) manifest later) refl)
+
+-- what is converted has the fault of the file
+pub same_fault : (lock : Data) (manifest : Option Data) → is_version_one lock ≡ true
+    → version_one_fault lock manifest ≡ None → lock_fault (converted lock manifest) ≡ any_fault lock manifest
+same_fault lock manifest is none = rw (is, none) (file_sound lock manifest none)
+
+pub stays : (lock : Data) (manifest : Option Data) → is_version_one lock ≡ false
+    → lock_fault (converted lock manifest) ≡ any_fault lock manifest
+stays lock manifest is = rw is refl

@@ -1,0 +1,95 @@
+//! Lock files of every version.
+//!
+//! See docs/DECISIONS.md, "A lock file of version 1 is converted first".
+ghost use Rattle.std.specs.Prelude.{◌≡◌, ◌↔◌, IfOk, IsErrOf, OnOk, Some, option_map, true};
+ghost use Rattle.serde_json.specs.View.{view};
+ghost use Rattle.npm_lock.specs.Faults as Faults;
+ghost use Rattle.npm_lock.specs.Findings.{IsChecked};
+ghost use Rattle.npm_lock_version_one.specs.VersionOne as VersionOne;
+ghost use Rattle.npm_lock_version_one.specs.VersionOne.{any_fault, converted};
+ghost use Rattle.npm_lock.specs.declared.fault.Fault.{Fault};
+
+use crate::Result;
+use crate::version_one::{is_version_one, packages_of};
+use crate::version_one_fault::check_version_one;
+use node_semver::Version;
+use npm_lock::{CheckError, Problems, check};
+use serde_json::{Map, Value, put};
+use std::alloc::Global;
+
+/// Returns the problems of a lock file of version 1, 2 or 3, as `check` does.
+///
+/// A file of version 1 does not say what its root asks for. That is in the manifest, `package.json`; with no manifest the
+/// root asks for nothing. Of a file of version 2 or 3 the manifest is not looked at.
+///
+/// # Errors
+///
+/// - `Refused`: the value is no lock file, or a member that counts has the wrong type, also one of a manifest that counts.
+/// - `Memory`: an allocation failed.
+///
+/// # Memory
+///
+/// A file of version 1 is converted first: its packages are copied into the `packages` of version 3, with their folders.
+/// A package that is n packages deep has a folder of n names. A text nests at most 128 deep, so n is at most 64.
+pub fn check_any(
+    alloc: Global,
+    lock: &Value,
+    manifest: Option<&Value>,
+    node: Option<&Version>,
+) -> Result<Problems, CheckError>
+    ensures found { IfOk result (IsChecked
+        (converted (view lock.now) (option_map (λ manifest. view manifest.now) manifest.entry))
+        (option_map (λ version. version.now) node.entry)) }
+    ensures refused { (fault : Fault) → IsErrOf result (CheckError.Refused fault)
+        ↔ (any_fault (view lock.now) (option_map (λ manifest. view manifest.now) manifest.entry) ≡ Some fault) }
+{
+    if !is_version_one(lock) {
+        return check(alloc, lock, node);
+    }
+    check_version_one(lock, manifest).map_err(CheckError::Refused)?;
+    let file = file_of(alloc, lock, manifest).map_err(|_| CheckError::Memory)?;
+    check(alloc, &file, node)
+}
+
+/// Returns a lock file of any version as one with `packages`: one of version 1 is converted, and another stays as it is.
+///
+/// The root of what is converted is the manifest; with no manifest it asks for nothing. `check` then finds the problems
+/// that `check_any` finds, and other calls that read `packages` read them too.
+///
+/// # Errors
+///
+/// - `Refused`: the value is a lock file of version 1, and it has a fault or a manifest with one. `check` refuses another.
+/// - `Memory`: an allocation failed.
+///
+/// # Memory
+///
+/// That of `check_any` for a file of version 1. Another does not allocate.
+#[tactic(auto, using(crate::proofs::Converting::same_fault, crate::proofs::Converting::stays))]
+pub fn convert(alloc: Global, lock: Value, manifest: Option<&Value>) -> Result<Value, CheckError>
+    ensures converted { IfOk result (λ made. view made
+        ≡ converted (view lock) (option_map (λ manifest. view manifest.now) manifest.entry)) }
+    ensures sound { OnOk result (Faults.lock_fault
+        (converted (view lock) (option_map (λ manifest. view manifest.now) manifest.entry))
+        ≡ any_fault (view lock) (option_map (λ manifest. view manifest.now) manifest.entry)) }
+    ensures refused { (fault : Fault) → IsErrOf result (CheckError.Refused fault)
+        ↔ (VersionOne.is_version_one (view lock) ≡ true)
+        × (any_fault (view lock) (option_map (λ manifest. view manifest.now) manifest.entry) ≡ Some fault) }
+{
+    if !is_version_one(&lock) {
+        return Ok(lock);
+    }
+    check_version_one(&lock, manifest).map_err(CheckError::Refused)?;
+    file_of(alloc, &lock, manifest).map_err(|_| CheckError::Memory)
+}
+
+/// The file of version 3 that one of version 1 stands for.
+fn file_of(alloc: Global, lock: &Value, manifest: Option<&Value>) -> Result<Value>
+    ensures { IfOk result (λ made. view made ≡ VersionOne.file_of
+        (VersionOne.packages_of (view lock.now) (option_map (λ manifest. view manifest.now) manifest.entry))) }
+{
+    let packages = packages_of(alloc, lock, manifest)?;
+    let mut members = Map::new(alloc);
+    put(&mut members, alloc, "lockfileVersion", Value::from(3_u8))?;
+    put(&mut members, alloc, "packages", Value::Object(packages))?;
+    Ok(Value::Object(members))
+}

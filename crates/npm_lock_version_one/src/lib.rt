@@ -1,0 +1,11 @@
+//! Lock files of version 1, which npm 5 and 6 wrote: the `packages` of version 3 that they stand for, and their problems.
+#![tactic(auto)]
+
+mod any_version;
+mod version_one;
+mod version_one_fault;
+
+pub use any_version::{check_any, convert};
+
+/// The result of what fails by memory alone, if no other error is named.
+type Result<T, E = std::alloc::AllocError> = std::result::Result<T, E>;

@@ -1,0 +1,1 @@
+pub mod GroupSpecs  -- what is left of a group

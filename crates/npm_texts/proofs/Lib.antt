@@ -1,0 +1,2 @@
+pub mod BareTexts
+pub mod Examples

@@ -14,6 +14,7 @@ use Rattle.std.specs.Option.{IsSome}
 use Rattle.serde_json.specs.Data.{Data}
 use Rattle.serde_json.specs.View.{members_view}
 use Rattle.serde_json.specs.declared.value.Value.{Value}
+use Rattle.npm_texts.specs.Lemmas.Keys.{exact, itself}
 use Rattle.npm_lock.specs.Asked.{asked_of}
 use Rattle.npm_lock.specs.Findings.{AreNames}
 use Rattle.npm_texts.specs.ObjectKeys.{keys_of}

@@ -10,6 +10,7 @@ use Rattle.std.specs.Ordering.{nat_cmp}
 use Rattle.serde_json.specs.Data.{Data, Members, member, no_members, object}
 use Rattle.serde_json.specs.Find.{get}
 use Rattle.node_semver.specs.Versions.{VersionValue}
+use Rattle.npm_texts.specs.ObjectKeys.{keys_of}
 use Rattle.npm_lock.specs.Asked.{AskedValue, asked_of}
 use Rattle.npm_lock.specs.Folders.{IsInstalled}
 use Rattle.npm_lock.specs.Outcomes.{IsEngineOutcome, IsOutcome, JudgementValue, ProblemValue, UncheckedValue}

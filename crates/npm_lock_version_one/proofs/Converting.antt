@@ -155,7 +155,7 @@ below_sound : (has : Bool) (below : Option Fault) (x : Fault) → (if has then b
 below_sound true below x is = is
 below_sound false below x is = cc is
 
-file_sound : (lock : Data) (manifest : Option Data) → version_one_fault lock manifest ≡ None
+pub file_sound : (lock : Data) (manifest : Option Data) → version_one_fault lock manifest ≡ None
     → lock_fault (file_of (packages_of lock manifest)) ≡ None
 file_sound lock manifest none =
     let below = VersionOne.packages_fault (packages_below [] lock) in

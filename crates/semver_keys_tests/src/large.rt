@@ -69,3 +69,17 @@ fn reads_a_long_key(rt: HostRuntime) -> Result<(), Fail> {
     }
     Ok(())
 }
+
+// A version text has at most 256 bytes. Each identifier that is no number takes one byte more in the key than in the text.
+#[test]
+fn has_a_longest_key(rt: HostRuntime) -> Result<(), Fail> {
+    let alloc = rt.alloc();
+    let mut text = String::from_str(alloc, "1.2.3-aa")?;
+    for _ in 0..124 {
+        text.push_str(".a")?;
+    }
+    assert_eq!(rt; text.len(), 256);
+    let version = VersionRef::parse(&text)?;
+    assert_eq!(rt; version_key(alloc, &version)?.len(), 380);
+    Ok(())
+}

@@ -253,3 +253,36 @@ fn reads_back_the_keys_of_many_versions(rt: HostRuntime) -> Result<(), Fail> {
     }
     Ok(())
 }
+
+fn text_count(identifiers: &[Identifier]) -> usize {
+    let mut count = 0usize;
+    for identifier in identifiers {
+        match identifier {
+            Identifier::Numeric(_) => {}
+            Identifier::AlphaNumeric(_) => count = count.saturating_add(1),
+        }
+    }
+    count
+}
+
+// A key has one byte less than the text, and one more for each identifier that is no number, or it is shorter.
+fn is_short(alloc: Global, text: &str) -> Result<bool, Fail> {
+    let version = Version::parse(alloc, text)?;
+    let key = version_key(alloc, &version)?;
+    let texts = text_count(&version.pre_release);
+    Ok(key.len().saturating_add(1) <= text.len().saturating_add(texts))
+}
+
+#[test]
+fn has_short_keys(rt: HostRuntime) -> Result<(), Fail> {
+    let alloc = rt.alloc();
+    for major in NUMBERS {
+        for minor in NUMBERS {
+            for prerelease in PRERELEASES {
+                let text = of_words(alloc, major, minor, prerelease)?;
+                assert!(rt; is_short(alloc, text.as_str())?, "{text}");
+            }
+        }
+    }
+    Ok(())
+}

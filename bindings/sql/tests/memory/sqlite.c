@@ -126,14 +126,16 @@ int main(int count, char **words) {
         return 2;
     }
     sqlite3_initialize();
-    /* What SQLite and the C library keep from their first use on is there before anything is counted. */
-    char result[400];
-    sqlite3 *database = open_with(words[1]);
-    for (size_t i = 0; i < number; i++) {
-        run(database, statements[i].sql, result, sizeof result);
-        check(is_result(result, &statements[i]), statements[i].sql, result, 0);
+    /* What SQLite and the loader keep from their first uses on is there before anything is counted. */
+    for (int round = 0; round < 2; round++) {
+        char result[400];
+        sqlite3 *database = open_with(words[1]);
+        for (size_t i = 0; i < number; i++) {
+            run(database, statements[i].sql, result, sizeof result);
+            check(is_result(result, &statements[i]), statements[i].sql, result, 0);
+        }
+        sqlite3_close(database);
     }
-    sqlite3_close(database);
     for (size_t i = 0; i < number; i++) {
         tried += refuse_each(words[1], &statements[i], false) + refuse_each(words[1], &statements[i], true);
     }

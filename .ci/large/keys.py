@@ -1,6 +1,6 @@
 """Rows of calls on keys: the name of a call of semver_memory, its words, and its whole result. The keys are worked out here."""
 from ranges import alternatives
-from versions import LETTERS, LETTERS_WORDS, MANY
+from versions import LETTERS, LETTERS_TEXT, LETTERS_WORDS, MANY
 
 
 def number(value):
@@ -27,6 +27,11 @@ def listed(written):
     return "".join(f"{byte} " for byte in written)
 
 
+def bytes_of(written):
+    """The words that write these bytes."""
+    return [str(byte) for byte in written]
+
+
 def interval(kind, lower, upper):
     return f"{kind} {listed(lower)}to {listed(upper)}; "
 
@@ -38,6 +43,9 @@ def rows():
     letters = LETTERS.split(".")
     yield "semver_keys::add_version_key", [f"1.2.3-{LETTERS}"], listed([7, *key([1, 2, 3], letters)])
     yield "semver_keys::add_version_key", ["1.2.3-" + "a" * 250], listed([7, *key([1, 2, 3], ["a" * 250])])
+    yield "semver_keys::version_of_key", bytes_of(key([1, 2, 3], words)), LETTERS_TEXT
+    long = ["a" * 40_000, *["7"] * 5_000, "b" * 40_000]
+    yield "semver_keys::version_of_key", bytes_of(key([1, 2, 3], long)), f"1.2.3-{'.'.join(long)}"
     numbers = range(1, MANY + 1)
     releases = "".join(interval("releases", key([at, 0, 0], ["a"]), key([at, 9, 0])) for at in numbers)
     prereleases = "".join(interval("prereleases", key([at, 0, 0], ["a"]), key([at, 0, 0])) for at in numbers)

@@ -1,5 +1,6 @@
 -- Worked examples of the definitions, which compute.
-use Rattle.std.proofs.Common.{◌≡◌, [], ◌∷◌, refl}
+use Rattle.std.proofs.Common.{◌≡◌, ◌∙◌, [], ◌∷◌, refl, sym, arith, lit<, lit≤}
+use Rattle.std.proofs.lemmas.List.{append-nil}
 use Rattle.std.specs.declared.cmp.Ordering.TheVariants.{Less}
 use Rattle.semver_cuts.specs.declared.cut.Cut.TheVariants.{Before, After, End}
 use Rattle.semver_texts.specs.IdentifierValue.{alphanumeric, numeric}
@@ -9,6 +10,9 @@ use Rattle.semver_keys.specs.IdentifierKey.{byte_key, identifier_key, identifier
 use Rattle.semver_keys.specs.KeyOrder.{key_cmp}
 use Rattle.semver_keys.specs.NumberKey.{byte_count, long_number_key, lowest_bytes, number_key}
 use Rattle.semver_keys.specs.VersionKey.{version_key}
+use Rattle.semver_keys.specs.VersionOfKey.{IsNoKey, IsVersionOfKey}
+use Rattle.semver_keys.specs.Lemmas.VersionOrder.{version-begins}
+use Rattle.semver_keys.proofs.NumberReading.{none-small}
 
 -- 239, 240, 255, 256, 65536 and 2^64 - 1
 one_byte : number_key 239 ≡ 239 ∷ []
@@ -73,3 +77,30 @@ after_plain = refl
 last : cut_key End ≡ 255 ∷ []
 unfolding cut_key
 last = refl
+
+-- ---- the version of a key
+
+-- 1.2.3-rc.4 is that of its key
+read_candidate : IsVersionOfKey (1 ∷ 2 ∷ 3 ∷ 2 ∷ 114 ∷ 99 ∷ 0 ∷ 1 ∷ 4 ∷ 0 ∷ []) candidate
+unfolding candidate
+read_candidate = record {
+  words = record { major = lit< tt; minor = lit< tt; patch = lit< tt; identifiers = (tt, (lit< tt, tt)) };
+  key_is = with_candidate;
+  build = refl;
+}
+
+-- the key of the last cut is that of no version
+last_no_key : IsNoKey (255 ∷ [])
+last_no_key v h e = let it = version-begins v [] in
+    let first : 255 ≡ it.first = cc (sym e ∙ sym (append-nil (version_key v)) ∙ it.whole) in
+    let low = it.low in absurd (omega arith)
+
+-- 9 as a long number is no key: it is one byte
+one_nine : lowest_bytes 1 9 ≡ 9 ∷ []
+unfolding lowest_bytes
+one_nine = refl
+
+padded_no_key : IsNoKey (241 ∷ 9 ∷ 2 ∷ 3 ∷ 255 ∷ [])
+unfolding version_key
+padded_no_key v h e = none-small 9 241 (9 ∷ 2 ∷ 3 ∷ 255 ∷ []) (lit≤ tt) (record { fits = refl; bytes = one_nine })
+    (lit< tt) v.major _ h.major e

@@ -10,5 +10,10 @@ pub mod SpanKeys
 pub mod OpenedSteps
 pub mod OpenedRules
 pub mod Tidy
+pub mod Parted
+pub mod NumberReading
+pub mod TextReading
+pub mod IdentifierReading
+pub mod VersionReading
 -- ---- worked examples, which compute
 pub mod Examples

@@ -7,6 +7,8 @@ pub mod NumberKey
 pub mod IdentifierKey
 pub mod VersionKey
 pub mod CutKey
+-- ---- the version that bytes are the key of
+pub mod VersionOfKey
 -- ---- the intervals of a range
 pub mod Intervals
 -- ---- not part of any public contract: what private functions compute, and lemmas

@@ -6,3 +6,5 @@ pub mod Grown
 pub mod Opened
 -- the interval of a span
 pub mod SpanIntervals
+-- what readers of keys return
+pub mod Reading

@@ -1,8 +1,8 @@
 //! Keys of versions: byte strings whose order as bytes is the order of versions. So every store that sorts bytes finds
 //! the versions of a range by its index.
 //!
-//! [`version_key`] returns the key of a version, and [`add_version_key`] appends it to a buffer. [`range_intervals`]
-//! returns the intervals of a range: a version satisfies the range exactly if its key lies in an interval of its kind.
+//! [`version_key`] returns the key of a version, [`add_version_key`] appends it to a buffer, and [`version_of_key`] returns
+//! the version of a key. [`range_intervals`] returns the intervals of a range: a version satisfies the range exactly if its key lies in an interval of its kind.
 //!
 //! # Examples
 //!
@@ -14,8 +14,10 @@ mod identifier;
 mod interval;
 pub mod laws;
 mod number;
+mod read;
 mod version;
 
 pub use cut::cut_key;
 pub use interval::{KeyInterval, range_intervals, range_intervals_with_prereleases};
+pub use read::version_of_key;
 pub use version::{HasKey, add_version_key, version_key};

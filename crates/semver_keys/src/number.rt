@@ -6,7 +6,7 @@ ghost use Rattle.semver_keys.specs.Private.Grown.{IsGrown};
 use std::alloc::AllocError;
 
 // Numbers below this one are one byte.
-const SHORT_NUMBERS: u64 = 240;
+pub(crate) const SHORT_NUMBERS: u64 = 240;
 
 // Returns `true` if the key of the number has more than one byte. `inline(always)`: one test.
 #[inline(always)]
@@ -45,7 +45,7 @@ fn add_long_number(key: &mut Vec<u8>, n: u64) -> Result<(), AllocError>
 
 // The fewest bytes that hold a number, or the limit if it needs more: 0 for 0, 1 for 255, 2 for 256.
 #[tactic(auto, using(crate::proofs::NumberRules::count_rules))]
-fn byte_count(n: u64, limit: u8) -> u8
+pub(crate) fn byte_count(n: u64, limit: u8) -> u8
     ensures count { result ≡ Keys.byte_count limit n }
     ensures bound { result ≤ limit }
 {

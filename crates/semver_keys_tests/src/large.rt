@@ -1,6 +1,6 @@
 //! Large arguments, with ample memory: the calls do not give up.
-use node_semver::{Range, VersionRef};
-use semver_keys::{range_intervals, range_intervals_with_prereleases, version_key};
+use node_semver::{Identifier, Range, Version, VersionRef};
+use semver_keys::{range_intervals, range_intervals_with_prereleases, version_key, version_of_key};
 use std::alloc::{AllocError, Global};
 use std::test::Fail;
 
@@ -36,5 +36,50 @@ fn has_a_key_of_the_longest_version(rt: HostRuntime) -> Result<(), Fail> {
     }
     let version = VersionRef::parse(&text)?;
     assert_eq!(rt; version_key(alloc, &version)?.len(), 256);
+    Ok(())
+}
+
+// 1.2.3 with 10,000 numbers and a text of 79,994 bytes.
+fn large_version(alloc: Global) -> Result<Version, AllocError> {
+    let mut version = Version::new(alloc, 1, 2, 3);
+    for number in 0..10_000u64 {
+        version.pre_release.push(Identifier::Numeric(number % 240))?;
+    }
+    let mut text = String::new(alloc);
+    for _ in 0..79_994 {
+        text.push('a')?;
+    }
+    version.pre_release.push(Identifier::AlphaNumeric(text))?;
+    Ok(version)
+}
+
+// Each number is two bytes; three bytes are before them, and three beside the text.
+#[test]
+fn reads_a_long_key(rt: HostRuntime) -> Result<(), Fail> {
+    let alloc = rt.alloc();
+    let version = large_version(alloc)?;
+    let key = version_key(alloc, &version)?;
+    assert_eq!(rt; key.len(), 100_000);
+    match &version_of_key(alloc, &key)? {
+        Some(read) => {
+            assert_eq!(rt; read.pre_release.len(), 10_001);
+            assert!(rt; *read == version);
+        }
+        None => assert!(rt; false),
+    }
+    Ok(())
+}
+
+// A version text has at most 256 bytes. Each identifier that is no number takes one byte more in the key than in the text.
+#[test]
+fn has_a_longest_key(rt: HostRuntime) -> Result<(), Fail> {
+    let alloc = rt.alloc();
+    let mut text = String::from_str(alloc, "1.2.3-aa")?;
+    for _ in 0..124 {
+        text.push_str(".a")?;
+    }
+    assert_eq!(rt; text.len(), 256);
+    let version = VersionRef::parse(&text)?;
+    assert_eq!(rt; version_key(alloc, &version)?.len(), 380);
     Ok(())
 }

@@ -1,4 +1,5 @@
-//! Tests of the public calls of `semver_keys`: keys of versions and of cuts, their order, and the intervals of ranges.
+//! Tests of the public calls of `semver_keys`: keys of versions and of cuts, their order, the versions of keys, and the
+//! intervals of ranges.
 #![tactic(auto)]
 
 #[cfg(test)]
@@ -9,3 +10,5 @@ mod keys;
 mod large;
 #[cfg(test)]
 mod order;
+#[cfg(test)]
+mod reading;

@@ -69,6 +69,7 @@ impl Trial for Call {
             "semver_keys::version_key"
             | "semver_keys::add_version_key"
             | "semver_keys::cut_key"
+            | "semver_keys::version_of_key"
             | "semver_keys::range_intervals"
             | "semver_keys::range_intervals_with_prereleases" => {
                 Ok(Call::Key(keyed_of(alloc, name, words)?))

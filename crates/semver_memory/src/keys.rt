@@ -7,7 +7,7 @@ use node_semver::{Range, Version, VersionRef};
 use semver_cuts::Cut;
 use semver_keys::{
     KeyInterval, add_version_key, cut_key, range_intervals, range_intervals_with_prereleases,
-    version_key,
+    version_key, version_of_key,
 };
 use std::alloc::{AllocError, Global};
 
@@ -19,18 +19,20 @@ pub(crate) enum Keyed {
     After(Cut<Version>),
     Intervals(Range),
     Included(Range),
+    Bytes(Vec<u8>),
 }
 
 impl Keyed {
     /// Makes the call.
     pub(crate) fn answer(&self, alloc: Global) -> Answer {
-        answer::list(match self {
-            Keyed::Version(version) => key_text(alloc, version),
-            Keyed::Borrowed(text) => added_text(alloc, text),
-            Keyed::After(cut) => cut_text(alloc, cut),
-            Keyed::Intervals(range) => intervals_text(alloc, range),
-            Keyed::Included(range) => included_text(alloc, range),
-        })
+        match self {
+            Keyed::Version(version) => answer::list(key_text(alloc, version)),
+            Keyed::Borrowed(text) => answer::list(added_text(alloc, text)),
+            Keyed::After(cut) => answer::list(cut_text(alloc, cut)),
+            Keyed::Intervals(range) => answer::list(intervals_text(alloc, range)),
+            Keyed::Included(range) => answer::list(included_text(alloc, range)),
+            Keyed::Bytes(key) => answer::version_if_any(version_of_key(alloc, key)),
+        }
     }
 
     /// The argument as it is now.
@@ -40,6 +42,7 @@ impl Keyed {
             Keyed::Borrowed(text) => text.clone(),
             Keyed::After(cut) => print_of_cut(alloc, cut),
             Keyed::Intervals(range) | Keyed::Included(range) => range.to_string(alloc),
+            Keyed::Bytes(key) => bytes_text(alloc, key),
         }
     }
 }
@@ -123,12 +126,13 @@ fn push_bytes(alloc: Global, text: &mut String, bytes: &[u8]) -> Result<(), Allo
     Ok(())
 }
 
-/// The call with this name. The words are a range, or a version with further identifiers.
+/// The call with this name. The words are a range, a version with further identifiers, or the bytes of a key.
 pub(crate) fn keyed_of(alloc: Global, name: &str, words: &[String]) -> Result<Keyed, CallError> {
     match name {
         "semver_keys::version_key" => Ok(Keyed::Version(version_of_words(alloc, words)?)),
         "semver_keys::cut_key" => Ok(Keyed::After(Cut::After(version_of_words(alloc, words)?))),
         "semver_keys::add_version_key" => Ok(Keyed::Borrowed(first_of(alloc, words)?)),
+        "semver_keys::version_of_key" => Ok(Keyed::Bytes(bytes_of(alloc, words)?)),
         "semver_keys::range_intervals" => Ok(Keyed::Intervals(range_of(alloc, words)?)),
         _ => Ok(Keyed::Included(range_of(alloc, words)?)),
     }
@@ -146,4 +150,16 @@ fn range_of(alloc: Global, words: &[String]) -> Result<Range, CallError> {
         Some(word) => Ok(Range::parse(alloc, word.as_str())?),
         None => Err(CallError::Words),
     }
+}
+
+/// The bytes that the words write.
+fn bytes_of(alloc: Global, words: &[String]) -> Result<Vec<u8>, CallError> {
+    let mut bytes = Vec::new(alloc);
+    for word in words {
+        match word.parse::<u8>() {
+            Ok(byte) => bytes.push(byte)?,
+            Err(_) => return Err(CallError::Words),
+        }
+    }
+    Ok(bytes)
 }

@@ -2,6 +2,10 @@ pub mod AllTexts
 pub mod Answered
 pub mod ArgumentSteps
 pub mod BareTexts
-pub mod Choosing
+pub mod Best
+pub mod Gathering
 pub mod Increments
+pub mod InputLines
+pub mod Listing
 pub mod ReadTexts
+pub mod Satisfying

@@ -1,6 +1,10 @@
 pub mod AllTexts
 pub mod Answered
 pub mod ArgumentSteps
-pub mod Choosing
+pub mod Best
+pub mod Gathering
 pub mod Increments
+pub mod InputLines
+pub mod Listing
 pub mod ReadTexts
+pub mod Satisfying

@@ -6,9 +6,12 @@ use Rattle.npm_semver.specs.declared.bump.IdentifierBase.{IdentifierBase}
 use Rattle.npm_semver.specs.declared.bump.IdentifierBase.TheVariants.{Absent, One, Zero}
 use Rattle.semver_command.specs.Arguments.{ArgumentValue, AreArguments, alone, increment, text_value, valued}
 use Rattle.semver_command.specs.declared.asked.Asked.{Asked}
+use Rattle.semver_command.specs.declared.asked.Listing.{Listing}
+use Rattle.semver_command.specs.declared.asked.Listing.TheVariants as Listings
 use Rattle.semver_command.specs.declared.asked.Options.{Options}
 use Rattle.semver_command.specs.declared.name.Flag.{Flag}
-use Rattle.semver_command.specs.declared.name.Flag.TheVariants.{Coerce, Help, IncludePrerelease, Loose, Ltr, Reverse, Rtl}
+use Rattle.semver_command.specs.declared.name.Flag.TheVariants.{Coerce, Greatest, Help, IncludePrerelease, Json, Least}
+use Rattle.semver_command.specs.declared.name.Flag.TheVariants.{Loose, Ltr, Reverse, Rtl, Unsorted}
 use Rattle.semver_command.specs.declared.name.Setting.{Setting}
 use Rattle.semver_command.specs.declared.name.Setting.TheVariants.{Base, Identifier, Range, Version}
 
@@ -26,6 +29,8 @@ pub record AskedValue : Type 0 where
 abbrev pub no_options : Options
 no_options = record {
   help = false;
+  listing = Listings.Ordered;
+  json = false;
   reverse = false;
   loose = false;
   include_prerelease = false;
@@ -46,6 +51,10 @@ nothing_asked = record {
 
 -- ---- one more argument
 
+abbrev pub with_listing : Options → Listing → Options
+with_listing options listing = record options { listing = listing }
+
+-- of two listings the last counts
 abbrev pub with_flag : Options → Flag → Options
 with_flag options Reverse = record options { reverse = true }
 with_flag options Loose = record options { loose = true }
@@ -53,6 +62,10 @@ with_flag options IncludePrerelease = record options { include_prerelease = true
 with_flag options Coerce = record options { coerce = true }
 with_flag options Rtl = record options { rtl = true }
 with_flag options Ltr = record options { rtl = false }
+with_flag options Unsorted = with_listing options Listings.Unsorted
+with_flag options Least = with_listing options Listings.Least
+with_flag options Greatest = with_listing options Listings.Greatest
+with_flag options Json = record options { json = true }
 with_flag options Help = record options { help = true }
 
 -- `false` stands for no number, `1` for 1, and every other text for 0

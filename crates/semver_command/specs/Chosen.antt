@@ -1,15 +1,18 @@
 -- The versions of texts that are chosen.
-use Rattle.std.specs.Prelude.{ℕ, List, [], ◌∷◌}
+use Rattle.std.specs.Prelude.{ℕ, IsUtf8, List, [], ◌∷◌}
 use Rattle.node_semver.specs.Versions.{VersionValue}
 use Rattle.semver_command.specs.Written.{IsRead}
 use Rattle.semver_command.specs.declared.asked.Options.{Options}
 
 -- the text is read as this version, which is such
-abbrev pub IsChosen : Options → (IsSuch : VersionValue → Type 0) → (text : List ℕ) → VersionValue → Type 0
-IsChosen options IsSuch text v = IsRead options text v × IsSuch v
+pub record IsChosen (options : Options) (IsSuch : VersionValue → Type 0) (text : List ℕ) (v : VersionValue) : Type 0 where
+  pub utf8 : IsUtf8 text
+  pub read : IsRead options text v
+  pub such : IsSuch v
 
--- the text is read as no version, or as one that is not such
+-- the text is not in UTF-8, or is read as no version, or as one that is not such
 pub data IsLeftOut (options : Options) (IsSuch : VersionValue → Type 0) (text : List ℕ) : Type 0 where
+  no_utf8 : ¬ IsUtf8 text → IsLeftOut options IsSuch text
   unread : ((v : VersionValue) → ¬ IsRead options text v) → IsLeftOut options IsSuch text
   unlike : (v : VersionValue) → IsRead options text v → ¬ IsSuch v → IsLeftOut options IsSuch text
 

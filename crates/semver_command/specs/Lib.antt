@@ -4,12 +4,17 @@
 pub mod Names  -- what a word is called
 pub mod Arguments  -- the arguments, one after the other
 pub mod Asked  -- what they ask for together
--- What is written.
+-- What is read.
+pub mod Input  -- the texts that may be versions: words, and lines of standard input
 pub mod Written  -- the version that a text is read as
 pub mod Ranges  -- which versions satisfy a range
 pub mod Chosen  -- the versions of texts that are chosen
-pub mod Lines  -- versions in order, and a line for each
-pub mod Increment  -- the line of an increment
+-- What is written.
+pub mod Listed  -- which versions are written, and in which order
+pub mod Lines  -- their text: a line each, or a JSON array
+pub mod Increment  -- the version after an increment
 pub mod Answer  -- all that is written, and how it ends
-pub mod Reply  -- the same for the words of the command line
+pub mod Reply  -- the same for the words of the command line and for standard input
 pub mod Status  -- the exit status
+-- ---- not part of any public contract: what private functions compute
+pub mod Private

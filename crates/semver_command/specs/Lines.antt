@@ -1,20 +1,37 @@
--- Versions in order, and a line for each.
-use Rattle.std.specs.Prelude.{◌≡◌, ℕ, List, [], ◌∷◌, ◌++◌, Bool, true, false, IsPermutation, IsSorted, reverse}
-use Rattle.node_semver.specs.Versions.{VersionValue, version_cmp}
+-- The text of versions: a line each, or a JSON array of strings on one line.
+use Rattle.std.specs.Prelude.{ℕ, List, [], ◌∷◌, ◌++◌, Bool, true, false, codes}
+use Rattle.node_semver.specs.Versions.{VersionValue}
 use Rattle.semver_texts.specs.Print.{version_text}
 
-abbrev pub in_direction : {V : Type 0} → (is_reverse : Bool) → List V → List V
-in_direction false versions = versions
-in_direction true versions = reverse versions
+-- a string of JSON: `"1.2.3"`. No character of a version is escaped in JSON
+abbrev pub string_text : VersionValue → List ℕ
+string_text v = codes "\"" ++ (version_text v ++ codes "\"")
 
--- the same versions, in ascending order of precedence, or in descending order
-pub record AreInOrder (is_reverse : Bool) (versions written : List VersionValue) : Type 0 where
-  pub ascending : List VersionValue
-  pub same : IsPermutation versions ascending
-  pub sorted : IsSorted version_cmp ascending
-  pub direction : written ≡ in_direction is_reverse ascending
+-- what stands before an element of an array
+abbrev pub array_mark : (is_first : Bool) → List ℕ
+array_mark true = codes "["
+array_mark false = codes ","
 
--- a line for each version, with a newline byte after it
-abbrev pub lines_text : List VersionValue → List ℕ
-lines_text [] = []
-lines_text (v ∷ others) = version_text v ++ (10 ∷ lines_text others)
+-- what stands after the last element
+abbrev pub array_end : (is_empty : Bool) → List ℕ
+array_end true = codes "[]\n"
+array_end false = codes "]\n"
+
+-- one version
+abbrev pub item_text : (is_json is_first : Bool) → VersionValue → List ℕ
+item_text false is_first v = version_text v ++ codes "\n"
+item_text true is_first v = array_mark is_first ++ string_text v
+
+-- what stands after the last version
+abbrev pub end_text : (is_json is_first : Bool) → List ℕ
+end_text false is_empty = []
+end_text true is_empty = array_end is_empty
+
+-- the versions, and what stands after the last one
+abbrev pub items_text : (is_json is_first : Bool) → List VersionValue → List ℕ
+items_text is_json is_first [] = end_text is_json is_first
+items_text is_json is_first (v ∷ others) = item_text is_json is_first v ++ items_text is_json false others
+
+-- all versions: the lines `1.2.3` and `1.10.0`, or `["1.2.3","1.10.0"]`; without a version nothing, or `[]`
+abbrev pub listed_text : (is_json : Bool) → List VersionValue → List ℕ
+listed_text is_json versions = items_text is_json true versions

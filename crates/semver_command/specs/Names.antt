@@ -1,4 +1,4 @@
--- What a word of the command line is called: the help of npm's command `semver`, "Options".
+-- What a word of the command line is called: the help of npm's command `semver`, "Options", and four options more.
 use Rattle.std.specs.Prelude.{ℕ, ◌||◌, List, if◌then◌else◌, Option, Some, None, codes}
 use Rattle.std.specs.Str.{bytes_eq}
 use Rattle.npm_semver.specs.declared.bump.Bump.{Bump}
@@ -9,6 +9,14 @@ use Rattle.semver_command.specs.declared.name.Name.{Name}
 use Rattle.semver_command.specs.declared.name.Name.TheVariants as Kinds
 use Rattle.semver_command.specs.declared.name.Setting.TheVariants as Settings
 
+-- the option without a value that the word names, of those that npm's command lacks
+abbrev pub listing_flag_of : (word : List ℕ) → Option Flag
+listing_flag_of word = if bytes_eq word (codes "--unsorted") then Some Flags.Unsorted
+    else if bytes_eq word (codes "--least") then Some Flags.Least
+    else if bytes_eq word (codes "--greatest") then Some Flags.Greatest
+    else if bytes_eq word (codes "--json") then Some Flags.Json
+    else None
+
 -- the option without a value that the word names, of those that are not about reading
 abbrev pub other_flag_of : (word : List ℕ) → Option Flag
 other_flag_of word =
@@ -16,7 +24,7 @@ other_flag_of word =
     || bytes_eq word (codes "--reverse") then Some Flags.Reverse
     else if bytes_eq word (codes "-h") || bytes_eq word (codes "--help") || bytes_eq word (codes "-?")
     then Some Flags.Help
-    else None
+    else listing_flag_of word
 
 -- the option without a value that the word names
 abbrev pub flag_of : (word : List ℕ) → Option Flag

@@ -1,27 +1,28 @@
--- What the program writes for the words of its command line, and how it ends.
-use Rattle.std.specs.Prelude.{◌≡◌, ◌≢◌, ℕ, List, [], true, false}
-use Rattle.semver_command.specs.Answer.{AnswerValue, IsAnswer, lines, misused, nothing}
+-- What the program writes for the words of its command line and for standard input, and how it ends.
+use Rattle.std.specs.Prelude.{◌≡◌, ◌≢◌, ℕ, List, [], true, false, Option}
+use Rattle.std.specs.Io.KnownBytes.{Appends, Consumes}
+use Rattle.semver_command.specs.Answer.{IsAnswer}
 use Rattle.semver_command.specs.Asked.{AskedValue, IsAsked}
+use Rattle.semver_command.specs.Input.{AreTexts}
+use Rattle.semver_command.specs.declared.ending.Ending.{Ending}
+use Rattle.semver_command.specs.declared.ending.Ending.TheVariants as Endings
 use Rattle.semver_command.specs.declared.help.TheConstants.{HELP}
-use Rattle.semver_command.specs.declared.reply.Ending.{Ending}
-use Rattle.semver_command.specs.declared.reply.Ending.TheVariants as Endings
 
--- the text about the program if there are no words, or if it is asked for; or else what is asked for
-pub data IsReply (words : List (List ℕ)) : AnswerValue → Type 0 where
-  alone : words ≡ [] → IsReply words (lines HELP.now)
+-- The text about the program if there are no words, or if it is asked for; or else what is asked for. `input` is what is
+-- read from standard input, where `remaining` is left to read, if that is known.
+pub data IsReply (words : List (List ℕ)) (remaining : Option (List ℕ)) : (input written : List ℕ) → Ending → Type 0 where
+  alone : words ≡ [] → IsReply words remaining [] HELP.now Endings.Written
   helped : (asked : AskedValue) → words ≢ [] → IsAsked words asked → asked.options.help ≡ true
-      → IsReply words (lines HELP.now)
-  answered : (asked : AskedValue) (answer : AnswerValue) → words ≢ [] → IsAsked words asked
-      → asked.options.help ≡ false → IsAnswer asked answer → IsReply words answer
+      → IsReply words remaining [] HELP.now Endings.Written
+  answered : (asked : AskedValue) (input written : List ℕ) (ending : Ending) (texts : List (List ℕ)) → words ≢ []
+      → IsAsked words asked → asked.options.help ≡ false → AreTexts asked.versions remaining input texts
+      → IsAnswer asked texts written ending → IsReply words remaining input written ending
 
--- what is written to standard output
-abbrev pub text_of : AnswerValue → List ℕ
-text_of (lines text) = text
-text_of nothing = []
-text_of misused = []
-
--- how the program ends
-abbrev pub ending_of : AnswerValue → Ending
-ending_of (lines text) = Endings.Written
-ending_of nothing = Endings.Nothing
-ending_of misused = Endings.Misused
+-- bytes were read from standard input and others written to standard output, and they are the program's reply
+pub record Replies (words : List (List ℕ)) (remaining remaining_new contents contents_new : Option (List ℕ))
+    (ending : Ending) : Type 0 where
+  pub input : List ℕ
+  pub written : List ℕ
+  pub taken : Consumes remaining remaining_new input
+  pub put : Appends contents contents_new written
+  pub reply : IsReply words remaining input written ending

@@ -1,7 +1,7 @@
 -- The exit status.
 use Rattle.std.specs.Prelude.{ℕ}
-use Rattle.semver_command.specs.declared.reply.Ending.{Ending}
-use Rattle.semver_command.specs.declared.reply.Ending.TheVariants.{Misused, Nothing, Written}
+use Rattle.semver_command.specs.declared.ending.Ending.{Ending}
+use Rattle.semver_command.specs.declared.ending.Ending.TheVariants.{Misused, Nothing, Written}
 
 -- 0 if something was written, and 1 if not
 abbrev pub status_of_ending : Ending → ℕ

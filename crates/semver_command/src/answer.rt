@@ -1,40 +1,42 @@
 //! What is written for a command line, and how it ends.
-ghost use Rattle.std.specs.Prelude.{◌≡◌, ◌≢◌, ◌⊎◌, ◌∷◌, [], IfErr, IfOk, IsErrOf, MatchOption, None, Some, length};
+ghost use Rattle.std.specs.Prelude.{◌≡◌, ◌≢◌, ◌∷◌, [], ℕ, List, IfOk, MatchOption, None, Some, length, Bool};
 ghost use Rattle.std.specs.Bool.{MatchBool};
+ghost use Rattle.std.specs.Io.Buffered.{reader_remaining};
+ghost use Rattle.std.specs.Io.KnownBytes.{Appends};
+ghost use Rattle.semver_command.specs.Answer.{IsAnswer, npm_options};
 ghost use Rattle.semver_command.specs.Asked.{asked_value};
-ghost use Rattle.semver_command.specs.Answer.{IsAnswer, answer_value, npm_options};
-ghost use Rattle.semver_command.specs.Increment.{IsNoIdentifier};
+ghost use Rattle.semver_command.specs.Private.Gathering.{AreAllKept, HasVersions, IsAnswered, IsKept, IsListed};
+ghost use Rattle.semver_command.specs.Listed.{AreListed};
+ghost use Rattle.semver_command.specs.declared.asked.Listing.TheVariants as Listings;
+ghost use Rattle.node_semver.specs.Versions.{VersionValue};
 
-use crate::asked::{Asked, Options};
-use crate::chosen::chosen_versions;
+use crate::asked::{Asked, Listing, Options};
 use crate::command_error::CommandError;
-use crate::increment::increment_line;
-use crate::lines::{lines_of, put_in_order};
+use crate::ending::Ending;
+use crate::gathered::gathered;
+use crate::increment::{incremented, write_incremented};
+use crate::kept::Kept;
+use crate::lines::{ending_of, put_in_order, write_list};
 use crate::ranges::ranges_of;
+use crate::writing::write_end;
 use node_semver::Version;
 use npm_semver::{Bump, NpmOptions};
 use std::alloc::Global;
+use std::io::{BufReader, Read, Write};
 
-/// What is written for a command line, and how it ends.
-#[derive(Debug, Drop)]
-pub enum Answer {
-    /// These lines are written to standard output. The status is 0.
-    Lines(Vec<u8>),
-    /// No version is left. The status is 1.
-    Nothing,
-    /// An increment with a range, or of more than one version. The status is 1.
-    Misused,
-}
-
-/// Returns what is written for what the command line asks for.
-pub fn answer_of(alloc: Global, asked: &Asked<'_>) -> Result<Answer, CommandError>
-    ensures answered { IfOk result (λ answer. IsAnswer (asked_value asked.now) (answer_value answer)) }
-    ensures identifier { IsErrOf result CommandError.Identifier → IsNoIdentifier (asked_value asked.now).identifier }
-    ensures errors { IfErr result (λ error. error ≡ CommandError.Identifier ⊎ error ≡ CommandError.Memory) }
+/// Writes what the command line asks for.
+pub fn answer<R: Read, W: Write>(
+    alloc: Global,
+    asked: &Asked<'_>,
+    reader: &mut BufReader<R>,
+    writer: &mut W,
+) -> Result<Ending, CommandError>
+    ensures { IfOk result (IsAnswered (asked_value asked.now) (reader_remaining R.remaining reader.old)
+        (reader_remaining R.remaining reader.new) (W.contents writer.old) (W.contents writer.new)) }
 {
     match asked.increment {
-        Some(bump) => incremented(alloc, asked, bump),
-        None => ordered(alloc, asked),
+        Some(bump) => raised(alloc, asked, bump, reader, writer),
+        None => listed(alloc, asked, reader, writer),
     }
 }
 
@@ -49,40 +51,116 @@ fn npm_options(options: Options) -> NpmOptions
 }
 
 /// The same without an increment.
-fn ordered(alloc: Global, asked: &Asked<'_>) -> Result<Answer, CommandError>
+fn listed<R: Read, W: Write>(
+    alloc: Global,
+    asked: &Asked<'_>,
+    reader: &mut BufReader<R>,
+    writer: &mut W,
+) -> Result<Ending, CommandError>
     requires { asked.now.increment ≡ None }
-    ensures answered { IfOk result (λ answer. IsAnswer (asked_value asked.now) (answer_value answer)) }
-    ensures errors { IfErr result (λ error. error ≡ CommandError.Memory) }
+    ensures { IfOk result (IsAnswered (asked_value asked.now) (reader_remaining R.remaining reader.old)
+        (reader_remaining R.remaining reader.new) (W.contents writer.old) (W.contents writer.new)) }
 {
-    let options = npm_options(asked.options);
-    let ranges = ranges_of(alloc, &asked.ranges, options)?;
-    let mut versions = chosen_versions(alloc, &asked.versions, asked.options, &ranges)?;
-    if is_nothing(&versions) {
-        return Ok(Answer::Nothing);
+    let options = asked.options;
+    let ranges = ranges_of(alloc, &asked.ranges, npm_options(options))?;
+    let listing = options.listing;
+    let kept = gathered(
+        alloc,
+        &asked.versions,
+        options,
+        &ranges,
+        listing,
+        reader,
+        writer,
+    )?;
+    write_kept(alloc, kept, options, writer)
+}
+
+/// Writes what is kept of the versions that are left, or the end of what was written.
+fn write_kept<W: Write>(
+    alloc: Global,
+    kept: Kept,
+    options: Options,
+    writer: &mut W,
+) -> Result<Ending, CommandError>
+    ensures { IfOk result (λ ending. (versions : List VersionValue) (before : List ℕ)
+        → IsKept options.listing options.json versions kept before
+        → IsListed options versions before (W.contents writer.old) (W.contents writer.new) ending) }
+{
+    match kept {
+        Kept::All(mut versions) => {
+            put_in_order(&mut versions, options.reverse);
+            write_list(alloc, writer, &versions, options.json)
+        }
+        Kept::Least(best) => write_list(alloc, writer, best.as_slice(), options.json),
+        Kept::Greatest(best) => write_list(alloc, writer, best.as_slice(), options.json),
+        Kept::Written(is_first) => {
+            write_end(writer, options.json, is_first)?;
+            Ok(ending_of(is_first))
+        }
     }
-    put_in_order(&mut versions, asked.options.reverse);
-    Ok(Answer::Lines(lines_of(alloc, &versions)?))
 }
 
 /// The same with an increment.
-fn incremented(alloc: Global, asked: &Asked<'_>, bump: Bump) -> Result<Answer, CommandError>
+fn raised<R: Read, W: Write>(
+    alloc: Global,
+    asked: &Asked<'_>,
+    bump: Bump,
+    reader: &mut BufReader<R>,
+    writer: &mut W,
+) -> Result<Ending, CommandError>
     requires { asked.now.increment ≡ Some bump }
-    ensures answered { IfOk result (λ answer. IsAnswer (asked_value asked.now) (answer_value answer)) }
-    ensures identifier { IsErrOf result CommandError.Identifier → IsNoIdentifier (asked_value asked.now).identifier }
-    ensures errors { IfErr result (λ error. error ≡ CommandError.Identifier ⊎ error ≡ CommandError.Memory) }
+    ensures { IfOk result (IsAnswered (asked_value asked.now) (reader_remaining R.remaining reader.old)
+        (reader_remaining R.remaining reader.new) (W.contents writer.old) (W.contents writer.new)) }
 {
-    let versions = chosen_versions(alloc, &asked.versions, asked.options, &[])?;
+    let versions = all_versions(alloc, asked, reader, writer)?;
     if is_nothing(&versions) {
-        return Ok(Answer::Nothing);
+        return write_list(alloc, writer, &versions, asked.options.json);
     }
     if !is_nothing(&asked.ranges) {
-        return Ok(Answer::Misused);
+        return Ok(Ending::Misused);
     }
     let Some(version) = single(&versions) else {
-        return Ok(Answer::Misused);
+        return Ok(Ending::Misused);
     };
-    let line = increment_line(alloc, version, bump, asked.identifier, asked.base)?;
-    Ok(Answer::Lines(line))
+    let outcome = incremented(alloc, version, bump, asked.identifier, asked.base)?;
+    write_incremented(alloc, writer, outcome.as_ref(), asked.options.json)?;
+    Ok(Ending::Written)
+}
+
+/// All versions of the texts, in their order.
+fn all_versions<R: Read, W: Write>(
+    alloc: Global,
+    asked: &Asked<'_>,
+    reader: &mut BufReader<R>,
+    writer: &mut W,
+) -> Result<Vec<Version>, CommandError>
+    ensures { IfOk result (λ versions. HasVersions (asked_value asked.now) (reader_remaining R.remaining reader.old)
+        (reader_remaining R.remaining reader.new) versions.items (W.contents writer.old) (W.contents writer.new)) }
+{
+    let words = &asked.versions;
+    let kept = gathered(
+        alloc,
+        words,
+        asked.options,
+        &[],
+        Listing::Ordered,
+        reader,
+        writer,
+    )?;
+    Ok(all_of(kept))
+}
+
+/// The versions that are kept if all are.
+fn all_of(kept: Kept) -> Vec<Version>
+    requires { AreAllKept kept }
+    ensures { (is_json : Bool) (versions : List VersionValue) (before : List ℕ)
+        → IsKept Listings.Ordered is_json versions kept before → result.items ≡ versions }
+{
+    match kept {
+        Kept::All(versions) => versions,
+        Kept::Least(_) | Kept::Greatest(_) | Kept::Written(_) => unreachable!(),
+    }
 }
 
 /// Returns `true` if the list is empty.

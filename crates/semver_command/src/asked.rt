@@ -9,10 +9,26 @@ use crate::name::{Flag, Setting};
 use npm_semver::{Bump, IdentifierBase};
 use std::alloc::{AllocError, Global};
 
+/// Which of the versions that are left are written.
+#[derive(Clone, Copy, Debug, PartialEq, Eq, Drop)]
+pub enum Listing {
+    /// All of them, in order of precedence.
+    Ordered,
+    /// All of them, in the order they came.
+    Unsorted,
+    /// Only the least.
+    Least,
+    /// Only the greatest.
+    Greatest,
+}
+
 /// The options without a value.
 #[derive(Clone, Copy, Debug, PartialEq, Eq, Drop)]
 pub struct Options {
     pub help: bool,
+    pub listing: Listing,
+    /// As a JSON array of strings.
+    pub json: bool,
     /// In descending order.
     pub reverse: bool,
     /// Ranges are read in loose form.
@@ -49,8 +65,19 @@ impl Options {
             },
             Flag::Rtl => Options { rtl: true, ..self },
             Flag::Ltr => Options { rtl: false, ..self },
+            Flag::Unsorted => self.with_listing(Listing::Unsorted),
+            Flag::Least => self.with_listing(Listing::Least),
+            Flag::Greatest => self.with_listing(Listing::Greatest),
+            Flag::Json => Options { json: true, ..self },
             Flag::Help => Options { help: true, ..self },
         }
+    }
+
+    /// Returns these options with another listing.
+    fn with_listing(self, listing: Listing) -> Options
+        ensures { result ≡ AskedRules.with_listing self listing }
+    {
+        Options { listing, ..self }
     }
 }
 
@@ -76,6 +103,8 @@ impl<'a> Asked<'a> {
         Asked {
             options: Options {
                 help: false,
+                listing: Listing::Ordered,
+                json: false,
                 reverse: false,
                 loose: false,
                 include_prerelease: false,

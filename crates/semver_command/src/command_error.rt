@@ -14,6 +14,9 @@ pub enum CommandError {
     /// The text after `--preid` is no identifier.
     #[error("--preid takes one identifier of a prerelease, as beta; --help lists the options")]
     Identifier,
+    /// Reading from standard input failed.
+    #[error("read failed")]
+    Read,
     /// A write failed.
     #[error("write failed")]
     Write,

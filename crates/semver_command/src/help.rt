@@ -4,10 +4,13 @@
 pub const HELP: &str = "\
 Writes the valid versions that satisfy all ranges, a line each, in ascending order: npm's command semver.
 
-Usage: semver [OPTIONS] VERSION..
+Usage: semver [OPTIONS] [VERSION..]
 
 A word that is no option is a version. One that is not valid is left out. A value may also be in the same word,
 as in --range=^1.2.
+
+If options stand alone, versions are read from standard input, a line each. The word - stands for standard input
+among other versions, as in semver 1.2.3 - 2.0.0.
 
 Options:
   -r, --range RANGE   Leave out versions that do not satisfy RANGE. May be given several times.
@@ -32,6 +35,14 @@ Options:
   -rv, --rev, --reverse
                       Write the versions in descending order.
                       Example: semver --reverse 1.2.3 1.10.0
+  --unsorted          Write the versions in the order they came, each as soon as it is read.
+                      Example: semver --unsorted --range '^1.2' < versions.txt
+  --least             Write only the least version. Of --unsorted, --least and --greatest the last one counts.
+                      Example: semver --least --range '^1.2' 1.4.2 1.10.0 2.0.0
+  --greatest          Write only the greatest version.
+                      Example: semver --greatest --range '^1.2' 1.4.2 1.10.0 2.0.0
+  --json              Write a JSON array of strings on one line.
+                      Example: semver --json 1.10.0 1.2.3
   -v, --version VERSION
                       A version, also if it looks like an option.
   -h, -?, --help      Write this text.

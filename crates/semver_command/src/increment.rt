@@ -1,66 +1,76 @@
-//! The line of an increment.
-ghost use Rattle.std.specs.Prelude.{◌≡◌, ◌≢◌, ◌⊎◌, ◌++◌, ◌∷◌, [], ℕ, List, IfErr, IfOk, IsErrOf, codes, option_map};
+//! The version after an increment.
+ghost use Rattle.std.specs.Prelude.{◌≡◌, ◌≢◌, ◌⊎◌, IfErr, IfOk, IsErrOf, OnOk, Option, option_map};
+ghost use Rattle.std.specs.Io.KnownBytes.{Appends};
+ghost use Rattle.node_semver.specs.Versions.{VersionValue};
 ghost use Rattle.semver_texts.specs.Identifier.{value_of};
-ghost use Rattle.semver_texts.specs.Print.{version_text};
 ghost use Rattle.semver_command.specs.Arguments.{text_value};
-ghost use Rattle.semver_command.specs.Increment.{IsIdentifierGiven, IsIncrementLine, IsNoIdentifier};
+ghost use Rattle.semver_command.specs.Increment.{IsIdentifierGiven, IsIncremented, IsNoIdentifier, incremented_text, null_text};
 
 use crate::command_error::CommandError;
-use crate::lines::push_line;
+use crate::writing::{write_end, write_item, write_text};
 use node_semver::{Identifier, Version};
 use npm_semver::{Bump, BumpError, IdentifierBase, inc};
 use semver_texts::identifier::read::read_identifier;
-use std::alloc::{AllocError, Global};
+use std::alloc::Global;
+use std::io::Write;
 
-/// Returns the line of the version after an increment, or of `null` if there is none.
-pub fn increment_line(
+/// Returns the version after an increment, or `None` if there is none.
+pub fn incremented(
     alloc: Global,
     version: &Version,
     bump: Bump,
     identifier: Option<&str>,
     base: IdentifierBase,
-) -> Result<Vec<u8>, CommandError>
-    ensures line { IfOk result (λ text. (line : List ℕ)
-        × IsIncrementLine bump (text_value identifier.entry) base version.now line × (text.items ≡ line ++ (10 ∷ []))) }
+) -> Result<Option<Version>, CommandError>
+    ensures version { IfOk result (IsIncremented bump (text_value identifier.entry) base version.now) }
     ensures identifier { IsErrOf result CommandError.Identifier → IsNoIdentifier (text_value identifier.entry) }
     ensures errors { IfErr result (λ error. error ≡ CommandError.Identifier ⊎ error ≡ CommandError.Memory) }
 {
     let given = given_identifier(alloc, identifier)?;
     match inc(alloc, version, bump, given.as_ref(), base) {
-        Ok(bumped) => Ok(line_of(alloc, &bumped)?),
-        Err(error) => Ok(refused_line(alloc, error)?),
-    }
-}
-
-/// The line of an increment that is not made, unless an allocation failed.
-fn refused_line(alloc: Global, error: BumpError) -> Result<Vec<u8>, CommandError>
-    ensures line { IfOk result (λ line. (error ≢ BumpError.OutOfMemory) × (line.items ≡ codes "null" ++ (10 ∷ []))) }
-    ensures errors { IfErr result (λ error. error ≡ CommandError.Memory) }
-{
-    match error {
-        BumpError::OutOfMemory => Err(CommandError::Memory),
-        BumpError::NoIdentifier | BumpError::SameIdentifier | BumpError::NumberTooLarge => {
-            Ok(null_line(alloc)?)
+        Ok(bumped) => Ok(Some(bumped)),
+        Err(error) => {
+            refused(error)?;
+            Ok(None)
         }
     }
 }
 
-/// The line of a version.
-fn line_of(alloc: Global, version: &Version) -> Result<Vec<u8>, AllocError>
-    ensures { IfOk result (λ line. line.items ≡ version_text version.now ++ (10 ∷ [])) }
+/// Fails if an increment was not made since an allocation failed.
+fn refused(error: BumpError) -> Result<(), CommandError>
+    ensures refused { IfOk result (λ _. error ≢ BumpError.OutOfMemory) }
+    ensures errors { IfErr result (λ e. e ≡ CommandError.Memory) }
 {
-    let mut line = Vec::new(alloc);
-    push_line(alloc, &mut line, version)?;
-    Ok(line)
+    match error {
+        BumpError::OutOfMemory => Err(CommandError::Memory),
+        BumpError::NoIdentifier | BumpError::SameIdentifier | BumpError::NumberTooLarge => Ok(()),
+    }
 }
 
-/// The line where there is no version.
-fn null_line(alloc: Global) -> Result<Vec<u8>, AllocError>
-    ensures { IfOk result (λ line. line.items ≡ codes "null" ++ (10 ∷ [])) }
+/// Writes the version, or `null` if there is none.
+pub fn write_incremented<W: Write>(
+    alloc: Global,
+    writer: &mut W,
+    version: Option<&Version>,
+    is_json: bool,
+) -> Result<(), CommandError>
+    ensures { OnOk result (Appends (W.contents writer.old) (W.contents writer.new)
+        (incremented_text is_json (option_map (λ v. v.now) version.entry))) }
 {
-    let mut line = Vec::new(alloc);
-    line.extend_from_slice(b"null\n")?;
-    Ok(line)
+    match version {
+        Some(version) => {
+            write_item(alloc, writer, version, is_json, true)?;
+            write_end(writer, is_json, false)
+        }
+        None => write_text(writer, null_text(is_json)),
+    }
+}
+
+/// What is written in the place of a version.
+fn null_text(is_json: bool) -> &'static [u8]
+    ensures { result.now ≡ null_text is_json }
+{
+    if is_json { b"[null]\n" } else { b"null\n" }
 }
 
 /// The identifier of the text after `--preid`; the empty text stands for none.

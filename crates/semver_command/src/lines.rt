@@ -1,10 +1,18 @@
-//! Versions in order, and a line for each.
-ghost use Rattle.std.specs.Prelude.{◌≡◌, ◌++◌, ◌∷◌, [], IfOk, OnOk};
-ghost use Rattle.semver_texts.specs.Print.{version_text};
-ghost use Rattle.semver_command.specs.Lines.{AreInOrder, lines_text};
+//! Versions in order, and the text of them.
+ghost use Rattle.std.specs.Prelude.{◌≡◌, IfOk, List, [], ◌≢◌};
+ghost use Rattle.std.specs.Bool.{MatchBool};
+ghost use Rattle.node_semver.specs.Versions.{VersionValue};
+ghost use Rattle.std.specs.Io.KnownBytes.{Appends};
+ghost use Rattle.semver_command.specs.Answer.{ending_of};
+ghost use Rattle.semver_command.specs.Lines.{listed_text};
+ghost use Rattle.semver_command.specs.Listed.{AreInOrder};
 
+use crate::command_error::CommandError;
+use crate::ending::Ending;
+use crate::writing::{write_end, write_item};
 use node_semver::Version;
-use std::alloc::{AllocError, Global};
+use std::alloc::Global;
+use std::io::Write;
 
 /// Puts the versions in ascending order of precedence, or in descending order.
 pub fn put_in_order(versions: &mut Vec<Version>, reverse: bool)
@@ -16,22 +24,32 @@ pub fn put_in_order(versions: &mut Vec<Version>, reverse: bool)
     }
 }
 
-/// Returns a line for each version.
-pub fn lines_of(alloc: Global, versions: &[Version]) -> Result<Vec<u8>, AllocError>
-    ensures { IfOk result (λ text. text.items ≡ lines_text versions.now) }
+/// Writes the versions in the order of the list. Returns whether there was one.
+pub fn write_list<W: Write>(
+    alloc: Global,
+    writer: &mut W,
+    versions: &[Version],
+    is_json: bool,
+) -> Result<Ending, CommandError>
+    ensures { IfOk result (λ ending. (ending ≡ ending_of versions.now)
+        × Appends (W.contents writer.old) (W.contents writer.new) (listed_text is_json versions.now)) }
 {
-    let mut lines = Vec::new(alloc);
+    let mut is_first = true;
     for version in versions {
-        push_line(alloc, &mut lines, version)?;
+        write_item(alloc, writer, version, is_json, is_first)?;
+        is_first = false;
     }
-    Ok(lines)
+    write_end(writer, is_json, is_first)?;
+    Ok(ending_of(is_first))
 }
 
-/// Adds the line of a version.
-pub fn push_line(alloc: Global, lines: &mut Vec<u8>, version: &Version) -> Result<(), AllocError>
-    ensures { OnOk result (lines.new.items ≡ (lines.old.items ++ version_text version.now) ++ (10 ∷ [])) }
+/// How the program ends after a list.
+pub fn ending_of(is_empty: bool) -> Ending
+    ensures { (versions : List VersionValue) → MatchBool is_empty (versions ≡ []) (versions ≢ []) → result ≡ ending_of versions }
 {
-    let text = format!(in alloc; "{version}")?;
-    lines.extend_from_slice(text.as_bytes())?;
-    lines.extend_from_slice(b"\n")
+    if is_empty {
+        Ending::Nothing
+    } else {
+        Ending::Written
+    }
 }

@@ -12,26 +12,33 @@ mod arguments;
 mod asked;
 mod chosen;
 mod command_error;
+mod ending;
+mod gathered;
 mod help;
 mod increment;
+mod input_line;
+mod kept;
 mod lines;
 mod name;
 mod ranges;
 mod reply;
 mod words;
+mod writing;
 mod written;
 
 use command_error::CommandError;
-use reply::{Ending, run};
+use ending::Ending;
+use reply::run;
+use std::io::{BufReader, BufWriter};
 use std::process::ExitCode;
 use words::words_of;
 
+/// How many bytes are read, or written, at once: what a pipe holds.
+const ROOM: usize = 65536;
+
 /// Ends with the status of `status_of`.
 fn main(rt: HostRuntime) -> ExitCode {
-    let outcome = match words_of(rt.alloc(), &rt) {
-        Ok(words) => run(rt.alloc(), &words, &mut rt.stdout()),
-        Err(error) => Err(error),
-    };
+    let outcome = replied(&rt);
     let said = match &outcome {
         Ok(Ending::Misused) => {
             eprintln!(rt; "--inc can only be used on a single version with no range")
@@ -40,6 +47,17 @@ fn main(rt: HostRuntime) -> ExitCode {
         Err(error) => eprintln!(rt; "semver: {error}"),
     };
     ExitCode::from(status_of(&outcome, said.is_ok()))
+}
+
+/// Replies to the words of the command line and to standard input.
+fn replied(rt: &HostRuntime) -> Result<Ending, CommandError> {
+    let words = words_of(rt.alloc(), rt)?;
+    let reader = BufReader::with_capacity(rt.alloc(), ROOM, rt.stdin());
+    let writer = BufWriter::with_capacity(rt.alloc(), ROOM, rt.stdout());
+    match (reader, writer) {
+        (Ok(mut reader), Ok(mut writer)) => run(rt.alloc(), &words, &mut reader, &mut writer),
+        _ => Err(CommandError::Memory),
+    }
 }
 
 /// Returns the exit status: 0 if a text was written, 1 if no version is left or an increment was misused, and 2 after an

@@ -13,6 +13,10 @@ pub enum Flag {
     Coerce,
     Rtl,
     Ltr,
+    Unsorted,
+    Least,
+    Greatest,
+    Json,
     Help,
 }
 
@@ -85,6 +89,23 @@ fn other_flag_of(word: &str) -> Option<Flag>
         Some(Flag::Reverse)
     } else if word == "-h" || word == "--help" || word == "-?" {
         Some(Flag::Help)
+    } else {
+        listing_flag_of(word)
+    }
+}
+
+/// The same of those that npm's command lacks: which versions are written, and in which form.
+fn listing_flag_of(word: &str) -> Option<Flag>
+    ensures { result ≡ Names.listing_flag_of word.now }
+{
+    if word == "--unsorted" {
+        Some(Flag::Unsorted)
+    } else if word == "--least" {
+        Some(Flag::Least)
+    } else if word == "--greatest" {
+        Some(Flag::Greatest)
+    } else if word == "--json" {
+        Some(Flag::Json)
     } else {
         None
     }

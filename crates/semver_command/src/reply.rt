@@ -1,96 +1,86 @@
-//! What the words of the command line are replied with.
-ghost use Rattle.std.specs.Prelude.{◌≡◌, IfErr, IfOk, map, string_bytes};
+//! What the words of the command line and standard input are replied with.
+ghost use Rattle.std.specs.Prelude.{◌≡◌, IfOk, OnOk, map, string_bytes};
+ghost use Rattle.std.specs.Io.Buffered.{reader_remaining};
 ghost use Rattle.std.specs.Io.KnownBytes.{Appends};
-ghost use Rattle.semver_command.specs.Answer.{AnswerValue, answer_value, lines};
-ghost use Rattle.semver_command.specs.Reply.{IsReply, ending_of, text_of};
+ghost use Rattle.semver_command.specs.Reply.{Replies};
 
-use crate::answer::{Answer, answer_of, is_nothing};
+use crate::answer::{answer, is_nothing};
 use crate::asked::read_arguments;
 use crate::command_error::CommandError;
+use crate::ending::Ending;
+use crate::gathered::flush;
 use crate::help::HELP;
-use std::alloc::{AllocError, Global};
-use std::io::Write;
+use crate::writing::write_text;
+use std::alloc::Global;
+use std::io::{BufReader, Read, Write};
 
-/// How the program ends.
-#[derive(Clone, Copy, Debug, PartialEq, Eq, Drop)]
-pub enum Ending {
-    /// A text was written.
-    Written,
-    /// No version is left.
-    Nothing,
-    /// An increment with a range, or of more than one version.
-    Misused,
-}
-
-/// Replies to the words after the program's name, and writes the lines of the versions.
+/// Replies to the words after the program's name, and writes the versions.
+///
+/// Standard input is read to its end if no word is a version, and if one is `-`. What was written before an error stays
+/// written.
 ///
 /// # Errors
 ///
 /// - `Identifier`: the text after `--preid` is no identifier, and there is an increment.
-/// - `Write`: a write failed. A beginning of the lines may have been written.
+/// - `Read`: reading from standard input failed.
+/// - `Write`: a write failed. A beginning of the text may have been written.
 /// - `Memory`: an allocation failed.
 ///
 /// # Memory
 ///
-/// Allocates for the ranges, for all versions, and for all lines.
+/// Allocates for the ranges, for one line of standard input, and for one version. Only if the versions are sorted, or if
+/// there is an increment, it allocates for all versions.
 ///
 /// # Examples
 ///
 /// - `-r ^1.2 1.10.0 v1.2.3 2.0.0 x`: the lines `1.2.3` and `1.10.0`.
+/// - `-r ^1.2`, and the lines `1.10.0`, `v1.2.3` and `2.0.0` on standard input: the same.
+/// - `--unsorted -r ^1.2 1.10.0 -`, and these lines: `1.10.0`, `1.10.0` and `1.2.3`.
 /// - `-i minor 1.2.3`: the line `1.3.0`.
 /// - `-r ^1 2.0.0`: no line, and `Nothing`.
 ///
 /// # Source
 ///
 /// npm's `semver` 7.6.2, `bin/semver.js`.
-pub fn run<W: Write>(
+pub fn run<R: Read, W: Write>(
     alloc: Global,
     words: &[String],
+    reader: &mut BufReader<R>,
     writer: &mut W,
 ) -> Result<Ending, CommandError>
-    ensures { IfOk result (λ ending. (answer : AnswerValue) × IsReply (map string_bytes words.now) answer
-        × (ending ≡ ending_of answer)
-        × Appends (W.contents writer.old) (W.contents writer.new) (text_of answer)) }
+    ensures { IfOk result (Replies (map string_bytes words.now) (reader_remaining R.remaining reader.old)
+        (reader_remaining R.remaining reader.new) (W.contents writer.old) (W.contents writer.new)) }
 {
-    let answer = reply(alloc, words)?;
-    write_answer(&answer, writer)
+    let ending = reply(alloc, words, reader, writer)?;
+    flush(writer)?;
+    Ok(ending)
 }
 
-/// What is replied to the words.
-fn reply(alloc: Global, words: &[String]) -> Result<Answer, CommandError>
-    ensures { IfOk result (λ answer. IsReply (map string_bytes words.now) (answer_value answer)) }
+/// The same, with what may still be in the writer's buffer.
+fn reply<R: Read, W: Write>(
+    alloc: Global,
+    words: &[String],
+    reader: &mut BufReader<R>,
+    writer: &mut W,
+) -> Result<Ending, CommandError>
+    ensures { IfOk result (Replies (map string_bytes words.now) (reader_remaining R.remaining reader.old)
+        (reader_remaining R.remaining reader.new) (W.contents writer.old) (W.contents writer.new)) }
 {
     if is_nothing(words) {
-        return Ok(help(alloc)?);
+        return help(writer);
     }
     let asked = read_arguments(alloc, words)?;
     if asked.options.help {
-        return Ok(help(alloc)?);
+        return help(writer);
     }
-    answer_of(alloc, &asked)
+    answer(alloc, &asked, reader, writer)
 }
 
-/// The text about the program.
-fn help(alloc: Global) -> Result<Answer, AllocError>
-    ensures { IfOk result (λ answer. answer_value answer ≡ lines HELP.now) }
+/// Writes the text about the program.
+fn help<W: Write>(writer: &mut W) -> Result<Ending, CommandError>
+    ensures { IfOk result (λ ending. (ending ≡ Ending.Written)
+        × Appends (W.contents writer.old) (W.contents writer.new) HELP.now) }
 {
-    let mut text = Vec::new(alloc);
-    text.extend_from_slice(HELP.as_bytes())?;
-    Ok(Answer::Lines(text))
-}
-
-/// Writes the lines of an answer.
-fn write_answer<W: Write>(answer: &Answer, writer: &mut W) -> Result<Ending, CommandError>
-    ensures written { IfOk result (λ ending. (ending ≡ ending_of (answer_value answer.now))
-        × Appends (W.contents writer.old) (W.contents writer.new) (text_of (answer_value answer.now))) }
-    ensures failed { IfErr result (λ error. error ≡ CommandError.Write) }
-{
-    match answer {
-        Answer::Lines(lines) => match writer.write_all(lines.as_slice()) {
-            Ok(()) => Ok(Ending::Written),
-            Err(_) => Err(CommandError::Write),
-        },
-        Answer::Nothing => Ok(Ending::Nothing),
-        Answer::Misused => Ok(Ending::Misused),
-    }
+    write_text(writer, HELP.as_bytes())?;
+    Ok(Ending::Written)
 }

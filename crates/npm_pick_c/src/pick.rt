@@ -30,18 +30,18 @@ pub extern "C" fn npm_pick_version(
     told: &mut Told,
 ) -> u32
     ensures { IsAnswered (record {
-        document = document.now;
-        wanted = wanted.now;
-        texts = record {
-          default_tag = default_tag.now;
-          avoid = avoid.now;
-          before = before.now;
-          node = node.now;
-          npm = npm.now;
-        };
-        avoid_strict = avoid_strict;
-        include_staged = include_staged;
-      }) result room.old room.new told.old told.new }
+      document = document.now;
+      wanted = wanted.now;
+      texts = record {
+        default_tag = default_tag.now;
+        avoid = avoid.now;
+        before = before.now;
+        node = node.now;
+        npm = npm.now;
+      };
+      avoid_strict = avoid_strict;
+      include_staged = include_staged;
+    }) result room.old room.new told.old told.new }
 {
     let (Some(document), Some(wanted)) = (text_of(document), text_of(wanted)) else {
         return NOT_UTF8;
@@ -64,20 +64,20 @@ fn texts_of<'t>(
     npm: &'t [u8],
 ) -> Option<Texts<'t>>
     ensures texts { IfSome result (λ texts. texts_value texts ≡ record {
-        default_tag = default_tag.now;
-        avoid = avoid.now;
-        before = before.now;
-        node = node.now;
-        npm = npm.now;
-      }) }
+      default_tag = default_tag.now;
+      avoid = avoid.now;
+      before = before.now;
+      node = node.now;
+      npm = npm.now;
+    }) }
     ensures utf8 { IfSome result (λ texts. AreUtf8 (texts_value texts)) }
     ensures not_utf8 { IfNone result (¬ AreUtf8 (record {
-        default_tag = default_tag.now;
-        avoid = avoid.now;
-        before = before.now;
-        node = node.now;
-        npm = npm.now;
-      })) }
+      default_tag = default_tag.now;
+      avoid = avoid.now;
+      before = before.now;
+      node = node.now;
+      npm = npm.now;
+    })) }
 {
     Some(Texts {
         default_tag: text_of(default_tag)?,

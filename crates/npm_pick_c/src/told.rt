@@ -22,11 +22,7 @@ pub struct Told {
 }
 
 // Tells the version that is picked, or returns the status of the error.
-pub(crate) fn tell(
-    answer: Result<Picked<'_>, PickError>,
-    room: &mut [u8],
-    told: &mut Told,
-) -> u32
+pub(crate) fn tell(answer: Result<Picked<'_>, PickError>, room: &mut [u8], told: &mut Told) -> u32
     ensures { IsTold (answer_value answer.entry) result room.old room.new told.old told.new }
 {
     match answer {

@@ -11,15 +11,20 @@ PickFault = Literal["Wanted", "NoTag", "NoVersion", "NoVersions", "NoneInRange",
 #: npm's codes.
 PickCode = Literal["EINVALIDTAGNAME", "ETARGET", "ENOVERSIONS", "E403"]
 
-# By the status of the native part: the name of the fault, npm's code, and the reason.
-_FAULTS: dict[int, tuple[PickFault, PickCode, str]] = {
-    1: ("Wanted", "EINVALIDTAGNAME", "it is no version, no range and no tag"),
-    2: ("NoTag", "ETARGET", "there is no such tag"),
-    3: ("NoVersion", "ETARGET", "there is no such version, or it was published too late"),
-    4: ("NoVersions", "ENOVERSIONS", "there are no versions, or all were published too late"),
-    5: ("NoneInRange", "ETARGET", "no version is in the range"),
-    6: ("Forbidden", "E403", "a policy forbids the version"),
-    7: ("Avoided", "ETARGET", "there are only versions to avoid"),
+# By the status of the native part.
+_KINDS: dict[int, PickFault] = {
+    1: "Wanted", 2: "NoTag", 3: "NoVersion", 4: "NoVersions", 5: "NoneInRange", 6: "Forbidden", 7: "Avoided",
+}  # fmt: skip
+
+# By the kind of the error: npm's code, and the reason.
+_FAULTS: dict[PickFault, tuple[PickCode, str]] = {
+    "Wanted": ("EINVALIDTAGNAME", "it is no version, no range and no tag"),
+    "NoTag": ("ETARGET", "there is no such tag"),
+    "NoVersion": ("ETARGET", "there is no such version, or it was published too late"),
+    "NoVersions": ("ENOVERSIONS", "there are no versions, or all were published too late"),
+    "NoneInRange": ("ETARGET", "no version is in the range"),
+    "Forbidden": ("E403", "a policy forbids the version"),
+    "Avoided": ("ETARGET", "there are only versions to avoid"),
 }
 
 _REFUSED = {
@@ -69,18 +74,16 @@ class PickError(LookupError):
     #: The version, the tag or the range.
     wanted: str
 
-    def __init__(self, name: str, wanted: str, kind: PickFault, code: PickCode, reason: str) -> None:
-        super().__init__(f"{name}@{wanted}: {reason}" if name else f"{wanted}: {reason}")
-        self.kind, self.code, self.wanted = kind, code, wanted
+    def __init__(self, name: str, wanted: str, kind: PickFault) -> None:
+        super().__init__(name, wanted, kind)  # the arguments that pickle and copy pass again
+        self.wanted, self.kind, self.code = wanted, kind, _FAULTS[kind][0]
+        self._package = name
 
-    def __reduce__(self) -> tuple[Any, ...]:
-        return (_restored, (str(self), self.kind, self.code, self.wanted))
+    def __str__(self) -> str:
+        return f"{self._package}{self._package and '@'}{self.wanted}: {_FAULTS[self.kind][1]}"
 
 
-def _restored(message: str, kind: PickFault, code: PickCode, wanted: str) -> PickError:
-    error = PickError.__new__(PickError, message)
-    error.kind, error.code, error.wanted = kind, code, wanted
-    return error
+Picked.__module__ = PickError.__module__ = "node_semver"
 
 
 def _manifest(manifest: Any) -> Any:
@@ -107,8 +110,10 @@ def _document(packument: Mapping[str, Any]) -> str:
 
 
 def _time(before: datetime | str | None) -> str:
+    if before is None:
+        return ""
     if not isinstance(before, datetime):
-        return before or ""
+        return before
     if before.tzinfo is None:
         raise ValueError("before must have a time zone")
     return before.isoformat()
@@ -159,4 +164,4 @@ def pick(
     if answer in _REFUSED:
         raise ValueError(_REFUSED[answer])
     name = packument.get("name") if isinstance(packument, Mapping) else None
-    raise PickError(name if isinstance(name, str) else "", asked, *_FAULTS[answer])
+    raise PickError(name if isinstance(name, str) else "", asked, _KINDS[answer])

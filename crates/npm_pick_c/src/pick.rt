@@ -43,7 +43,10 @@ pub extern "C" fn npm_pick_version(
       include_staged = include_staged;
     }) result room.old room.new told.old told.new }
 {
-    let (Some(document), Some(wanted)) = (text_of(document), text_of(wanted)) else {
+    let Some(document) = text_of(document) else {
+        return NOT_UTF8;
+    };
+    let Some(wanted) = text_of(wanted) else {
         return NOT_UTF8;
     };
     let Some(texts) = texts_of(default_tag, avoid, before, node, npm) else {

@@ -43,42 +43,53 @@ def check_glibc(path):
         sys.exit(f"release: {path} needs GLIBC {newest} and {', '.join(sorted(needed)) or 'no other library'}")
 
 
-def library():
-    """Builds the library for C over the exports that the gate has proved."""
-    run(os.path.join(ROOT, ".ci", "packages", "library"))
-    run("make", "-C", os.path.join(BINDINGS, "c"))
+# The libraries for C, each with its header, and the crates of their exports.
+LIBRARIES = {"node_semver": "node_semver_c", "npm_pick": "npm_pick_c"}
+
+
+def libraries():
+    """Builds the libraries for C over the exports that the gate has proved."""
+    for crate in LIBRARIES.values():
+        run(os.path.join(ROOT, ".ci", "packages", "library"), crate)
+    run("make", "-C", os.path.join(BINDINGS, "c"), "all", "pick")
 
 
 def install_c(folder):
-    """The library for C below a folder that can be moved: pkg-config and CMake find it from where they are."""
+    """The libraries for C below a folder that can be moved: pkg-config and CMake find them from where they are."""
     stage = folder + ".stage"
-    run("make", "-C", os.path.join(BINDINGS, "c"), "install", "PREFIX=/usr/local", f"DESTDIR={stage}")
+    run("make", "-C", os.path.join(BINDINGS, "c"), "install", "install-pick", "PREFIX=/usr/local", f"DESTDIR={stage}")
     shutil.copytree(os.path.join(stage, "usr/local"), folder, symlinks=True, dirs_exist_ok=True)
     shutil.rmtree(stage)
-    path = os.path.join(folder, "lib/pkgconfig/node_semver.pc")
+    for name in LIBRARIES:
+        move_pkg_config(os.path.join(folder, f"lib/pkgconfig/{name}.pc"))
+        check_glibc(os.path.join(folder, f"lib/lib{name}.so"))
+
+
+def move_pkg_config(path):
+    """Makes the folders of a file of pkg-config relative to its own."""
     with open(path, encoding="utf-8") as file:
         lines = file.read().split("\n")
     moved = {"prefix": "${pcfiledir}/../..", "libdir": "${prefix}/lib", "includedir": "${prefix}/include"}
     lines = [re.sub(r"^(prefix|libdir|includedir)=.*", lambda it: f"{it[1]}={moved[it[1]]}", line) for line in lines]
     with open(path, "w", encoding="utf-8") as file:
         file.write("\n".join(lines))
-    check_glibc(os.path.join(folder, "lib/libnode_semver.so"))
 
 
 def node_package(room, out):
-    """The package for Node with its native part, so that installing it takes no compiler."""
+    """The package for Node with its native parts, so that installing it takes no compiler."""
     at = copied("node", room)
     run("node", os.path.join(BINDINGS, "node", "build.js"), "--library")
-    for name in ("lib/libnode_semver.a", "lib/node_semver.h", "LICENSE"):
+    for name in [*(f"lib/lib{it}.a" for it in LIBRARIES), *(f"lib/{it}.h" for it in LIBRARIES), "LICENSE"]:
         os.makedirs(os.path.dirname(os.path.join(at, name)), exist_ok=True)
         shutil.copy(os.path.join(BINDINGS, "node", name), os.path.join(at, name))
     run("node", "build.js", at=at)
-    made = os.path.join(at, "build/Release/node_semver.node")
-    run("strip", "--strip-unneeded", made)
-    check_glibc(made)
-    to = os.path.join(at, "prebuilt/linux-x64/node_semver.node")
-    os.makedirs(os.path.dirname(to))
-    os.rename(made, to)
+    to = os.path.join(at, "prebuilt/linux-x64")
+    os.makedirs(to)
+    for name in LIBRARIES:
+        made = os.path.join(at, f"build/Release/{name}.node")
+        run("strip", "--strip-unneeded", made)
+        check_glibc(made)
+        os.rename(made, os.path.join(to, f"{name}.node"))
     shutil.rmtree(os.path.join(at, "build"))
     path = os.path.join(at, "package.json")
     with open(path, encoding="utf-8") as file:
@@ -92,8 +103,9 @@ def python_packages(room, out, date):
     """The wheel, one for each Python from 3.10 on, and the sources, which bring the proved library."""
     at = copied("python", room)
     os.makedirs(os.path.join(at, "lib"))
-    shutil.copy(os.path.join(BINDINGS, "c/build/libnode_semver.a"), os.path.join(at, "lib"))
-    shutil.copy(os.path.join(BINDINGS, "c/include/node_semver.h"), os.path.join(at, "lib"))
+    for name in LIBRARIES:
+        shutil.copy(os.path.join(BINDINGS, f"c/build/lib{name}.a"), os.path.join(at, "lib"))
+        shutil.copy(os.path.join(BINDINGS, f"c/include/{name}.h"), os.path.join(at, "lib"))
     if os.path.islink(os.path.join(at, "LICENSE")) or not os.path.exists(os.path.join(at, "LICENSE")):
         shutil.copy(os.path.join(ROOT, "LICENSE"), os.path.join(at, "LICENSE"))
     stamp = {"SOURCE_DATE_EPOCH": str(date), "CFLAGS": "-g0"}
@@ -106,4 +118,5 @@ def python_packages(room, out, date):
     archives.write(os.path.join(out, os.path.basename(sources)), archives.gzipped(packed, date))
     platform = f"manylinux_{GLIBC[0]}_{GLIBC[1]}_x86_64"
     run(PYTHON, "setup.py", "-q", "bdist_wheel", "--plat-name", platform, "--dist-dir", out, at=at, **stamp)
-    check_glibc(glob.glob(os.path.join(at, "build/released/lib*/node_semver/*.so"))[0])
+    for path in glob.glob(os.path.join(at, "build/released/lib*/node_semver/*.so")):
+        check_glibc(path)

@@ -17,6 +17,15 @@
       "defines": ["NAPI_VERSION=8"],
       "cflags": ["-std=c11", "-Wall", "-Wextra", "-fvisibility=hidden"],
       "ldflags": ["-Wl,--exclude-libs,ALL"]
+    },
+    {
+      "target_name": "npm_pick",
+      "sources": ["src/pick/pick.c"],
+      "include_dirs": ["lib"],
+      "libraries": ["../lib/libnpm_pick.a"],
+      "defines": ["NAPI_VERSION=8"],
+      "cflags": ["-std=c11", "-Wall", "-Wextra", "-fvisibility=hidden"],
+      "ldflags": ["-Wl,--exclude-libs,ALL"]
     }
   ]
 }

@@ -1,10 +1,11 @@
 // SPDX-License-Identifier: Apache-2.0
-// Builds the native part with the node-gyp that npm ships. In a clone it first builds the C library of `../c`, and
-// copies it into `lib`, and the licence to here; a package from `npm pack` has both. The package of a release also has
-// the native part itself, in `prebuilt`, which is taken where it can be loaded.
+// Builds the two native parts with the node-gyp that npm ships: one of the package, and one of `pick.js`. In a clone it
+// first builds the C libraries of `../c`, and copies them into `lib`, and the licence to here; a package from `npm pack`
+// has them. The package of a release also has the native parts themselves, in `prebuilt`, which are taken where they can
+// be loaded.
 //
-//     node build.js              builds build/Release/node_semver.node
-//     node build.js --library    builds and copies the library and the licence alone
+//     node build.js              builds build/Release/node_semver.node and build/Release/npm_pick.node
+//     node build.js --library    builds and copies the libraries and the licence alone
 'use strict';
 
 const { spawnSync } = require('node:child_process');
@@ -15,6 +16,8 @@ const path = require('node:path');
 const parts = [
     ['../c/build/libnode_semver.a', 'lib/libnode_semver.a'],
     ['../c/include/node_semver.h', 'lib/node_semver.h'],
+    ['../c/build/libnpm_pick.a', 'lib/libnpm_pick.a'],
+    ['../c/include/npm_pick.h', 'lib/npm_pick.h'],
     ['../../LICENSE', 'LICENSE'],
 ];
 
@@ -26,11 +29,11 @@ function run(command, words) {
     }
 }
 
-// The library, from the clone that this folder is in.
+// The libraries, from the clone that this folder is in.
 function copyLibrary() {
     const from = path.join(__dirname, '..', 'c');
     if (fs.existsSync(path.join(from, 'Makefile'))) {
-        run('make', ['-C', from]);
+        run('make', ['-C', from, 'all', 'pick']);
         fs.mkdirSync(path.join(__dirname, 'lib'), { recursive: true });
         parts.forEach(([file, name]) => fs.copyFileSync(path.join(__dirname, file), path.join(__dirname, name)));
     }
@@ -41,14 +44,18 @@ function copyLibrary() {
     }
 }
 
-// Takes the native part of `prebuilt` if there is one for this system that a process of its own can load.
+const NATIVE = ['node_semver.node', 'npm_pick.node'];
+
+// Takes the native parts of `prebuilt` if they are there for this system, and a process of its own can load them.
 function takePrebuilt() {
-    const from = path.join(__dirname, 'prebuilt', `${process.platform}-${process.arch}`, 'node_semver.node');
-    if (!fs.existsSync(from) || spawnSync(process.execPath, ['-e', 'require(process.argv[1])', from]).status !== 0) {
+    const from = path.join(__dirname, 'prebuilt', `${process.platform}-${process.arch}`);
+    const files = NATIVE.map((name) => path.join(from, name));
+    const load = ['-e', 'process.argv.slice(1).forEach(require)', ...files];
+    if (!files.every((file) => fs.existsSync(file)) || spawnSync(process.execPath, load).status !== 0) {
         return false;
     }
     fs.mkdirSync(path.join(__dirname, 'build/Release'), { recursive: true });
-    fs.copyFileSync(from, path.join(__dirname, 'build/Release/node_semver.node'));
+    NATIVE.forEach((name) => fs.copyFileSync(path.join(from, name), path.join(__dirname, 'build/Release', name)));
     return true;
 }
 

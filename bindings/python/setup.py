@@ -1,9 +1,9 @@
 # SPDX-License-Identifier: Apache-2.0
-"""Builds the extension module on Python's limited API; pyproject.toml says the rest.
+"""Builds the two extension modules on Python's limited API; pyproject.toml says the rest.
 
-NODE_SEMVER_LIBRARY names the static libraries to link, with `:` between, and NODE_SEMVER_INCLUDE the folder of
-node_semver.h. Without them they are those of the folder lib, which the sources of a release have, and else those of
-../c, which `make` builds where a source has changed.
+NODE_SEMVER_LIBRARY names the static libraries to link, with `:` between, and NODE_SEMVER_INCLUDE the folder of their
+headers. If it does not name libnpm_pick.a, that is taken from the folder of the first. Without them they are those of the
+folder lib, which the sources of a release have, and else those of ../c, which `make` builds where a source has changed.
 NODE_SEMVER_REFUSE=1 makes the build of tests/refused, in which any allocation can be made to fail.
 """
 
@@ -19,6 +19,7 @@ HERE = os.path.dirname(os.path.abspath(__file__))
 ROOT = os.path.dirname(os.path.dirname(HERE))
 C_PACKAGE = os.path.join(os.path.dirname(HERE), "c")
 RELEASED = os.path.join(HERE, "lib", "libnode_semver.a")
+PICK = "libnpm_pick.a"
 
 # What the extension and the library call to allocate.
 ALLOCATORS = [
@@ -44,7 +45,7 @@ def content_of_sources() -> str:
 
 
 def build_c_library() -> str:
-    """Builds the static library of ../c where a source has changed, and returns its path.
+    """Builds the static libraries of ../c where a source has changed, and returns the path of the first.
 
     `make` goes by time stamps. A changed source may have an old one, so the contents of the sources are compared too.
     """
@@ -55,7 +56,7 @@ def build_c_library() -> str:
         with open(stamp) as file:
             before = file.read()
     all_anew = ["-B"] if before not in (None, content) else []
-    subprocess.run(["make", "-C", C_PACKAGE, *all_anew], check=True)
+    subprocess.run(["make", "-C", C_PACKAGE, *all_anew, "all", "pick"], check=True)
     with open(stamp, "w") as file:
         file.write(content)
     return library
@@ -65,12 +66,16 @@ def libraries() -> list[str]:
     """The static libraries to link."""
     named = os.environ.get("NODE_SEMVER_LIBRARY")
     if named:
-        return named.split(":")
-    return [RELEASED if os.path.exists(RELEASED) else build_c_library()]
+        found = named.split(":")
+    else:
+        found = [RELEASED if os.path.exists(RELEASED) else build_c_library()]
+    if all(os.path.basename(path) != PICK for path in found):
+        found.append(os.path.join(os.path.dirname(found[0]), PICK))
+    return found
 
 
 def include() -> str:
-    """The folder of node_semver.h."""
+    """The folder of node_semver.h and npm_pick.h."""
     folder = os.path.dirname(RELEASED) if os.path.exists(RELEASED) else os.path.join(C_PACKAGE, "include")
     return os.environ.get("NODE_SEMVER_INCLUDE", folder)
 
@@ -78,14 +83,14 @@ def include() -> str:
 REFUSE = bool(os.environ.get("NODE_SEMVER_REFUSE"))
 
 
-def extension() -> Extension:
-    sources = sorted(glob("native/*.c"))
+def extension(name: str, folder: str) -> Extension:
+    sources = sorted(glob(os.path.join(folder, "*.c")))
     link = ["-Wl,--exclude-libs,ALL"]
     if REFUSE:
         sources.append("tests/refused/refuse.c")
         link += ["-Wl,--wrap=" + name for name in ALLOCATORS + ["free"]]
     return Extension(
-        "node_semver._native",
+        name,
         sources,
         include_dirs=[include()],
         extra_compile_args=["-std=c99", "-fvisibility=hidden", "-Wall", "-Wextra"],
@@ -106,7 +111,7 @@ class BuildAnew(build_ext):
 
 os.chdir(HERE)
 setup(
-    ext_modules=[extension()],
+    ext_modules=[extension("node_semver._native", "native"), extension("node_semver._pick", "native/pick")],
     cmdclass={"build_ext": BuildAnew},
     options={
         "bdist_wheel": {"py_limited_api": "cp310"},

@@ -8,6 +8,8 @@ const assert = require('node:assert');
 const { test } = require('node:test');
 const { setImmediate: turn } = require('node:timers/promises');
 const semver = require('..');
+const pick = require('../pick.js');
+const { large } = require('./documents.js');
 
 const CALLS = 200000;
 const MOST = 8 * 1024 * 1024;
@@ -57,7 +59,9 @@ const calls = {
 
 // Calls that make the comparators of a range, which takes longer.
 const SLOW_CALLS = CALLS / 8;
+const document = large(20);
 const slow = {
+    pick: (i) => pick(document, i % 2 ? '^1' : `<=2.${i}`, { avoid: `>=2.${i}` }),
     minVersion: (i) => semver.minVersion(text(i)),
     'Range.set': (i) => new semver.Range(text(i)).set,
     'subset and intersects': (i) => [semver.subset(text(i), '>=1'), semver.intersects(text(i), '>1')],

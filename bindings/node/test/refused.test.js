@@ -4,36 +4,15 @@
 'use strict';
 
 const assert = require('node:assert');
-const { spawnSync } = require('node:child_process');
 const fs = require('node:fs');
-const os = require('node:os');
 const path = require('node:path');
 const { test } = require('node:test');
-const { setImmediate: turn } = require('node:timers/promises');
+const { build, outcome, root, testEach } = require('./refused/refuse.js');
 
-const root = path.join(__dirname, '..');
-const room = fs.mkdtempSync(path.join(os.tmpdir(), 'refused-'));
-process.once('exit', () => fs.rmSync(room, { recursive: true }));
-
-// The package in a folder of its own, with that native part.
-function build() {
-    for (const name of ['index.js', 'internal']) {
-        fs.cpSync(path.join(root, name), path.join(room, name), { recursive: true });
-    }
-    fs.mkdirSync(path.join(room, 'build/Release'), { recursive: true });
-    const include = path.join(path.dirname(fs.realpathSync(process.execPath)), '../include/node');
-    const sources = fs.readdirSync(path.join(root, 'src')).filter((file) => file.endsWith('.c') && file !== 'module.c');
-    const { status, stderr } = spawnSync('cc', ['-shared', '-fPIC', '-std=c11', '-DNAPI_VERSION=8', `-I${include}`,
-        `-I${path.join(root, 'lib')}`, ...sources.map((file) => path.join(root, 'src', file)),
-        path.join(__dirname, 'refused/refused.c'), path.join(root, 'lib/libnode_semver.a'), '-Wl,--exclude-libs,ALL',
-        ...['malloc', 'calloc', 'realloc', 'free'].map((name) => `-Wl,--wrap=${name}`),
-        '-o', path.join(room, 'build/Release/node_semver.node')], { encoding: 'utf8' });
-    assert.strictEqual(status, 0, stderr);
-}
-
-build();
+const sources = fs.readdirSync(path.join(root, 'src')).filter((file) => file.endsWith('.c') && file !== 'module.c');
+const room = build('module.c', sources, 'node_semver');
 const semver = require(room);
-const { refuse, refusals, makeTable } = require(path.join(room, 'build/Release/node_semver.node'));
+const native = require(path.join(room, 'build/Release/node_semver.node'));
 
 const long = '^1.2.3-alpha.1 || '.repeat(20) + '>=2.0.0-rc.1';
 const ranges = ['>=1.2.3-rc.4.a.b <2.0.0-beta.9+c || 5.x || 7.1.2-x', long].map((text) => new semver.Range(text));
@@ -89,7 +68,7 @@ const calls = {
     intersects: () => semver.intersects(ranges[0], ranges[1]),
     'intersect, many sets': () => semver.intersect(many, many).sets.length,
     'intersect, many sets, printed': () => semver.intersect(many, many).raw,
-    'the table of the ranges that are kept': () => typeof makeTable().first,
+    'the table of the ranges that are kept': () => typeof native.makeTable().first,
 };
 
 function rethrown(error) {
@@ -99,63 +78,15 @@ function rethrown(error) {
     throw error;
 }
 
-// What the call returns, or `undefined` if it says that memory ran out.
-function outcome(call) {
-    try {
-        return call();
-    } catch (error) {
-        assert.strictEqual(error.code, 'ERR_MEMORY_ALLOCATION_FAILED', error.stack);
-        return undefined;
-    }
-}
-
-// The blocks that are left when all objects are freed that nothing uses.
-async function blocks() {
-    for (let i = 0; i < 3; i++) {
-        globalThis.gc();
-        await turn();
-    }
-    return refuse(-1, false);
-}
-
-// Makes the call until no allocation is refused, and returns how many were.
-function refuseEach(call, expected, isOne) {
-    for (let count = 0; ; count++) {
-        refuse(count, isOne);
-        const result = outcome(call);
-        const isRefused = refusals() > 0;
-        refuse(-1, false);
-        assert.ok(result !== undefined || isRefused, `${count} allocations`);
-        if (result !== undefined) {
-            assert.deepStrictEqual(result, expected, `${count} allocations`);
-        }
-        assert.deepStrictEqual(call(), expected, `after ${count} allocations`);
-        if (!isRefused) {
-            return count;
-        }
-    }
-}
-
-let total = 0;
-
-for (const [name, call] of Object.entries(calls)) {
-    test(`${name}: each allocation is refused`, async () => {
-        const expected = call();
-        const before = await blocks();
-        total += refuseEach(call, expected, true) + refuseEach(call, expected, false);
-        assert.strictEqual(await blocks(), before, 'blocks');
-    });
-}
+testEach(native, calls, 600);
 
 test('a range is not kept if memory runs out as it is read', async () => {
     for (let count = 0; count < 3; count++) {
         const text = `>=1.2.3-rc.${count}.a.b <2`;
-        refuse(count, true);
+        native.refuse(count, true);
         outcome(() => semver.satisfies('1.2.3', text));
-        refuse(-1, false);
+        native.refuse(-1, false);
         assert.strictEqual(semver.satisfies('1.2.3', text), true);
         assert.strictEqual(semver.satisfies('2.2.3', text), false);
     }
 });
-
-test('allocations were refused', () => assert.ok(total > 600, `${total} allocations`));

@@ -1,6 +1,7 @@
 // SPDX-License-Identifier: Apache-2.0
 // Uses that compile with the types which users of npm's `semver` have, and uses of what is added.
 import semver = require('..');
+import pick = require('../pick');
 
 const range = new semver.Range('^1', true);
 const versions: string[] = range.set.flat().map(({ semver: { version } }) => version);
@@ -41,3 +42,13 @@ export {
     versions, numbers, texts, isLower, isAny, admits, orders, sorted, greatest, next, found, release, answers, printed,
     words, made, least, key, intervals,
 };
+
+// The version that npm would install.
+const packument = { name: 'one', 'dist-tags': { latest: '1.0.0' }, versions: { '1.0.0': { version: '1.0.0', dist: { size: 7 } } } };
+const size: number = pick(packument, '^1').dist.size;
+const picked = pick(packument, undefined, { before: new Date(0), avoid: null, avoidStrict: true, nodeVersion: null, includeStaged: false });
+const marks: Array<boolean | undefined> = [picked._shouldAvoid, picked._outsideDependencyRange, picked._isSemVerMajor];
+const manifest: pick.Manifest & pick.Marks = pick({ versions: null } as pick.Packument, 'next', { defaultTag: 'next', npmVersion: '9.0.0' });
+function codeOf(error: pick.PickError): string | undefined {
+    return error.code === 'ETARGET' ? error.type : error.code;
+}

@@ -8,7 +8,7 @@ import unittest
 from typing import Callable, Dict, Iterator, List, Tuple
 
 import node_semver
-from node_semver import Range, SemverError, Version, satisfies
+from node_semver import Picked, PickError, Range, SemverError, Version, pick, satisfies
 
 README = os.path.join(os.path.dirname(os.path.dirname(os.path.abspath(__file__))), "README.md")
 
@@ -17,7 +17,8 @@ def documented() -> Iterator[Tuple[str, object]]:
     """The public names and what they stand for, methods and fields too."""
     yield "node_semver", node_semver
     yield "satisfies", satisfies
-    for owner in (Version, Range, SemverError):
+    yield "pick", pick
+    for owner in (Version, Range, SemverError, Picked, PickError):
         yield owner.__name__, owner
     for owner in (Version, Range):
         for name, member in vars(owner).items():

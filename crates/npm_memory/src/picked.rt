@@ -17,6 +17,8 @@ pub(crate) fn picked(
         default_tag: "latest",
         before: None,
         avoid: option(options, "avoid"),
+        avoid_strict: false,
+        include_staged: false,
         node: option(options, "node").and_then(version_of),
         npm: option(options, "npm").and_then(version_of),
     };

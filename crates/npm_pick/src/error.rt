@@ -23,6 +23,12 @@ pub enum PickError {
     /// None of the versions is in the range. npm: `ETARGET`.
     #[error("there is no version in the range")]
     NoneInRange,
+    /// A policy of the registry forbids the version that would be picked. npm: `E403`.
+    #[error("a policy forbids the version")]
+    Forbidden,
+    /// With `avoid_strict`: each version that could be picked is one to avoid. npm: `ETARGET`.
+    #[error("there are only versions to avoid")]
+    Avoided,
     /// An allocation failed.
     #[error("out of memory")]
     Memory,

@@ -6,6 +6,7 @@
 mod asked;
 mod best;
 mod error;
+mod kept;
 mod member;
 mod options;
 mod picked;
@@ -14,6 +15,7 @@ mod rank;
 mod time;
 
 pub use error::PickError;
+pub use kept::keep;
 pub use options::Options;
 pub use picked::{Picked, pick};
 

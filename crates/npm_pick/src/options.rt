@@ -12,6 +12,10 @@ pub struct Options<'o> {
     pub before: Option<Timestamp>,
     /// A range. Its versions are picked only if no other version is left.
     pub avoid: Option<&'o str>,
+    /// A version to avoid is never picked: a version outside the range is picked instead.
+    pub avoid_strict: bool,
+    /// The versions of the member `stagedVersions` can be picked too.
+    pub include_staged: bool,
     /// The version of Node, for `engines`. If it is `None`, any version of Node is fine.
     pub node: Option<VersionRef<'o>>,
     /// The version of npm, for `engines`. If it is `None`, any version of npm is fine.

@@ -25,8 +25,12 @@ pub struct Picked<'v> {
     pub key: &'v str,
     /// What stands for it in `versions`.
     pub manifest: &'v Value,
-    /// It is in the range of the versions to avoid, and no other version was left.
+    /// It is in the range of the versions to avoid, and no other version was left. npm: `_shouldAvoid`.
     pub is_avoided: bool,
+    /// With `avoid_strict`: it was picked in place of a version to avoid. npm: `_outsideDependencyRange`.
+    pub is_outside: bool,
+    /// With `is_outside`: it was picked of all versions, and not of those that `^` admits. npm: `_isSemVerMajor`.
+    pub is_major: bool,
 }
 
 /// Picks the version of a package that npm would install for a version, a tag or a range.

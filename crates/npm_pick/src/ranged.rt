@@ -43,6 +43,8 @@ pub(crate) fn pick_at<'v>(
         key,
         manifest,
         is_avoided: is_key_avoided(&avoid, key),
+        is_outside: false,
+        is_major: false,
     })
 }
 
@@ -107,6 +109,8 @@ fn default_of<'v>(
         key,
         manifest,
         is_avoided: false,
+        is_outside: false,
+        is_major: false,
     }))
 }
 
@@ -160,6 +164,8 @@ fn pick_ranked<'v>(
             key: best.key,
             manifest: best.manifest,
             is_avoided: best.rank.is_avoided,
+            is_outside: false,
+            is_major: false,
         }),
         None if has_some_in_time(asked, versions) => Err(PickError::NoneInRange),
         None => Err(PickError::NoVersions),

@@ -49,6 +49,8 @@ fn answer_of(alloc: Global, case: &Value) -> Result<Picked<'_>, PickError> {
         default_tag: text_of(case, "tag").unwrap_or("latest"),
         before: text_of(case, "before").and_then(time_of),
         avoid: text_of(case, "avoid"),
+        avoid_strict: false,
+        include_staged: false,
         node: text_of(case, "node").and_then(version_of),
         npm: text_of(case, "npm").and_then(version_of),
     };

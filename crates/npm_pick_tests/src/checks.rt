@@ -43,6 +43,8 @@ fn options_of(asks: Asks) -> Options<'static> {
         } else {
             Some(asks.avoid)
         },
+        avoid_strict: false,
+        include_staged: false,
         node: version_of(asks.node),
         npm: version_of(asks.npm),
     }

@@ -3,14 +3,17 @@
  * The native part with two more functions. `refuse(count, isOne)` lets so many allocations through and refuses the next
  * one or all that follow, or none if the count is negative, and returns how many blocks are not yet freed. `refusals()`
  * returns how many were refused since then. The linker's `--wrap` sends the allocations of the package and of the
- * library here.
+ * library here. NATIVE names the native part: `refused.test.js` builds this file with the native part of the package, and
+ * `pick-refused.test.js` with that of `pick.js`.
  */
 #include <node_api.h>
 
 #undef NAPI_MODULE_INIT
 #define NAPI_MODULE_INIT() static napi_value make_exports(napi_env env, napi_value exports)
-#include "../../src/module.c"
+#include NATIVE
 
+#include <stdbool.h>
+#include <stdint.h>
 #include <stdlib.h>
 
 static int64_t left = -1, refused = 0, blocks = 0;
@@ -59,7 +62,8 @@ void __wrap_free(void *block) {
 
 static napi_value refuse(napi_env env, napi_callback_info info) {
     napi_value arguments[2], result = NULL;
-    if (get_arguments(env, info, 2, arguments)) {
+    size_t count = 2;
+    if (napi_get_cb_info(env, info, &count, arguments, NULL, NULL) == napi_ok && count == 2) {
         napi_get_value_int64(env, arguments[0], &left);
         napi_get_value_bool(env, arguments[1], &is_one);
         refused = 0;
@@ -80,7 +84,10 @@ NAPI_MODULE_EXPORT int32_t node_api_module_get_api_version_v1(void) {
 }
 
 NAPI_MODULE_EXPORT napi_value napi_register_module_v1(napi_env env, napi_value exports) {
-    const napi_property_descriptor functions[] = {FUNCTION("refuse", refuse), FUNCTION("refusals", refusals)};
+    const napi_property_descriptor functions[] = {
+        {"refuse", NULL, refuse, NULL, NULL, NULL, napi_default, NULL},
+        {"refusals", NULL, refusals, NULL, NULL, NULL, napi_default, NULL},
+    };
     make_exports(env, exports);
     napi_define_properties(env, exports, 2, functions);
     return exports;

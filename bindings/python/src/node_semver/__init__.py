@@ -1,5 +1,5 @@
 # SPDX-License-Identifier: Apache-2.0
-"""npm's versions and version ranges: `Version` and `Range`.
+"""npm's versions and version ranges: `Version` and `Range`; and the version that npm would install: `pick`.
 
 >>> wanted = Range('^1.2.3-rc.4 || >=3')
 >>> '1.9.0' in wanted
@@ -12,10 +12,11 @@ True
 
 from ._error import BumpError, BumpFault, FaultKind, SemverError
 from ._native import Range, Version, satisfies
+from ._picking import PickCode, Picked, PickError, PickFault, pick
 from ._types import Bump, Cut, CutKind, Interval, ReleaseType
 
 __all__ = [
-    "Bump", "BumpError", "BumpFault", "Cut", "CutKind", "FaultKind", "Interval", "Range", "ReleaseType", "SemverError",
-    "Version", "satisfies",
+    "Bump", "BumpError", "BumpFault", "Cut", "CutKind", "FaultKind", "Interval", "PickCode", "PickError", "PickFault",
+    "Picked", "Range", "ReleaseType", "SemverError", "Version", "pick", "satisfies",
 ]  # fmt: skip
 __version__ = "1.0.0"

@@ -1,7 +1,7 @@
 # SPDX-License-Identifier: Apache-2.0
-"""setup.py: it links the library of the sources that stand, and not one that was built before they changed.
+"""setup.py: it links the libraries of the sources that stand, and not those that were built before they changed.
 
-It runs setup.py in a copy, beside a C package whose library is a single function with a text in it.
+It runs setup.py in a copy, beside a C package whose libraries are a single function with a text in it.
 """
 
 import os
@@ -17,6 +17,9 @@ PACKAGE = os.path.dirname(os.path.dirname(os.path.dirname(os.path.abspath(__file
 SOURCE = 'const char *node_semver_satisfies_text(void)\n{\n    return "the %s library";\n}\n'
 
 MAKEFILE = """
+all: build/libnode_semver.a
+pick: all
+\tcp build/libnode_semver.a build/libnpm_pick.a
 build/libnode_semver.a: ../../crates/one/source.c
 \tmkdir -p build
 \tcc -fPIC -c -o build/source.o $<
@@ -34,9 +37,10 @@ class Setup(unittest.TestCase):
         self.source = os.path.join(room.name, "crates", "one", "source.c")
         skipped = shutil.ignore_patterns("build", "tests", "__pycache__", "*.egg-info")
         shutil.copytree(PACKAGE, self.python, ignore=skipped)
-        header = os.path.join("include", "node_semver.h")
         os.makedirs(os.path.join(self.c, "include"))
-        shutil.copy(os.path.join(os.path.dirname(PACKAGE), "c", header), os.path.join(self.c, header))
+        for name in ("node_semver.h", "npm_pick.h"):
+            header = os.path.join("include", name)
+            shutil.copy(os.path.join(os.path.dirname(PACKAGE), "c", header), os.path.join(self.c, header))
         os.makedirs(os.path.dirname(self.source))
         self.write(os.path.join(self.c, "Makefile"), MAKEFILE)
 

@@ -6,7 +6,7 @@ import functools
 from typing import List, Optional, Tuple, Union
 
 from node_semver import Bump, BumpError, BumpFault, Cut, CutKind, FaultKind, Interval, Range, ReleaseType, SemverError
-from node_semver import Version, satisfies
+from node_semver import PickCode, Picked, PickError, PickFault, Version, pick, satisfies
 
 version: Version = Version("1.2.3-rc.4")
 strict: Version = Version("1.2.3-rc.4", strict=True)
@@ -66,3 +66,10 @@ try:
     version.bump("pre", base=None)
 except BumpError as error:
     why: BumpFault = error.kind
+
+picked: Picked = pick({"versions": {"1.0.0": {}}}, "^1", avoid="1.1", node="20.0.0", avoid_strict=True)
+parts: Tuple[str, bool, bool, bool] = (picked.version, picked.is_avoided, picked.is_outside, picked.is_major)
+try:
+    pick(b"{}", "next", before="2020-01-01T00:00:00Z", default_tag="next", npm=None, include_staged=False)
+except PickError as none:
+    cause: Tuple[PickFault, PickCode, str] = (none.kind, none.code, none.wanted)

@@ -1,0 +1,120 @@
+// SPDX-License-Identifier: Apache-2.0
+// The key of the version that is picked. The library picks it, of a document that has what counts for it.
+'use strict';
+
+const { valid } = require('../versions.js');
+const { documentText, textOfTime } = require('./document.js');
+const { keysOf, own } = require('./members.js');
+const native = require('./native.js');
+
+// What a call of the library returns, as `npm_pick.h` has it.
+const STATUS = {
+    OK: 0, INVALID_WANTED: 1, NO_TAG: 2, NO_VERSION: 3, NO_VERSIONS: 4, NONE_IN_RANGE: 5, FORBIDDEN: 6, ONLY_AVOIDED: 7,
+};
+
+const ZERO = 48;
+// A text that is a tag, if it is anything: no version and no range begins with such a letter.
+const TAG = /^[a-uwyz][\w.~-]*$/i;
+
+// ---- the question ----
+
+// The versions of engines, of which npm passes the same again and again.
+const read = new Map();
+const MOST_READ = 16;
+
+// The version of an engine: undefined if it is not known, null if the text is no version.
+function engineVersion(version) {
+    if (!version) {
+        return undefined;
+    }
+    if (!read.has(version)) {
+        if (read.size >= MOST_READ) {
+            read.clear();
+        }
+        read.set(version, valid(version));
+    }
+    return read.get(version);
+}
+
+// The tags that count, with the keys that they name.
+function tagsOf(tags, names) {
+    const found = new Map();
+    for (const name of names) {
+        const key = own(tags, name);
+        if (typeof key === 'string') {
+            found.set(name, key);
+        }
+    }
+    return found;
+}
+
+// All that is asked, as the library reads it.
+function questionOf({ packument, wanted, options, staged, restricted }) {
+    const { time: times, versions } = packument;
+    const defaultTag = String(options.defaultTag);
+    const text = wanted || '';
+    return {
+        text,
+        defaultTag,
+        versions,
+        staged,
+        restricted,
+        times,
+        tags: tagsOf(packument['dist-tags'], [defaultTag, text]),
+        before: options.before && times ? +new Date(options.before) : null,
+        avoid: options.avoid ? String(options.avoid) : '',
+        known: { node: engineVersion(options.nodeVersion), npm: engineVersion(options.npmVersion) },
+        avoidStrict: Boolean(options.avoidStrict),
+        includeStaged: Boolean(options.includeStaged),
+    };
+}
+
+// ---- the answer ----
+
+const timeOf = (before) => (before === null || Number.isNaN(before) ? '' : textOfTime(before));
+
+// An engine whose text is no version is asked for as 0.0.0, which nothing fits in such a document.
+const engineOf = (version) => (version === null ? '0.0.0' : version || '');
+
+// Asks the library for the version of these keys, and maybe one more.
+function ask(question, keys, more = '') {
+    const { text, defaultTag, avoid, before, known, avoidStrict, includeStaged } = question;
+    const answer = native.pick(documentText(question, keys, more), text, defaultTag, avoid, timeOf(before),
+        engineOf(known.node), engineOf(known.npm), avoidStrict, includeStaged);
+    return typeof answer === 'number' ? { status: answer, key: '', marks: 0 }
+        : { status: STATUS.OK, key: answer.slice(1), marks: answer.charCodeAt(0) - ZERO };
+}
+
+// The keys of a few versions in each of the objects.
+function few({ versions, staged, restricted }, keys) {
+    const among = (object) => keys.filter((key) => own(object, key));
+    return { versions: among(versions), staged: among(staged), restricted: among(restricted) };
+}
+
+// A version that compares as another does, and of which nothing is said: it is ranked above the other if anything counts
+// against that.
+const twin = (key) => `${key}${key.includes('+') ? '.' : '+'}twin`;
+
+// The answer, if few versions decide it. A version or a tag is asked for by one key; and for a range the default tag's version
+// is picked exactly if nothing counts against it, and so exactly if it is picked beside its twin and has no mark.
+function quickAnswer(question) {
+    const { text, defaultTag, tags } = question;
+    const byDefault = tags.get(defaultTag);
+    const byTag = TAG.test(text) ? tags.get(text) : undefined;
+    const keys = [...new Set([byDefault, byTag, text])].filter((key) => key);
+    if (keys.length === 0) {
+        return null;
+    }
+    const answer = ask(question, few(question, keys), byDefault ? twin(byDefault) : '');
+    return answer.status === STATUS.OK && answer.marks === 0 && keys.includes(answer.key) ? answer : null;
+}
+
+// The status, the key of the version that is picked, and the sum of its marks.
+function keyOf(asked) {
+    const question = questionOf(asked);
+    const { versions, staged, restricted } = question;
+    return quickAnswer(question)
+        ?? ask(question, { versions: keysOf(versions), staged: keysOf(staged), restricted: keysOf(restricted) });
+}
+
+module.exports = { keyOf, STATUS };

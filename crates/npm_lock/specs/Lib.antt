@@ -11,6 +11,7 @@ pub mod Asked  -- what a package depends on
 pub mod Overrides  -- which dependencies `overrides` change
 pub mod Workspaces  -- which folders are workspaces of the root
 pub mod RangeText  -- which specs are ranges
+pub mod RegistrySpec  -- what a dependency asks a registry for
 pub mod InstalledVersions  -- what the version of an installed package is read as
 pub mod Verdict  -- whether a version is what a spec asks for
 pub mod Outcomes  -- what is wrong with a dependency, and with the version of Node
@@ -18,6 +19,7 @@ pub mod Outcomes  -- what is wrong with a dependency, and with the version of No
 pub mod Findings  -- all problems of a lock file in their order, and the counts
 pub mod ProblemJson  -- a problem as a JSON object
 pub mod Dependents  -- by which texts an installed package is asked for
+pub mod Edges  -- the dependencies of all packages, and what is installed for each
 pub mod Faults  -- which values are no lock file
 pub mod VersionOne  -- lock files of version 1, and the `packages` that they stand for
 -- ---- a manifest beside the lock file

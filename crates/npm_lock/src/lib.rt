@@ -4,6 +4,7 @@
 mod any_version;
 mod asked;
 mod dependents;
+mod edges;
 mod fault;
 mod folder;
 mod group;
@@ -19,6 +20,7 @@ mod overrides;
 mod place;
 mod problem;
 mod range_text;
+mod registry;
 mod search;
 mod text;
 mod verdict;
@@ -28,6 +30,7 @@ mod workspace;
 
 pub use any_version::{check_any, convert};
 pub use dependents::Dependents;
+pub use edges::{Edge, edges_of};
 pub use fault::{CheckError, Fault};
 pub use group::Group;
 pub use installed::installed_version;
@@ -37,6 +40,7 @@ pub use manifest::mismatches_of;
 pub use manifest_place::put_manifest;
 pub use mismatch::Mismatch;
 pub use problem::{Dependency, Kind, Problem, Problems, Reason, Unchecked};
+pub use registry::{RegistrySpec, registry_spec};
 
 /// The result of what fails by memory alone, if no other error is named.
 type Result<T, E = std::alloc::AllocError> = std::result::Result<T, E>;

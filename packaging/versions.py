@@ -12,6 +12,7 @@ PLACES = (
     ("bindings/python/src/node_semver/__init__.py", r'^__version__ = "([^"]*)"'),
     ("bindings/node/package.json", r'^  "version": "([^"]*)"'),
     ("crates/npm_lock_check/src/help.rt", r'"npm_lock_check ([^"\\]*)\\n"'),
+    ("crates/npm_pick_command/src/help.rt", r'"npm_pick ([^"\\]*)\\n"'),
     ("README.md", r"denimscree-semver-([0-9][0-9.]*)\.tgz"),
 )
 

@@ -260,6 +260,8 @@ def audit_rows():
     packages = at_root("1.0.0", dependencies={"d": "^1"})
     lock = lock_of({}, {**packages, "node_modules/d": {"version": "1.0.0"}})
     yield "Dependents::of_lock", [text_of(lock), "", "node_modules/d"], "^1\t" * MANY
+    found = "".join(f"node_modules/{name}>d ^1 node_modules/d 1.0.0\t" for name in sorted(NAMES))
+    yield "npm_lock::edges_of", [text_of(lock)], found
 
 
 def pick_rows():

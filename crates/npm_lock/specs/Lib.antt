@@ -15,6 +15,7 @@ pub mod Outcomes  -- what is wrong with a dependency, and with the version of No
 pub mod Findings  -- all problems of a lock file in their order, and the counts
 pub mod ProblemJson  -- a problem as a JSON object
 pub mod Dependents  -- by which texts an installed package is asked for
+pub mod Edges  -- the dependencies of all packages, and what is installed for each
 pub mod Faults  -- which values are no lock file
 pub mod LinkedFolders  -- the folders of packages that links name
 -- ---- not part of any public contract: what private functions compute

@@ -3,6 +3,7 @@
 
 mod asked;
 mod dependents;
+mod edges;
 mod fault;
 mod folder;
 mod index;
@@ -17,6 +18,7 @@ mod verdict;
 mod workspace;
 
 pub use dependents::Dependents;
+pub use edges::{Edge, edges_of};
 pub use fault::{CheckError, Fault, check_package, check_specs, has_text_version};
 pub use linked::linked_folders;
 pub use lock_file::check;

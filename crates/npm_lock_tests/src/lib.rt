@@ -7,6 +7,8 @@ mod check;
 #[cfg(test)]
 mod checks;
 #[cfg(test)]
+mod edges;
+#[cfg(test)]
 mod folders;
 #[cfg(test)]
 mod installed;

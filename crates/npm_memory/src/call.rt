@@ -1,7 +1,9 @@
 //! Calls and their arguments.
 use crate::answer;
 use crate::answer::Answer;
-use crate::list::{text_of_found, text_of_mismatches, text_of_problems, text_of_texts};
+use crate::list::{
+    text_of_edges, text_of_found, text_of_mismatches, text_of_problems, text_of_texts,
+};
 use crate::picked::picked;
 use memory_trials::{CallError, Trial};
 use node_semver::Version;
@@ -34,6 +36,8 @@ enum Name {
     Folders,
     /// The texts by which the package in the folder of the text is asked for.
     Dependents,
+    /// The dependencies of all packages.
+    Edges,
     /// From the severity of the text on.
     Audit,
     /// For the text, with the options of the second value.
@@ -69,6 +73,7 @@ impl Trial for Call {
             Name::Put => answer::json(with_manifest(alloc, first, second, text)),
             Name::Folders => folders(alloc, first),
             Name::Dependents => dependents(alloc, first, text),
+            Name::Edges => edges(alloc, first),
             Name::Audit => audited(alloc, first, second, text),
             Name::Pick => picked(alloc, first, second, text),
         }
@@ -98,6 +103,7 @@ fn name_of(name: &str) -> Option<Name> {
         "npm_manifests::put_manifest" => Name::Put,
         "npm_lock::linked_folders" => Name::Folders,
         "Dependents::of_lock" => Name::Dependents,
+        "npm_lock::edges_of" => Name::Edges,
         "npm_advisories::audit_lock" => Name::Audit,
         "npm_pick::pick" => Name::Pick,
         _ => return None,
@@ -214,6 +220,13 @@ fn dependents(alloc: Global, lock: &Value, folder: &str) -> Answer {
             Some(texts) => answer::list(text_of_texts(alloc, texts)),
             None => Answer::Nothing,
         },
+        Err(error) => answer::refused(error),
+    }
+}
+
+fn edges(alloc: Global, lock: &Value) -> Answer {
+    match npm_lock::edges_of(alloc, lock) {
+        Ok(edges) => answer::list(text_of_edges(alloc, &edges)),
         Err(error) => answer::refused(error),
     }
 }

@@ -1,6 +1,6 @@
 //! Texts of lists, each member with a tab after it. They are made within a call, so that no list outlives what it borrows.
 use npm_advisories::Found;
-use npm_lock::{Problem, Problems, Unchecked};
+use npm_lock::{Edge, Problem, Problems, Unchecked};
 use npm_manifests::Mismatch;
 use serde_json::Value;
 use std::alloc::{AllocError, Global};
@@ -46,6 +46,18 @@ pub(crate) fn text_of_found(alloc: Global, list: &[Found<'_, '_>]) -> Result<Str
     for found in list {
         let json = found.to_json(alloc)?;
         push_json(alloc, &mut text, &json)?;
+    }
+    Ok(text)
+}
+
+/// The folders and the versions that are found, by the names.
+pub(crate) fn text_of_edges(alloc: Global, list: &[Edge<'_>]) -> Result<String, AllocError> {
+    let mut text = String::new(alloc);
+    for edge in list {
+        let (from, name, spec) = (edge.from, edge.name, edge.spec);
+        let (to, version) = (edge.to.unwrap_or("-"), edge.version.unwrap_or("-"));
+        let print = format!(in alloc; "{from}>{name} {spec} {to} {version}\t")?;
+        text.push_str(print.as_str())?;
     }
     Ok(text)
 }

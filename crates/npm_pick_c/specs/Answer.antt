@@ -3,7 +3,7 @@ use Rattle.std.specs.Prelude.{◌≡◌, ◌≢◌, ◌⊎◌, ◌++◌, ◌<◌
 use Rattle.std.specs.Prelude.{IsUtf8, drop, length}
 use Rattle.serde_json.specs.Data.{Data}
 use Rattle.serde_json.specs.Read.{read}
-use Rattle.npm_lock.specs.RangeText.{filled}
+use Rattle.npm_texts.specs.RangeText.{filled}
 use Rattle.npm_pick.specs.Pick.{IsPicked, PickedValue}
 use Rattle.npm_pick.specs.declared.error.PickError.{PickError}
 use Rattle.npm_pick.specs.declared.error.PickError.TheVariants.{Wanted, NoTag, NoVersion, NoVersions, NoneInRange}

@@ -4,6 +4,7 @@ pub mod Texts  -- a text without its start or its end
 pub mod WhiteSpace  -- white space at the ends of a text
 pub mod InstalledVersions  -- what the version of an installed package is read as
 pub mod RangeText  -- which specs are ranges
+pub mod RegistrySpec  -- what a dependency asks a registry for
 pub mod Admission  -- which versions the text of a range admits
 pub mod Truth  -- what counts as true
 pub mod ObjectKeys  -- the names of an object's members

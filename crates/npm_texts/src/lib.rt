@@ -8,6 +8,7 @@
 mod copy;
 mod installed;
 mod range;
+mod registry;
 mod spec;
 mod text;
 mod truth;
@@ -16,6 +17,7 @@ mod white;
 pub use copy::{copied, put_text};
 pub use installed::installed_version;
 pub use range::{OF_DEPENDENCIES, OF_ENGINES, range_of};
+pub use registry::{RegistrySpec, registry_spec};
 pub use spec::{Spec, aliased_name, filled, is_tag, spec_of};
 pub use text::{ends_with, rest_after, without_end};
 pub use truth::{has_true, is_true};

@@ -1,5 +1,5 @@
 //! What npm reads a spec as.
-ghost use Rattle.std.specs.Prelude.{◌≡◌, ◌<◌, ◌∷◌, option_map};
+ghost use Rattle.std.specs.Prelude.{◌≡◌, ◌<◌, ◌∷◌, is_some, option_map};
 ghost use Rattle.std.specs.Char.{is_ascii_alphabetic};
 ghost use Rattle.std.specs.List.{before_first, list_all, list_any};
 ghost use Rattle.npm_texts.specs.RangeText as RangeText;
@@ -55,6 +55,13 @@ pub fn filled(text: &str) -> &str
     ensures { result.now ≡ RangeText.filled text.now }
 {
     if text.is_empty() { "*" } else { text }
+}
+
+/// Returns `true` if the spec is an alias.
+pub(crate) fn is_alias(spec: &str) -> bool
+    ensures { result ≡ is_some (RangeText.alias_of spec.now) }
+{
+    alias_of(spec).is_some()
 }
 
 /// Returns the text after `npm:`, with letters of either case.

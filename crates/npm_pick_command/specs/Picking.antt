@@ -1,0 +1,43 @@
+-- What the arguments say of the version that is picked.
+use Rattle.std.specs.Prelude.{◌≡◌, ℕ, List, Option, Some, None, codes, option_map, string_bytes, unwrap_or}
+use Rattle.jiff_core.specs.declared.timestamp.Timestamp.{Timestamp}
+use Rattle.node_semver.specs.Versions.{IsVersionText, VersionValue}
+use Rattle.npm_pick.specs.declared.options.Options.{Options}
+use Rattle.npm_pick_command.specs.Arguments.{ArgumentsValue}
+use Rattle.npm_pick_command.specs.Given.{IsVersionGiven, instant_of, time_given}
+use Rattle.npm_pick_command.specs.declared.picking.Values.{Values}
+
+-- the time of a text, if there is a text
+abbrev pub IsTime : (text : Option (List ℕ)) → Option Timestamp → Type 0
+IsTime None time = time ≡ None
+IsTime (Some text) time = (t : Timestamp) × (time ≡ Some t) × (time_given text ≡ Some t.nanosecond)
+
+-- the whole text of the version that a text names, if there is a text
+abbrev pub IsWhole : (text : Option (List ℕ)) → (whole : Option (List ℕ)) → Type 0
+IsWhole None whole = whole ≡ None
+IsWhole (Some text) whole = (t : List ℕ) × (whole ≡ Some t) × IsVersionGiven text whole
+
+-- the version of a whole text, if there is one
+abbrev pub IsVersionOf : (whole : Option (List ℕ)) → Option VersionValue → Type 0
+IsVersionOf None version = version ≡ None
+IsVersionOf (Some whole) version = (v : VersionValue) → IsVersionText whole v → version ≡ Some v
+
+-- the version that a text names, if there is a text
+abbrev pub IsNamed : (text : Option (List ℕ)) → Option VersionValue → Type 0
+IsNamed text version = (whole : Option (List ℕ)) × IsWhole text whole × IsVersionOf whole version
+
+-- the times and versions of these arguments
+pub record AreValues (asked : ArgumentsValue) (values : Values) : Type 0 where
+  pub before : IsTime asked.before values.before
+  pub node : IsWhole asked.node (option_map string_bytes values.node)
+  pub npm : IsWhole asked.npm (option_map string_bytes values.npm)
+
+-- What is asked of `npm_pick`: each option as the arguments have it. The tag is `latest` if none is named.
+pub record AreOptions (asked : ArgumentsValue) (options : Options) : Type 0 where
+  pub tag : options.default_tag.now ≡ unwrap_or asked.tag (codes "latest")
+  pub before : IsTime asked.before options.before
+  pub avoid : option_map (λ text. text.now) options.avoid ≡ asked.avoid
+  pub avoid_strict : options.avoid_strict ≡ asked.avoid_strict
+  pub include_staged : options.include_staged ≡ asked.include_staged
+  pub node : IsNamed asked.node options.node
+  pub npm : IsNamed asked.npm options.npm

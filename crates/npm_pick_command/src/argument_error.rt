@@ -1,0 +1,44 @@
+//! What is wrong with the arguments.
+use crate::shown::Quoted;
+use thiserror::Error;
+
+/// What is wrong with the arguments, with the word that it is about.
+#[derive(Clone, Copy, Debug, Drop, Error)]
+pub enum ArgumentError<'a> {
+    /// More words than are read.
+    #[error("more than 1000 arguments; --help lists the options")]
+    TooMany,
+    /// An option that is not known.
+    #[error("no such option: {0}; --help lists the options")]
+    UnknownOption(Quoted<'a>),
+    /// A second word that is no option.
+    #[error("more than one SPEC: {0} is the second; --help shows what is read")]
+    SecondSpec(Quoted<'a>),
+    /// An option that has a value is the last word.
+    #[error("{0} has no value; --help lists the options")]
+    NoValue(Quoted<'a>),
+    /// The value of `--format` is no format.
+    #[error("--format takes text or json, and not {0}; --help lists the options")]
+    Format(Quoted<'a>),
+    /// No packument is named.
+    #[error("--packument FILE is missing; --help lists the options")]
+    NoPackument,
+    /// No folder of packuments is named.
+    #[error("--packuments FOLDER is missing, which --outdated takes; --help lists the options")]
+    NoPackuments,
+    /// No lock file is named.
+    #[error("--lock FILE is missing, which --outdated takes; --help lists the options")]
+    NoLock,
+    /// A version, a tag or a range where none is asked for.
+    #[error("--outdated takes no SPEC, and not {0}; --help shows what is read")]
+    NoSpec(Quoted<'a>),
+    /// The value of `--before` is no time.
+    #[error("--before takes a time, as 2024-03-01 or 2024-03-01T12:00:00Z, and not {0}; --help lists the options")]
+    Time(Quoted<'a>),
+    /// The value of `--node` is no version.
+    #[error("--node takes a version, as 20 or 20.11.1, and not {0}; --help lists the options")]
+    NodeVersion(Quoted<'a>),
+    /// The value of `--npm` is no version.
+    #[error("--npm takes a version, as 10 or 10.8.2, and not {0}; --help lists the options")]
+    NpmVersion(Quoted<'a>),
+}

@@ -1,0 +1,66 @@
+//! The times and versions that arguments name.
+ghost use Rattle.std.specs.Prelude.{◌≡◌, ◌↔◌, ◌++◌, IfOk, IsTrue, MatchOption, option_map, string_bytes};
+ghost use Rattle.npm_pick_command.specs.Given as Given;
+ghost use Rattle.npm_pick_command.specs.Given.{IsSomeVersion, IsVersionGiven, instant_of, instant_text};
+
+use jiff::Timestamp;
+use node_semver::VersionRef;
+use std::alloc::{AllocError, Global};
+
+/// Returns the text of a version whose last numbers may be left out: `20.0.0` for `20`, and `v20.11.0` for `v20.11`. `None`: the
+/// text is no such version.
+pub fn version_given(alloc: Global, text: &str) -> Result<Option<String>, AllocError>
+    ensures { IfOk result (λ whole. IsVersionGiven text.now (option_map string_bytes whole)) }
+{
+    if let Some(whole) = version_with(alloc, text, "")? {
+        return Ok(Some(whole));
+    }
+    if let Some(whole) = version_with(alloc, text, ".0")? {
+        return Ok(Some(whole));
+    }
+    Ok(version_with(alloc, text, ".0.0")?)
+}
+
+/// The text with these numbers after it, if that is a version.
+fn version_with(alloc: Global, text: &str, zeros: &str) -> Result<Option<String>, AllocError>
+    ensures { IfOk result (λ whole. MatchOption whole (¬ IsSomeVersion (text.now ++ zeros.now))
+        (λ whole. (string_bytes whole ≡ text.now ++ zeros.now) × IsSomeVersion (text.now ++ zeros.now))) }
+{
+    let mut whole = String::from_str(alloc, text)?;
+    whole.push_str(zeros)?;
+    if is_version(whole.as_str()) {
+        Ok(Some(whole))
+    } else {
+        Ok(None)
+    }
+}
+
+/// Returns `true` if the text is a version.
+fn is_version(text: &str) -> bool
+    ensures { IsTrue result ↔ IsSomeVersion text.now }
+{
+    VersionRef::parse(text).is_ok()
+}
+
+/// Returns the instant of a text, in which the time of the day may be left out: `2024-03-01` is the beginning of that day in UTC.
+/// `None`: the text is no such time.
+pub fn time_given(alloc: Global, text: &str) -> Result<Option<Timestamp>, AllocError>
+    ensures { IfOk result (λ time. instant_of time ≡ Given.time_given text.now) }
+{
+    if let Some(time) = time_of(text) {
+        return Ok(Some(time));
+    }
+    let mut whole = String::from_str(alloc, text)?;
+    whole.push_str("T00:00:00Z")?;
+    Ok(time_of(whole.as_str()))
+}
+
+/// The instant of a text with a time of the day.
+fn time_of(text: &str) -> Option<Timestamp>
+    ensures { instant_of result ≡ instant_text text.now }
+{
+    match text.parse::<Timestamp>() {
+        Ok(time) => Some(time),
+        Err(_) => None,
+    }
+}

@@ -1,0 +1,171 @@
+//! Writes the version of a package that npm would install, from the document of a registry: npm's `npm-pick-manifest`. With
+//! `--outdated` the dependencies of a lock file that are outdated: npm's `npm outdated`.
+//!
+//! The exit status is 0 if a version is picked or nothing is outdated, 1 if none is picked or something is outdated, and 2 if
+//! nothing was asked: a wrong argument, or a file that is not read. What is not picked or not asked has a line on standard error.
+#![tactic(auto)]
+
+ghost use Rattle.std.specs.Prelude.{◌≡◌, IfErr, None, Ok, Some, false, true};
+ghost use Rattle.npm_pick_command.specs.Status.{status_of_ending};
+ghost use Rattle.npm_pick_command.specs.declared.reply.Ending.{Ending};
+
+mod argument_error;
+mod arguments;
+mod given;
+mod help;
+mod input;
+mod input_error;
+mod load_error;
+mod name;
+mod outdated;
+mod outdated_lines;
+mod packument_file;
+mod picked_line;
+mod picking;
+mod program_error;
+mod reply;
+mod run_error;
+mod shown;
+mod task;
+mod words;
+
+use arguments::{Arguments, read_arguments};
+use help::{HELP, VERSION};
+use input::read_json;
+use input_error::{InputError, open_error};
+use name::Shown;
+use npm_pick::Options;
+use packument_file::packument_in;
+use picking::Values;
+use program_error::ProgramError;
+use reply::{Ending, Question, run};
+use run_error::RunError;
+use serde_json::Value;
+use shown::Quoted;
+use std::fs::File;
+use std::process::ExitCode;
+use task::{Task, task_of};
+use words::words_of;
+
+/// Ends with the status of `status_of`.
+fn main(rt: HostRuntime) -> ExitCode {
+    let words = words_of(rt.alloc(), &rt);
+    let outcome = match &words {
+        Ok(words) => answered(&rt, words),
+        Err(error) => Err(ProgramError::Words(error)),
+    };
+    let said = match &outcome {
+        Ok(None | Some(Ending::Picked | Ending::Compared(_, 0))) => Ok(()),
+        Ok(Some(Ending::Compared(_, absent))) => {
+            eprintln!(rt; "npm_pick: {absent} dependencies have no document in the folder")
+        }
+        Ok(Some(Ending::Nothing(error))) => eprintln!(rt; "npm_pick: {error}"),
+        Err(error) => eprintln!(rt; "npm_pick: {error}"),
+    };
+    ExitCode::from(status_of(&outcome, said.is_ok()))
+}
+
+/// Does what the arguments ask for. Returns how the program ends, or `None` if a text was shown in place of an answer.
+fn answered<'a>(rt: &HostRuntime, words: &'a [String]) -> Result<Option<Ending>, ProgramError<'a>> {
+    let asked = read_arguments(words)?;
+    if let Some(shown) = asked.shown {
+        show(rt, shown)?;
+        return Ok(None);
+    }
+    let task = task_of(&asked)?;
+    let values = Values::of_arguments(rt.alloc(), asked)?;
+    let ending = done(rt, task, asked, &values.options(asked))?;
+    Ok(Some(ending))
+}
+
+/// Writes a text about the program.
+fn show(rt: &HostRuntime, shown: Shown) -> Result<(), RunError> {
+    let text = match shown {
+        Shown::Help => HELP,
+        Shown::Version => VERSION,
+    };
+    print!(rt; "{text}").map_err(|_| RunError::Write)
+}
+
+/// Reads the files of a task, and answers it.
+fn done<'a>(
+    rt: &HostRuntime,
+    task: Task<'a>,
+    asked: Arguments<'a>,
+    options: &Options<'_>,
+) -> Result<Ending, ProgramError<'a>> {
+    match task {
+        Task::Pick { packument, wanted } => {
+            let value = value_at(rt, "--packument", packument)?;
+            replied(rt, Question::Pick(&value, wanted), asked, options, "")
+        }
+        Task::Outdated { packuments, lock } => {
+            let value = value_at(rt, "--lock", lock)?;
+            replied(
+                rt,
+                Question::Outdated(&value, asked.all),
+                asked,
+                options,
+                packuments,
+            )
+        }
+    }
+}
+
+/// Answers a question. Documents of packages are in this folder.
+fn replied<'a>(
+    rt: &HostRuntime,
+    question: Question<'_>,
+    asked: Arguments<'a>,
+    options: &Options<'_>,
+    folder: &str,
+) -> Result<Ending, ProgramError<'a>> {
+    let load = |name: &str| packument_in(rt, folder, name);
+    let ending = run(
+        rt.alloc(),
+        question,
+        options,
+        asked.format,
+        load,
+        &mut rt.stdout(),
+    )?;
+    Ok(ending)
+}
+
+/// Reads the JSON value of the file after an option; `-` is standard input.
+fn value_at<'a>(
+    rt: &HostRuntime,
+    option: &'static str,
+    path: &'a str,
+) -> Result<Value, ProgramError<'a>> {
+    match read_at(rt, path) {
+        Ok(value) => Ok(value),
+        Err(error) => Err(ProgramError::File(option, Quoted { text: path }, error)),
+    }
+}
+
+/// Reads the JSON value of a file.
+fn read_at(rt: &HostRuntime, path: &str) -> Result<Value, InputError> {
+    if path == "-" {
+        return read_json(rt.alloc(), &mut rt.stdin());
+    }
+    let mut file = File::open(rt, path).map_err(open_error)?;
+    read_json(rt.alloc(), &mut file)
+}
+
+/// Returns the exit status: 0 if a version is picked, nothing is outdated or a text was shown, 1 if no version is picked or
+/// something is outdated, and 2 after an error, or if the line on standard error was not written.
+fn status_of(outcome: &Result<Option<Ending>, ProgramError<'_>>, is_said: bool) -> u8
+    ensures shown { outcome.now ≡ Ok None → is_said ≡ true → result ≡ 0 }
+    ensures ended { (ending : Ending) → outcome.now ≡ Ok (Some ending) → is_said ≡ true
+        → result ≡ status_of_ending ending }
+    ensures stopped { IfErr outcome.now (λ _. result ≡ 2) }
+    ensures unsaid { is_said ≡ false → result ≡ 2 }
+{
+    match outcome {
+        Err(_) => 2,
+        Ok(_) if !is_said => 2,
+        Ok(Some(Ending::Nothing(_) | Ending::Compared(true, _))) => 1,
+        Ok(None | Some(Ending::Picked | Ending::Compared(false, _))) => 0,
+    }
+}

@@ -1,0 +1,128 @@
+//! The lines of outdated dependencies.
+ghost use Rattle.std.specs.Prelude.{◌≡◌, ◌++◌, IfOk, OnOk, map, option_map};
+ghost use Rattle.serde_json.specs.View.{view};
+ghost use Rattle.npm_pick_command.specs.OutdatedLines as Lines;
+ghost use Rattle.npm_pick_command.specs.Outdated.{outcome_value, row_value};
+
+use crate::arguments::Format;
+use crate::outdated::{Outcome, Row};
+use crate::shown::push_shown;
+use serde_json::{Map, Value, put};
+use std::alloc::{AllocError, Global};
+
+/// Returns a line for each dependency that is outdated.
+pub fn outdated_lines(
+    alloc: Global,
+    outcomes: &[Outcome<'_>],
+    format: Format,
+) -> Result<Vec<u8>, AllocError>
+    ensures { IfOk result (λ lines. lines.items ≡ Lines.outcome_lines format (map outcome_value outcomes.now)) }
+{
+    let mut lines = Vec::new(alloc);
+    for outcome in outcomes {
+        push_outcome(alloc, &mut lines, outcome, format)?;
+    }
+    Ok(lines)
+}
+
+/// Adds the line of what was found out, if it has one.
+fn push_outcome(
+    alloc: Global,
+    lines: &mut Vec<u8>,
+    outcome: &Outcome<'_>,
+    format: Format,
+) -> Result<(), AllocError>
+    ensures { OnOk result (lines.new.items
+        ≡ lines.old.items ++ Lines.outcome_line format (outcome_value outcome.now)) }
+{
+    match outcome {
+        Outcome::Outdated(row) => push_row(alloc, lines, row, format),
+        Outcome::Absent | Outcome::Passed => Ok(()),
+    }
+}
+
+/// Adds the line of a dependency that is outdated.
+fn push_row(
+    alloc: Global,
+    lines: &mut Vec<u8>,
+    row: &Row<'_>,
+    format: Format,
+) -> Result<(), AllocError>
+    ensures { OnOk result (lines.new.items ≡ lines.old.items ++ Lines.row_line format (row_value row.now)) }
+{
+    match format {
+        Format::Text => push_words(lines, row)?,
+        Format::Json => {
+            let text = row_json(alloc, row)?.to_string(alloc)?;
+            lines.extend_from_slice(text.as_bytes())?;
+        }
+    }
+    lines.extend_from_slice(b"\n")
+}
+
+/// Adds the words of a dependency that is outdated.
+fn push_words(lines: &mut Vec<u8>, row: &Row<'_>) -> Result<(), AllocError>
+    ensures { OnOk result (lines.new.items ≡ lines.old.items ++ Lines.row_words (row_value row.now)) }
+{
+    push_shown(lines, row.edge.name)?;
+    lines.extend_from_slice(b" ")?;
+    push_shown(lines, row.edge.version.unwrap_or("MISSING"))?;
+    lines.extend_from_slice(b" ")?;
+    push_shown(lines, row.wanted.as_str())?;
+    lines.extend_from_slice(b" ")?;
+    push_shown(lines, row.latest.as_str())
+}
+
+/// The JSON object of a dependency that is outdated.
+fn row_json(alloc: Global, row: &Row<'_>) -> Result<Value, AllocError>
+    ensures { IfOk result (λ value. view value ≡ Lines.row_data (row_value row.now)) }
+{
+    let mut members = Map::new(alloc);
+    put(
+        &mut members,
+        alloc,
+        "current",
+        text_or_null(alloc, row.edge.version)?,
+    )?;
+    put(
+        &mut members,
+        alloc,
+        "folder",
+        text_or_null(alloc, row.edge.to)?,
+    )?;
+    put(
+        &mut members,
+        alloc,
+        "from",
+        Value::try_from_str(alloc, row.edge.from)?,
+    )?;
+    put(
+        &mut members,
+        alloc,
+        "latest",
+        Value::try_from_str(alloc, row.latest.as_str())?,
+    )?;
+    put(
+        &mut members,
+        alloc,
+        "name",
+        Value::try_from_str(alloc, row.edge.name)?,
+    )?;
+    put(
+        &mut members,
+        alloc,
+        "wanted",
+        Value::try_from_str(alloc, row.wanted.as_str())?,
+    )?;
+    Ok(Value::Object(members))
+}
+
+/// A text, or `null` if there is none.
+fn text_or_null(alloc: Global, text: Option<&str>) -> Result<Value, AllocError>
+    ensures { IfOk result (λ value. view value ≡ Lines.text_or_null (option_map (λ text. text.now) text.entry)) }
+{
+    match text {
+        Some(text) => Value::try_from_str(alloc, text),
+        None => Ok(Value::Null),
+    }
+}

@@ -1,0 +1,48 @@
+//! The line of the version that is picked.
+ghost use Rattle.std.specs.Prelude.{◌≡◌, ◌++◌, IfOk, OnOk};
+ghost use Rattle.serde_json.specs.Data.{boolean, string};
+ghost use Rattle.serde_json.specs.View.{members_view, view};
+ghost use Rattle.npm_pick.specs.Pick.{picked_value};
+ghost use Rattle.npm_pick_command.specs.PickedLine as Lines;
+
+use crate::arguments::Format;
+use crate::shown::push_shown;
+use npm_pick::Picked;
+use serde_json::{Map, Value, put};
+use std::alloc::{AllocError, Global};
+
+/// Returns the line of a version, with its newline.
+pub fn picked_line(alloc: Global, picked: Picked<'_>, format: Format) -> Result<Vec<u8>, AllocError>
+    ensures { IfOk result (λ line. line.items ≡ Lines.picked_line format (picked_value picked.entry)) }
+{
+    let mut line = Vec::new(alloc);
+    match format {
+        Format::Text => push_shown(&mut line, picked.key)?,
+        Format::Json => {
+            let text = picked_json(alloc, picked)?.to_string(alloc)?;
+            line.extend_from_slice(text.as_bytes())?;
+        }
+    }
+    line.extend_from_slice(b"\n")?;
+    Ok(line)
+}
+
+/// The JSON object of a version.
+fn picked_json(alloc: Global, picked: Picked<'_>) -> Result<Value, AllocError>
+    ensures { IfOk result (λ value. view value ≡ Lines.picked_data (picked_value picked.entry)) }
+{
+    let mut members = Map::new(alloc);
+    put(
+        &mut members,
+        alloc,
+        "avoided",
+        Value::Bool(picked.is_avoided),
+    )?;
+    put(
+        &mut members,
+        alloc,
+        "version",
+        Value::try_from_str(alloc, picked.key)?,
+    )?;
+    Ok(Value::Object(members))
+}

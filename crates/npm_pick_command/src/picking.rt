@@ -1,0 +1,106 @@
+//! What the arguments say of the version that is picked.
+ghost use Rattle.std.specs.Prelude.{◌≡◌, IfOk, string_bytes, option_map};
+ghost use Rattle.npm_pick_command.specs.Arguments.{arguments_value};
+ghost use Rattle.npm_pick_command.specs.Picking as Picking;
+ghost use Rattle.npm_pick_command.specs.Picking.{AreOptions, AreValues};
+
+use crate::argument_error::ArgumentError;
+use crate::arguments::Arguments;
+use crate::given::{time_given, version_given};
+use crate::program_error::ProgramError;
+use crate::shown::Quoted;
+use jiff::Timestamp;
+use node_semver::VersionRef;
+use npm_pick::Options;
+use std::alloc::Global;
+
+/// The times and versions of the arguments, as they were read.
+#[derive(Drop)]
+pub struct Values {
+    before: Option<Timestamp>,
+    /// The whole text of the version of Node.
+    node: Option<String>,
+    /// The whole text of the version of npm.
+    npm: Option<String>,
+}
+
+impl Values {
+    /// Reads the times and versions that the arguments name.
+    pub fn of_arguments<'a>(alloc: Global, asked: Arguments<'a>) -> Result<Values, ProgramError<'a>>
+        ensures { IfOk result (AreValues (arguments_value asked.entry)) }
+    {
+        Ok(Values {
+            before: before_of(alloc, asked.before)?,
+            node: node_of(alloc, asked.node)?,
+            npm: npm_of(alloc, asked.npm)?,
+        })
+    }
+
+    /// Returns what is asked of `npm_pick`.
+    pub fn options<'o>(&'o self, asked: Arguments<'o>) -> Options<'o>
+        requires { AreValues (arguments_value asked) self.now }
+        ensures { AreOptions (arguments_value asked.entry) result }
+    {
+        Options {
+            default_tag: asked.tag.unwrap_or("latest"),
+            before: self.before,
+            avoid: asked.avoid,
+            avoid_strict: asked.avoid_strict,
+            include_staged: asked.include_staged,
+            node: version_of(&self.node),
+            npm: version_of(&self.npm),
+        }
+    }
+}
+
+/// The time of `--before`.
+fn before_of<'a>(
+    alloc: Global,
+    text: Option<&'a str>,
+) -> Result<Option<Timestamp>, ProgramError<'a>>
+    ensures { IfOk result (Picking.IsTime (option_map (λ text. text.now) text.entry)) }
+{
+    let Some(text) = text else {
+        return Ok(None);
+    };
+    match time_given(alloc, text)? {
+        Some(time) => Ok(Some(time)),
+        None => Err(ProgramError::Argument(ArgumentError::Time(Quoted { text }))),
+    }
+}
+
+/// The version of `--node`.
+fn node_of<'a>(alloc: Global, text: Option<&'a str>) -> Result<Option<String>, ProgramError<'a>>
+    ensures { IfOk result (λ whole. Picking.IsWhole (option_map (λ text. text.now) text.entry)
+        (option_map string_bytes whole)) }
+{
+    let Some(text) = text else {
+        return Ok(None);
+    };
+    match version_given(alloc, text)? {
+        Some(whole) => Ok(Some(whole)),
+        None => Err(ProgramError::Argument(ArgumentError::NodeVersion(Quoted { text }))),
+    }
+}
+
+/// The version of `--npm`.
+fn npm_of<'a>(alloc: Global, text: Option<&'a str>) -> Result<Option<String>, ProgramError<'a>>
+    ensures { IfOk result (λ whole. Picking.IsWhole (option_map (λ text. text.now) text.entry)
+        (option_map string_bytes whole)) }
+{
+    let Some(text) = text else {
+        return Ok(None);
+    };
+    match version_given(alloc, text)? {
+        Some(whole) => Ok(Some(whole)),
+        None => Err(ProgramError::Argument(ArgumentError::NpmVersion(Quoted { text }))),
+    }
+}
+
+/// The version of a text that is one.
+fn version_of(text: &Option<String>) -> Option<VersionRef<'_>>
+    ensures { Picking.IsVersionOf (option_map string_bytes text.now) result }
+{
+    let text = text.as_ref()?;
+    VersionRef::parse(text.as_str()).ok()
+}

@@ -1,0 +1,43 @@
+//! Why the program ends with status 2.
+use crate::argument_error::ArgumentError;
+use crate::input_error::InputError;
+use crate::run_error::RunError;
+use crate::shown::Quoted;
+use crate::words::WordsError;
+use std::alloc::AllocError;
+use thiserror::Error;
+
+/// Why the program ends with status 2.
+#[derive(Debug, Drop, Error)]
+pub enum ProgramError<'a> {
+    /// The arguments were not read.
+    #[error("{0}")]
+    Words(&'a WordsError),
+    /// The arguments ask for nothing that is done here.
+    #[error("{0}")]
+    Argument(ArgumentError<'a>),
+    /// The file after this option was not read.
+    #[error("{0} {1}: {2}")]
+    File(&'static str, Quoted<'a>, InputError),
+    /// Nothing was answered.
+    #[error("{0}")]
+    Run(RunError),
+}
+
+impl<'a> From<ArgumentError<'a>> for ProgramError<'a> {
+    fn from(error: ArgumentError<'a>) -> ProgramError<'a> {
+        ProgramError::Argument(error)
+    }
+}
+
+impl<'a> From<RunError> for ProgramError<'a> {
+    fn from(error: RunError) -> ProgramError<'a> {
+        ProgramError::Run(error)
+    }
+}
+
+impl<'a> From<AllocError> for ProgramError<'a> {
+    fn from(_error: AllocError) -> ProgramError<'a> {
+        ProgramError::Run(RunError::Memory)
+    }
+}

@@ -1,0 +1,27 @@
+-- What a dependency asks a registry for: npm's "package.json", "dependencies", and `npm-package-arg`.
+use Rattle.std.specs.Prelude.{ℕ, List, Option, Some, None, is_some, if◌then◌else◌, option_map}
+use Rattle.npm_texts.specs.RangeText.{SpecValue, alias_of, aliased_name, in_registry, location, refused, spec_of}
+use Rattle.npm_texts.specs.declared.registry.RegistrySpec.{RegistrySpec}
+
+-- a package of a registry, and the version, the range or the tag of it
+pub record RegistrySpecValue : Type 0 where
+  pub name : List ℕ
+  pub text : List ℕ
+
+-- the package: that of the alias, if the spec is one, or else that of the dependency's name
+abbrev pub package_name : (name spec : List ℕ) → Option (List ℕ)
+package_name name spec = if is_some (alias_of spec) then aliased_name spec else Some name
+
+-- this text of a package, if the spec has one
+abbrev pub of_package : (named : Option (List ℕ)) → SpecValue → Option RegistrySpecValue
+of_package named (in_registry text) = option_map (λ name. record { name = name; text = text }) named
+of_package named location = None
+of_package named refused = None
+
+-- What a dependency asks a registry for: `^1` of `a` is the text `^1` of the package `a`, and `npm:b@^1` that of `b`
+abbrev pub registry_spec : (name spec : List ℕ) → Option RegistrySpecValue
+registry_spec name spec = of_package (package_name name spec) (spec_of spec)
+
+-- what a contract sees of it
+abbrev pub registry_spec_value : RegistrySpec → RegistrySpecValue
+registry_spec_value spec = record { name = spec.name.now; text = spec.text.now }

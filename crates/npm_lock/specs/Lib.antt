@@ -25,5 +25,6 @@ pub mod Mismatches  -- where a manifest and the lock file do not ask for the sam
 pub mod MismatchJson  -- such a mismatch as a JSON object
 pub mod ManifestPlace  -- a manifest in the place of a package
 pub mod LinkedFolders  -- the folders of packages that links name
+pub mod FoundWorkspaces  -- a workspace that was found on disk, beside the lock file
 -- ---- not part of any public contract: what private functions compute
 pub mod Private

@@ -6,6 +6,7 @@ mod asked;
 mod dependents;
 mod fault;
 mod folder;
+mod found_workspace;
 mod group;
 mod index;
 mod installed;
@@ -29,6 +30,7 @@ mod workspace;
 pub use any_version::{check_any, convert};
 pub use dependents::Dependents;
 pub use fault::{CheckError, Fault};
+pub use found_workspace::workspace_problem;
 pub use group::Group;
 pub use installed::installed_version;
 pub use linked::linked_folders;
@@ -37,6 +39,7 @@ pub use manifest::mismatches_of;
 pub use manifest_place::put_manifest;
 pub use mismatch::Mismatch;
 pub use problem::{Dependency, Kind, Problem, Problems, Reason, Unchecked};
+pub use workspace::{is_part, workspace_patterns};
 
 /// The result of what fails by memory alone, if no other error is named.
 type Result<T, E = std::alloc::AllocError> = std::result::Result<T, E>;

@@ -69,13 +69,15 @@ const member = () => {
   return made
 }
 
-// A root, perhaps with workspaces in `w` and below `packages`.
+// A root, perhaps with workspaces in `w` and below `packages`. One in four has no name, and then that of its folder.
+const workspace = folder => ({ ...(below(4) ? { name: path.basename(folder) } : {}), version: '1.0.0', ...(below(2) ? member() : {}) })
 const makeProject = () => {
   const project = { '': { name: 'root', version: '1.0.0', ...member() } }
-  if (below(2)) {
-    project[''].workspaces = pick([['w', 'packages/*'], ['/w', './packages/**'], ['packages/*'], { packages: ['packages/**', 'w'] }])
-    for (const folder of ['w', 'packages/one', 'packages/two']) {
-      if (below(2)) project[folder] = { name: path.basename(folder), version: '1.0.0', ...(below(2) ? member() : {}) }
+  if (below(3)) {
+    project[''].workspaces = pick([['w', 'packages/*'], ['/w', './packages/**'], ['packages/*'], { packages: ['packages/**', 'w'] },
+      ['packages/*', '!packages/two'], ['packages/*', 'packages/@s/*'], ['./w', 'packages/@s/inner', 'packages/two']])
+    for (const folder of ['w', 'packages/one', 'packages/two', 'packages/@s/inner']) {
+      if (below(2)) project[folder] = workspace(folder)
     }
   }
   return project
@@ -105,13 +107,17 @@ const changes = [
     const name = pick(names)
     manifest[to] = { ...manifest[to], [name]: specOf(name) }
   },
-  manifest => { manifest.name = pick(['renamed', '@t/renamed']) },
+  manifest => { manifest.name = pick(['renamed', '@t/renamed', 'a', 'one', 'two']) },
+  manifest => { delete manifest.name },
   manifest => { manifest.version = pick(['1.0.0', '1.1.0', '2.0.0']) },
   (manifest, project) => {
-    const folder = pick(['packages/three', 'packages/four', 'v'])
-    project[folder] = { name: path.basename(folder), version: '1.0.0', ...(below(2) ? member() : {}) }
+    const folder = pick(['packages/three', 'packages/one/four', 'packages/@s/five', 'packages/node_modules/six', 'packages/.seven', 'v'])
+    project[folder] = workspace(folder)
   },
-  (manifest, project) => { project[''].workspaces = pick([['w'], ['packages/*'], ['w', 'packages/*', 'v'], ['*'], ['packages/**']]) },
+  (manifest, project) => {
+    project[''].workspaces = pick([['w'], ['packages/*'], ['w', 'packages/*', 'v'], ['*'], ['packages/**'], ['packages/**', '!packages/one/**'],
+      ['packages/@s/*'], ['v', './/packages/@s/five', 'packages//two', 'w/../packages/one']])
+  },
   (manifest, project) => {
     const folder = pick(Object.keys(project))
     if (folder) delete project[folder]
@@ -150,19 +156,23 @@ const run = (program, root) => new Promise(resolve => {
   child.on('close', status => resolve({ status, text, lines: text.split('\n').filter(line => line).map(line => JSON.parse(line)) }))
 })
 
-// Whether docs/DIFFERENCES.md says that the two differ here. Where `npm ci` refuses: a workspace that the lock file does not link
-// under its name, or an optional dependency of the root or a workspace that is not installed. Where it does not: an
-// optional dependency of the wrong version, for which the registry may have no other, a package that is no workspace any
-// more, or a package of the wrong version where the root has a right one.
+// Whether docs/DIFFERENCES.md says that the two differ here. Where `npm ci` refuses: a pattern of workspaces that is not read, or an
+// optional dependency of the root or a workspace that is not installed. Where it does not: an optional dependency of the
+// wrong version, for which the registry may have no other, a package that is no workspace any more, a package of the wrong
+// version where the root has a right one, or one of the workspace's version in the place of a workspace.
 const isKnown = async (root, project, lock, errors, lines) => {
   const workspaces = [...await mapWorkspaces({ cwd: root, pkg: project[''] })].map(([name, folder]) => [name, path.relative(root, folder)])
   const isLeft = folder => folder && !folder.includes('node_modules') && !workspaces.some(([, other]) => other === folder)
   const isElsewhere = ({ problem, name, spec, to }) => problem === 'invalid' && to !== `node_modules/${name}` &&
     semver.satisfies(lock.packages[`node_modules/${name}`]?.version, spec)
-  if (!errors.length) return lines.every(line => line.problem === 'group' || line.optional || isLeft(line.from) || isElsewhere(line))
-  const isLinked = ([name, folder]) => lock.packages[`node_modules/${name}`]?.resolved === folder
+  const isReplaced = ({ problem, from, spec, version }) => problem === 'invalid' && !from && spec.startsWith('file:') &&
+    version === project[spec.slice(5)]?.version
+  if (!errors.length) {
+    return lines.every(line => line.problem === 'group' || line.optional || isLeft(line.from) || isElsewhere(line) || isReplaced(line))
+  }
+  const patterns = project[''].workspaces?.packages || project[''].workspaces || []
   const isInstalled = (folder, name) => [`node_modules/${name}`, `${folder}/node_modules/${name}`].some(place => lock.packages[place])
-  return !workspaces.every(isLinked) || !['', ...workspaces.map(([, folder]) => folder)].every(folder =>
+  return patterns.some(pattern => pattern.startsWith('!')) || !['', ...workspaces.map(([, folder]) => folder)].every(folder =>
     Object.keys(project[folder]?.optionalDependencies || {}).every(name => isInstalled(folder, name)))
 }
 

@@ -166,6 +166,12 @@ def manifest_rows():
     links = {f"node_modules/{name}": {"link": True, "resolved": f"w/{name}"} for name in NAMES}
     folders = {f"w/{name}": {} for name in NAMES}
     yield "npm_lock::linked_folders", [text_of({"packages": {**links, **folders}})], "".join(f"w/{name}\t" for name in NAMES)
+    yield "npm_lock::workspace_patterns", [text_of({"workspaces": [f"./w/{name}" for name in NAMES]})], "".join(f"w/{name}\t" for name in NAMES)
+    among = text_of({"packages": {"": {}, **links, **folders}})
+    long = "d" * MANY
+    yield "npm_lock::workspace_problem", [among, text_of(NAMES[-1]), f"w/{NAMES[-1]}"], "nothing"
+    wanted = text_of(dependency(long, f"file:{long}", problem="missing"))
+    yield "npm_lock::workspace_problem", [among, text_of(long), long], wanted
 
 
 # ---- advisories

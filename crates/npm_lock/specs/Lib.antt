@@ -18,5 +18,6 @@ pub mod Dependents  -- by which texts an installed package is asked for
 pub mod Edges  -- the dependencies of all packages, and what is installed for each
 pub mod Faults  -- which values are no lock file
 pub mod LinkedFolders  -- the folders of packages that links name
+pub mod FoundWorkspaces  -- a workspace that was found on disk, beside the lock file
 -- ---- not part of any public contract: what private functions compute
 pub mod Private

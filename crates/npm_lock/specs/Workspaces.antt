@@ -94,6 +94,17 @@ has_unread patterns = any_item (λ pattern. not (is_such is_read pattern)) patte
 abbrev pub has_matched : (folder : List ℕ) → Items → Bool
 has_matched folder patterns = any_item (is_such (is_matched folder)) patterns
 
+-- the patterns of those that are texts: `w` and `packages/*` of `["./w", "packages/*"]`
+abbrev pub texts_of : Items → List (List ℕ)
+texts_of no_items = []
+texts_of (item pattern others) =
+    option_map_or (λ text. pattern_of text ∷ texts_of others) (as_str pattern) (texts_of others)
+
+-- the patterns of the root, if each of them is read; a root that has none has no workspaces
+abbrev pub read_patterns : (root : Data) → Option (List (List ℕ))
+read_patterns root = option_map_or (λ patterns. if has_unread patterns then None else Some (texts_of patterns))
+    (patterns_of root) (Some [])
+
 -- whether the folder is a workspace, by these patterns. If one is not read, that is not known.
 abbrev pub by_patterns : (folder : List ℕ) → Items → Workspace
 by_patterns folder patterns = if has_unread patterns then Unread

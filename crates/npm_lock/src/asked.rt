@@ -77,7 +77,7 @@ fn add_group<'v>(
 }
 
 /// Returns `true` for a peer that may be missing, as `peerDependenciesMeta` says.
-fn is_optional_peer(asker: &Value, name: &str) -> bool
+pub(crate) fn is_optional_peer(asker: &Value, name: &str) -> bool
     ensures { result ≡ Asks.is_optional_peer (view asker.now) name.now }
 {
     let peers = asker.get("peerDependenciesMeta");

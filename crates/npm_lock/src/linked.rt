@@ -37,7 +37,7 @@ pub fn linked_folders(alloc: Global, lock: &Value) -> Result<Vec<&str>>
 }
 
 /// The members of `packages`.
-fn members_of(lock: &Value) -> Option<&Map<String, Value>>
+pub(crate) fn members_of(lock: &Value) -> Option<&Map<String, Value>>
     ensures { option_map (λ members. members_view members.now.entries) result
         ≡ option_and_then as_object (get (codes "packages") (view lock.now)) }
 {

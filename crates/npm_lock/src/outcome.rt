@@ -102,7 +102,7 @@ pub(crate) fn add_judgement(
 }
 
 /// A dependency of a package, and the package that was found, if one was.
-fn dependency_of(
+pub(crate) fn dependency_of(
     alloc: Global,
     asker: Package<'_>,
     name: &str,

@@ -120,7 +120,7 @@ impl<'v> Lock<'v> {
     }
 
     /// The package at a place, which is the target if a link is there.
-    fn package_at(self, place: &str) -> Option<Package<'v>>
+    pub(crate) fn package_at(self, place: &str) -> Option<Package<'v>>
         ensures { option_map package_value result ≡ Packages.package_at (packages_data self.entry) place.now }
     {
         self.found_at(self.package_in(place)?)
@@ -147,7 +147,7 @@ impl<'v> Lock<'v> {
     }
 
     /// The member of `packages` for a folder.
-    fn package_in(self, folder: &str) -> Option<Package<'v>>
+    pub(crate) fn package_in(self, folder: &str) -> Option<Package<'v>>
         ensures { option_map package_value result ≡ option_map
             (λ member. record { folder = folder.now; member = member }) (get folder.now (packages_data self.entry)) }
     {

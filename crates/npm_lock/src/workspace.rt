@@ -1,5 +1,5 @@
 //! Which folders are workspaces of the root.
-ghost use Rattle.std.specs.Prelude.{◌≡◌, ◌||◌, ℕ, IfOk, List, OnOk, false, option_map, true};
+ghost use Rattle.std.specs.Prelude.{◌≡◌, ◌||◌, ℕ, IfOk, List, OnOk, false, map, option_map, true};
 ghost use Rattle.std.specs.List.{list_any};
 ghost use Rattle.serde_json.specs.View.{items_view, view};
 ghost use Rattle.npm_lock.specs.Workspaces as Workspaces;
@@ -121,6 +121,42 @@ fn has_any_matched(folder: &str, patterns: &[&str]) -> bool
         }
     }
     false
+}
+
+/// Returns the patterns of `workspaces` of a root's manifest, in their order, each without `./` or `/` at its start:
+/// a folder, `folder/*` and `folder/**`. No patterns are an empty list. Returns `None` if one of them is not read here, as
+/// `!w` and `w-*`: then it is not known which folders are workspaces.
+///
+/// # Errors
+///
+/// An allocation failed.
+pub fn workspace_patterns(alloc: Global, root: &Value) -> Result<Option<Vec<&str>>>
+    ensures { IfOk result (λ list. option_map (λ list. map (λ text. text.now) list.items) list
+        ≡ Workspaces.read_patterns (view root.now)) }
+{
+    let Some(patterns) = patterns_of(root) else {
+        return Ok(Some(Vec::new(alloc)));
+    };
+    if has_unread(patterns) {
+        return Ok(None);
+    }
+    match texts_of(alloc, patterns) {
+        Ok(texts) => Ok(Some(texts)),
+        Err(error) => Err(error),
+    }
+}
+
+/// The patterns of a list of texts.
+fn texts_of<'v>(alloc: Global, patterns: &'v [Value]) -> Result<Vec<&'v str>>
+    ensures { IfOk result (λ list. map (λ text. text.now) list.items ≡ Workspaces.texts_of (items_view patterns.now)) }
+{
+    let mut list = Vec::new(alloc);
+    for pattern in patterns {
+        if let Some(text) = pattern.as_str() {
+            list.push(pattern_of(text))?;
+        }
+    }
+    Ok(list)
 }
 
 /// Returns whether the folder of a package that was found for another is a workspace of it, which has these patterns.
@@ -246,7 +282,9 @@ fn has_glob_byte(stem: &str) -> bool
     stem.bytes().any(|byte| b"!#*?[]{}()\\".contains(&byte))
 }
 
-fn is_part(rest: &str) -> bool
+/// Returns `true` for the name of a folder that `*` in a pattern of `workspaces` stands for: `a`, but not `.a`. Does not
+/// allocate.
+pub fn is_part(rest: &str) -> bool
     ensures { result ≡ Workspaces.is_part rest.now }
 {
     are_parts(rest) && !has_slash(rest)

@@ -42,13 +42,20 @@ no_slash path name i is lacks front back slash =
     lacks (i + length front) (omega arith) (omega arith) back at
 
 -- the path is cut at its last `/`
-pub is_above : (path front back : List ℕ) → SplitsAroundMatch (RFindsText (codes "/")) path front back
-    → IsFolderOf path front
-is_above path front back split =
+pub cut_at : (path front back : List ℕ) → SplitsAroundMatch (RFindsText (codes "/")) path front back
+    → (path ≡ front ++ (codes "/" ++ back)) × HasNoSlash back
+cut_at path front back split =
     let at : drop split.0 path ≡ codes "/" ++ back = rw split.4 split.2.1.split in
     let ends : split.1 ≡ split.0 + 1 = split.2.1.ends in
     let whole : path ≡ front ++ (codes "/" ++ back) =
     sym (take-append-drop split.0 path) ∙ ap (λ rest. take split.0 path ++ rest) at
-    ∙ ap (λ first. first ++ (codes "/" ++ back)) (sym split.3) in
-    above front back whole (no_slash path back split.1 (sym split.4)
-    (λ k more small. split.2.0 k (omega arith) small))
+    ∙ ap (λ first. first ++ (codes "/" ++ back)) (sym split.3) in (
+      whole,
+      no_slash path back split.1 (sym split.4) (λ k more small. split.2.0 k (omega arith) small),
+    )
+
+pub is_above : (path front back : List ℕ) → SplitsAroundMatch (RFindsText (codes "/")) path front back
+    → IsFolderOf path front
+is_above path front back split =
+    let cut = cut_at path front back split in
+    above front back cut.0 cut.1

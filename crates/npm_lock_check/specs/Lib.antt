@@ -9,7 +9,8 @@ pub mod Sentence  -- a problem, or a mismatch, as a sentence
 pub mod HitSentence  -- a package that is hit as a sentence
 pub mod Unread  -- a manifest that was not read, as a sentence and as a JSON object
 pub mod ManifestFile  -- where the manifest of a workspace is
-pub mod Linked  -- the manifests of workspaces
+pub mod WorkspaceName  -- the name of a workspace
+pub mod Linked  -- the manifests of workspaces, and the workspaces on disk
 pub mod Report  -- what is found out about a lock file, and the lines of it
 pub mod Subjects  -- the input that an error is about
 pub mod Output  -- what is read, and why nothing is written for it

@@ -1,12 +1,14 @@
 -- The manifests of workspaces, and of other packages that links of a lock file name: npm's "workspaces".
-use Rattle.std.specs.Prelude.{◌≡◌, ℕ, List, [], ◌∷◌, ◌++◌, Result, Ok, map, string_bytes}
+use Rattle.std.specs.Prelude.{◌≡◌, ℕ, List, [], ◌∷◌, ◌++◌, Result, Ok, codes, map, string_bytes}
 use Rattle.serde_json.specs.Data.{Data}
 use Rattle.serde_json.specs.View.{view}
+use Rattle.npm_lock_check.specs.WorkspaceName.{workspace_name}
 use Rattle.npm_lock_check.specs.declared.folder_name.FolderName.{FolderName}
 use Rattle.npm_lock_check.specs.declared.linked.Found.{Found}
 use Rattle.npm_lock_check.specs.declared.linked.Found.TheVariants.{Manifest, Nothing, Unread}
 use Rattle.npm_lock_check.specs.declared.linked.Linked.{Linked}
 use Rattle.npm_lock_check.specs.declared.linked.Loaded.{Loaded}
+use Rattle.npm_lock_check.specs.declared.linked.Workspace.{Workspace}
 use Rattle.npm_lock_check.specs.declared.run_error.LoadError.{LoadError}
 
 -- a manifest, and the folder of its package
@@ -18,10 +20,25 @@ pub record LinkedValue : Type 0 where
 abbrev pub linked_value : Linked → LinkedValue
 linked_value linked = record { folder = string_bytes linked.folder; manifest = view linked.manifest }
 
--- the manifests that were read, and the folders of those that were not
+-- a workspace that was found on disk: its name, and its folder
+pub record WorkspaceValue : Type 0 where
+  pub name : List ℕ
+  pub folder : List ℕ
+
+-- what a contract sees of it
+abbrev pub workspace_value : Workspace → WorkspaceValue
+workspace_value workspace = record { name = string_bytes workspace.name; folder = string_bytes workspace.folder }
+
+-- the workspace with this manifest, in a folder below this one
+abbrev pub workspace_in : (manifest : Data) → (above folder : List ℕ) → WorkspaceValue
+workspace_in manifest above folder =
+    record { name = workspace_name manifest (above ++ (codes "/" ++ folder)); folder = folder }
+
+-- the manifests that were read, the folders of those that were not, and the workspaces that were found on disk
 pub record LoadedValue : Type 0 where
   pub linked : List LinkedValue
   pub unread : List (List ℕ)
+  pub workspaces : List WorkspaceValue
 
 -- the text of a folder
 abbrev pub folder_text : FolderName → List ℕ
@@ -32,10 +49,11 @@ abbrev pub loaded_value : Loaded → LoadedValue
 loaded_value loaded = record {
   linked = map linked_value loaded.linked.items;
   unread = map folder_text loaded.unread.items;
+  workspaces = map workspace_value loaded.workspaces.items;
 }
 
 abbrev pub nothing_loaded : LoadedValue
-nothing_loaded = record { linked = []; unread = [] }
+nothing_loaded = record { linked = []; unread = []; workspaces = [] }
 
 -- with what was found in one more folder
 abbrev pub with_found : (folder : List ℕ) → Found → LoadedValue → LoadedValue

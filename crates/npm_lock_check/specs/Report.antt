@@ -4,6 +4,7 @@ use Rattle.std.specs.Prelude.{if◌then◌else◌}
 use Rattle.std.specs.Prelude.{codes, is_some, length, map, not, option_map}
 use Rattle.std.specs.Prelude.{true, Result, Ok, Err}
 use Rattle.std.specs.Bool.{MatchBool}
+use Rattle.std.specs.List.{filter_map}
 use Rattle.serde_json.specs.Data.{Data, depth}
 use Rattle.serde_json.specs.Find.{get}
 use Rattle.serde_json.specs.Read.{max_depth, read}
@@ -12,6 +13,7 @@ use Rattle.serde_json.specs.Written.{compact_text, has_float}
 use Rattle.serde_json.specs.declared.value.Value.{Value}
 use Rattle.node_semver.specs.Versions.{VersionValue}
 use Rattle.npm_lock.specs.Findings as Findings
+use Rattle.npm_lock.specs.FoundWorkspaces.{workspace_problem}
 use Rattle.npm_manifests.specs.ManifestPlace.{with_manifest}
 use Rattle.npm_manifests.specs.MismatchJson.{mismatch_data}
 use Rattle.npm_manifests.specs.Mismatches.{AreMismatches, MismatchValue, mismatch_value}
@@ -19,6 +21,7 @@ use Rattle.npm_lock.specs.Outcomes.{ProblemValue, UncheckedValue, problem_value,
 use Rattle.npm_lock.specs.ProblemJson.{problem_data, unchecked_data}
 use Rattle.npm_lock_version_one.specs.VersionOne.{converted}
 use Rattle.npm_manifests.specs.declared.mismatch.Mismatch.{Mismatch}
+use Rattle.npm_lock.specs.declared.problem.Problem.{Problem}
 use Rattle.npm_lock.specs.declared.problem.Problems.{Problems}
 use Rattle.npm_advisories.specs.Files.{advisories_of}
 use Rattle.npm_advisories.specs.Audit.{FoundValue, InstalledValue, IsAudit}
@@ -27,7 +30,7 @@ use Rattle.npm_advisories.specs.LockFile.{AreInstalledOf}
 use Rattle.npm_advisories.specs.declared.severity.Severity.{Severity}
 use Rattle.npm_lock_check.specs.HitSentence.{hit_sentence}
 use Rattle.npm_lock_check.specs.Kinds.{has}
-use Rattle.npm_lock_check.specs.Linked.{LinkedValue, LoadedValue, folder_text, loaded_value, nothing_loaded}
+use Rattle.npm_lock_check.specs.Linked.{LinkedValue, LoadedValue, WorkspaceValue, folder_text, loaded_value, nothing_loaded}
 use Rattle.npm_lock_check.specs.Sentence.{mismatch_sentence, sentence, unchecked_sentence}
 use Rattle.npm_lock_check.specs.Unread.{unread_data, unread_sentence}
 use Rattle.npm_lock_check.specs.declared.arguments.Format.{Format}
@@ -115,11 +118,19 @@ AreLeftMismatches lock manifests is_ignored list = MatchBool (has_packages lock)
 abbrev pub checked_lock : (lock : Data) → (manifest : Option Data) → (linked : List LinkedValue) → Data
 checked_lock lock manifest linked = converted (placed lock (manifests_of manifest linked)) manifest
 
--- the problems of the lock file without those of ignored kinds, in their order, and the counts of all of it
-pub record AreLeft (lock : Data) (wanted : WantedValue) (problems : Problems) : Type 0 where
+-- the problems of the workspaces that were found on disk, in their order
+abbrev pub workspace_problems : (lock : Data) → List WorkspaceValue → List ProblemValue
+workspace_problems lock workspaces = filter_map (λ one. workspace_problem lock one.name one.folder) workspaces
+
+-- The problems of workspaces first, and then those of the lock file in their order, without those of ignored kinds; and
+-- the counts of all of the lock file.
+pub record AreLeft (lock : Data) (workspaces : List WorkspaceValue) (wanted : WantedValue) (problems : Problems)
+    : Type 0 where
+  pub first : List Problem
+  pub of_workspaces : map problem_value first ≡ workspace_problems lock workspaces
   pub all : Problems
   pub found : Findings.IsChecked lock wanted.node all
-  pub left : problems.list.items ≡ filter (λ problem. not (has wanted.ignored problem.kind)) all.list.items
+  pub left : problems.list.items ≡ filter (λ problem. not (has wanted.ignored problem.kind)) (first ++ all.list.items)
   pub packages : problems.packages ≡ all.packages
   pub dependencies : problems.dependencies ≡ all.dependencies
   pub unchecked : problems.unchecked ≡ all.unchecked
@@ -141,7 +152,7 @@ pub record IsReportOf (lock : Data) (loaded : LoadedValue) (wanted : WantedValue
       report.mismatches.items
   pub exact : report.exact ≡ wanted.exact
   pub unread : map folder_text report.unread.items ≡ loaded.unread
-  pub problems : AreLeft (checked_lock lock wanted.manifest loaded.linked) wanted report.problems
+  pub problems : AreLeft (checked_lock lock wanted.manifest loaded.linked) loaded.workspaces wanted report.problems
   pub hit : AreHit (checked_lock lock wanted.manifest loaded.linked) wanted.advisories wanted.level found
   pub audited : report.audited ≡ is_some wanted.advisories
   pub hits : report.hits ≡ length found

@@ -32,11 +32,19 @@ pub enum Found {
     Manifest(Value),
 }
 
-/// The manifests that were read, and the folders of those that were not.
+/// A workspace that was found on disk.
+#[derive(Drop)]
+pub struct Workspace {
+    pub name: String,
+    pub folder: String,
+}
+
+/// The manifests that were read, the folders of those that were not, and the workspaces that were found on disk.
 #[derive(Drop)]
 pub struct Loaded {
     pub linked: Vec<Linked>,
     pub unread: Vec<FolderName>,
+    pub workspaces: Vec<Workspace>,
 }
 
 impl Loaded {
@@ -47,6 +55,7 @@ impl Loaded {
         Loaded {
             linked: Vec::new(alloc),
             unread: Vec::new(alloc),
+            workspaces: Vec::new(alloc),
         }
     }
 }

@@ -30,9 +30,12 @@ mod shown;
 mod subject;
 mod sync;
 mod unread;
+mod walk;
 mod wanted;
 mod watched;
 mod words;
+mod workspace_name;
+mod workspaces;
 
 use argument_error::ArgumentError;
 use arguments::{Arguments, Format, Shown, read_arguments};
@@ -54,6 +57,7 @@ use subject::subject_of;
 use wanted::Wanted;
 use watched::Watched;
 use words::words_of;
+use workspaces::with_workspaces;
 
 /// Ends with the status of `status_of`.
 fn main(rt: HostRuntime) -> ExitCode {
@@ -159,9 +163,10 @@ fn checked<R: Read + Drop>(
     };
     let folder = asked.manifest.map_or(".", folder_of);
     run(rt.alloc(), &mut reader, &mut writer, wanted, |lock| {
-        manifests_of(rt.alloc(), lock, |linked| {
+        let loaded = manifests_of(rt.alloc(), lock, |linked| {
             manifest_in(rt, folder, linked, asked.outside)
-        })
+        })?;
+        with_workspaces(rt, folder, wanted.manifest, asked.outside, loaded)
     })
 }
 

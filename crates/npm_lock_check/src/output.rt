@@ -1,5 +1,5 @@
 //! What the program reads, and what it writes for it.
-ghost use Rattle.std.specs.Prelude.{◌≡◌, ◌≢◌, List, ℕ, IfErr, IfOk, IsErrOf, IsSome, OnOk, filter, not, option_map};
+ghost use Rattle.std.specs.Prelude.{◌≡◌, ◌≢◌, List, ℕ, IfErr, IfOk, IsErrOf, IsSome, OnOk, filter, map, not, option_map};
 ghost use Rattle.std.specs.Fn.{FnOnceReturnsAt};
 ghost use Rattle.std.specs.Io.KnownBytes.{Appends};
 ghost use Rattle.serde_json.specs.View.{view};
@@ -7,7 +7,7 @@ ghost use Rattle.npm_lock.specs.Faults.{lock_fault};
 ghost use Rattle.npm_lock_version_one.specs.VersionOne.{any_fault, converted};
 ghost use Rattle.npm_advisories.specs.Audit.{FoundValue};
 ghost use Rattle.npm_lock_check.specs.Kinds.{has};
-ghost use Rattle.npm_lock_check.specs.Linked.{loaded_value};
+ghost use Rattle.npm_lock_check.specs.Linked.{loaded_value, workspace_value};
 ghost use Rattle.npm_lock_check.specs.Output.{IsInput, IsReported, IsStopped, IsUnread};
 ghost use Rattle.npm_lock_check.specs.Private.Refusals.{IsCheckRefused, IsLockRefused, IsRefused};
 ghost use Rattle.npm_lock_check.specs.Report.{AreLeft, IsReportOf, IsReportText, manifests_of, placed};
@@ -17,12 +17,13 @@ ghost use Rattle.npm_lock_check.specs.declared.report.Report.{Report};
 use crate::hits::hits_of;
 use crate::kinds::Kinds;
 use crate::lines::lines_of;
-use crate::linked::{Loaded, load_compared};
+use crate::linked::{Loaded, Workspace, load_compared};
 use crate::report::Report;
 use crate::run_error::{LoadError, RunError, StopError, failure_error, json_error, read_error};
 use crate::sync::{compare, is_compared};
 use crate::wanted::Wanted;
 use crate::watched::Watched;
+use crate::workspaces::add_workspaces;
 use npm_lock::{CheckError, Problem, Problems, check};
 use npm_lock_version_one::convert;
 use serde_json::Value;
@@ -94,12 +95,16 @@ fn report_of(
         (manifests_of (wanted_value wanted.entry).manifest (loaded_value loaded).linked))
         (loaded_value loaded).linked (wanted_value wanted.entry)) }
 {
-    let Loaded { linked, unread } = loaded;
+    let Loaded {
+        linked,
+        unread,
+        workspaces,
+    } = loaded;
     let compared = is_compared(&lock, wanted.manifest);
     let mut lock = lock;
     let mismatches = compare(alloc, &mut lock, linked, wanted)?;
     let lock = converted(alloc, lock, wanted.manifest)?;
-    let problems = problems_of(alloc, &lock, wanted)?;
+    let problems = problems_of(alloc, &lock, &workspaces, wanted)?;
     let found = match hits_of(alloc, &lock, wanted) {
         Ok(found) => found,
         Err(error) => return Err(error),
@@ -137,9 +142,15 @@ fn converted(alloc: Global, lock: Value, manifest: Option<&Value>) -> Result<Val
     }
 }
 
-/// The problems of a lock file but those of ignored kinds.
-fn problems_of(alloc: Global, lock: &Value, wanted: Wanted<'_>) -> Result<Problems, RunError>
-    ensures found { IfOk result (AreLeft (view lock.now) (wanted_value wanted.entry)) }
+/// The problems of workspaces that were found on disk, and those of a lock file, but those of ignored kinds.
+fn problems_of(
+    alloc: Global,
+    lock: &Value,
+    workspaces: &[Workspace],
+    wanted: Wanted<'_>,
+) -> Result<Problems, RunError>
+    ensures found { IfOk result (AreLeft (view lock.now) (map workspace_value workspaces.now)
+        (wanted_value wanted.entry)) }
     ensures refused { IfErr result (IsCheckRefused (view lock.now)) }
 {
     let mut problems = match check(alloc, lock, wanted.node) {
@@ -147,6 +158,7 @@ fn problems_of(alloc: Global, lock: &Value, wanted: Wanted<'_>) -> Result<Proble
         Err(CheckError::Refused(fault)) => return Err(RunError::NoLockFile(fault)),
         Err(CheckError::Memory) => return Err(RunError::Memory),
     };
+    add_workspaces(alloc, &mut problems.list, lock, workspaces).map_err(|_| RunError::Memory)?;
     leave_out(&mut problems.list, wanted.ignored);
     Ok(problems)
 }

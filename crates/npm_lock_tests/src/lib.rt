@@ -20,3 +20,5 @@ mod manifest;
 mod overrides;
 #[cfg(test)]
 mod version_one;
+#[cfg(test)]
+mod workspaces;

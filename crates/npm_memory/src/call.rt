@@ -34,6 +34,10 @@ enum Name {
     /// The same.
     Put,
     Folders,
+    /// Of the root's manifest.
+    Patterns,
+    /// Of the name in the second value, in the folder of the text.
+    Workspace,
     /// The texts by which the package in the folder of the text is asked for.
     Dependents,
     /// The dependencies of all packages.
@@ -72,6 +76,8 @@ impl Trial for Call {
             Name::Mismatches => mismatches(alloc, first, second, text),
             Name::Put => answer::json(with_manifest(alloc, first, second, text)),
             Name::Folders => folders(alloc, first),
+            Name::Patterns => patterns(alloc, first),
+            Name::Workspace => workspace(alloc, first, second, text),
             Name::Dependents => dependents(alloc, first, text),
             Name::Edges => edges(alloc, first),
             Name::Audit => audited(alloc, first, second, text),
@@ -102,6 +108,8 @@ fn name_of(name: &str) -> Option<Name> {
         "npm_manifests::mismatches_of" => Name::Mismatches,
         "npm_manifests::put_manifest" => Name::Put,
         "npm_lock::linked_folders" => Name::Folders,
+        "npm_lock::workspace_patterns" => Name::Patterns,
+        "npm_lock::workspace_problem" => Name::Workspace,
         "Dependents::of_lock" => Name::Dependents,
         "npm_lock::edges_of" => Name::Edges,
         "npm_advisories::audit_lock" => Name::Audit,
@@ -210,6 +218,25 @@ fn folders(alloc: Global, lock: &Value) -> Answer {
             }
             answer::list(text_of_texts(alloc, &folders))
         }
+        Err(_) => Answer::OutOfMemory,
+    }
+}
+
+fn patterns(alloc: Global, root: &Value) -> Answer {
+    match npm_lock::workspace_patterns(alloc, root) {
+        Ok(Some(patterns)) => answer::list(text_of_texts(alloc, &patterns)),
+        Ok(None) => Answer::Nothing,
+        Err(_) => Answer::OutOfMemory,
+    }
+}
+
+fn workspace(alloc: Global, lock: &Value, name: Option<&Value>, folder: &str) -> Answer {
+    let Some(name) = name.and_then(Value::as_str) else {
+        return Answer::Nothing;
+    };
+    match npm_lock::workspace_problem(alloc, lock, name, folder) {
+        Ok(Some(problem)) => answer::json(problem.to_json(alloc)),
+        Ok(None) => Answer::Nothing,
         Err(_) => Answer::OutOfMemory,
     }
 }

@@ -4,7 +4,7 @@ use crate::answer::Answer;
 use crate::list::{
     text_of_edges, text_of_found, text_of_mismatches, text_of_problems, text_of_texts,
 };
-use crate::picked::picked;
+use crate::picked::{kept, picked};
 use memory_trials::{CallError, Trial};
 use node_semver::Version;
 use npm_advisories::{LockError, Severity, audit_lock};
@@ -46,6 +46,8 @@ enum Name {
     Audit,
     /// For the text, with the options of the second value.
     Pick,
+    /// For the texts between commas, with the options of the second value.
+    Keep,
 }
 
 impl Trial for Call {
@@ -82,6 +84,7 @@ impl Trial for Call {
             Name::Edges => edges(alloc, first),
             Name::Audit => audited(alloc, first, second, text),
             Name::Pick => picked(alloc, first, second, text),
+            Name::Keep => kept(alloc, first, second, text),
         }
     }
 
@@ -114,6 +117,7 @@ fn name_of(name: &str) -> Option<Name> {
         "npm_lock::edges_of" => Name::Edges,
         "npm_advisories::audit_lock" => Name::Audit,
         "npm_pick::pick" => Name::Pick,
+        "npm_pick::keep" => Name::Keep,
         _ => return None,
     })
 }

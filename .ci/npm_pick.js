@@ -13,9 +13,16 @@ const npa = require(path.join(MODULES, 'npm-package-arg'))
 
 const [program, count, seed] = [process.argv[2], Number(process.argv[3]), Number(process.argv[4])]
 const isObject = value => typeof value === 'object' && value !== null && !Array.isArray(value)
-const keysOf = value => (isObject(value) ? Object.keys(value) : [])
 const isVersion = key => semver.valid(key, true) !== null
 const tagsOf = packument => (isObject(packument['dist-tags']) ? packument['dist-tags'] : {})
+// The lists of versions of a document: those that can be picked, that are staged, and that are restricted.
+const MEMBERS = ['versions', 'stagedVersions', 'policyRestrictions']
+const listOf = (packument, name) => {
+  const member = packument[name]
+  return name === 'versions' ? member : isObject(member) ? member.versions : undefined
+}
+const listsOf = packument => MEMBERS.map(name => listOf(packument, name)).filter(isObject)
+const allKeys = packument => listsOf(packument).flatMap(Object.keys)
 const keyCase = (key, tail = {}) => ({ packument: { name: 'a', versions: { [key]: { version: key } } }, wanted: '*', ...tail })
 const withTime = time => ({
   packument: { name: 'a', time: { '1.0.0': time }, versions: { '1.0.0': { version: '1.0.0' } } }, wanted: '*',
@@ -27,7 +34,7 @@ const RULES = [
   {
     name: 'equal versions',
     covers: ({ packument }) => {
-      const keys = keysOf(packument.versions).filter(isVersion).sort(semver.compareLoose)
+      const keys = [...new Set(allKeys(packument))].filter(isVersion).sort(semver.compareLoose)
       return keys.some((key, at) => at > 0 && semver.compareLoose(keys[at - 1], key) === 0)
     },
     example: [{ packument: { name: 'a', versions: { '1.0.0+b': { version: '1.0.0+b' }, '1.0.0+a': { version: '1.0.0+a' } } },
@@ -41,13 +48,12 @@ const RULES = [
   },
   {
     name: 'a manifest that counts as false',
-    covers: ({ packument }) => Object.values(isObject(packument.versions) ? packument.versions : {}).some(value => !value),
+    covers: ({ packument }) => listsOf(packument).some(list => Object.values(list).some(value => !value)),
     example: [{ packument: { name: 'a', versions: { '1.0.0': null } }, wanted: '1.0.0' }, '!ETARGET', '1.0.0'],
   },
   {
     name: 'a manifest without its version',
-    covers: ({ packument }) => Object.entries(isObject(packument.versions) ? packument.versions : {}).some(([key, value]) =>
-      value && value.version !== key),
+    covers: ({ packument }) => listsOf(packument).some(list => Object.entries(list).some(([key, value]) => value && value.version !== key)),
     example: [{ packument: { name: 'a', versions: { '1.0.0': { version: '2.0.0' } } }, wanted: '1', avoid: '2' }, '*2.0.0', '1.0.0'],
   },
   {
@@ -58,12 +64,12 @@ const RULES = [
   },
   {
     name: 'an empty text',
-    covers: ({ packument, avoid }) => avoid === '' || keysOf(packument.versions).includes(''),
+    covers: ({ packument, avoid }) => avoid === '' || allKeys(packument).includes(''),
     example: [keyCase('1.0.0', { avoid: '' }), '1.0.0', '*1.0.0'],
   },
   {
     name: 'members of every object',
-    covers: ({ packument }) => keysOf(packument.versions).concat(Object.values(tagsOf(packument))).some(key => key in Object.prototype),
+    covers: ({ packument }) => allKeys(packument).concat(Object.values(tagsOf(packument))).some(key => key in Object.prototype),
     example: [{ packument: { name: 'a', time: {}, versions: { constructor: { version: 'constructor' } } }, wanted: '*' },
       '!ENOVERSIONS', '!ETARGET'],
   },
@@ -74,27 +80,37 @@ const RULES = [
   },
   {
     name: 'a list in place of an object',
-    covers: ({ packument }) => ['versions', 'dist-tags', 'time'].some(key => packument[key] && !isObject(packument[key])),
+    covers: ({ packument }) => MEMBERS.map(name => listOf(packument, name)).concat(MEMBERS.concat('dist-tags', 'time').map(name => packument[name]))
+      .some(value => value && !isObject(value)),
     example: [{ packument: { name: 'a', versions: ['a'] }, wanted: '*' }, '!ETARGET', '!ENOVERSIONS'],
+  },
+  {
+    name: 'no release beside those to avoid',
+    covers: (_, npm) => npm === '>>undefined',
+    example: [keyCase('1.0.0-a', { wanted: '1.0.0-a', avoid: '1', avoidStrict: true }), '>>undefined', '!ETARGET'],
   },
 ]
 
 // ---- what npm picks
 
-function npmAnswer ({ packument, wanted, tag, before, avoid, node, npm }) {
-  const options = { nodeVersion: node || null, npmVersion: npm || null }
+function npmAnswer ({ packument, wanted, tag, before, avoid, avoidStrict, includeStaged, node, npm }) {
+  const options = { nodeVersion: node || null, npmVersion: npm || null, avoidStrict, includeStaged }
   if (tag !== undefined) options.defaultTag = tag
   if (before !== undefined) options.before = before
   if (avoid !== undefined) options.avoid = avoid
   try {
     const picked = pickManifest(packument, wanted, options)
-    return (picked._shouldAvoid ? '*' : '') + picked.version
+    const outside = picked._outsideDependencyRange ? (picked._isSemVerMajor ? '>>' : '>') : ''
+    return (picked._shouldAvoid ? '*' : '') + outside + picked.version
   } catch (error) {
     return '!' + (error.code || 'OTHER')
   }
 }
 
-const CODES = { NoTag: 'ETARGET', NoVersion: 'ETARGET', NoneInRange: 'ETARGET', NoVersions: 'ENOVERSIONS', Wanted: 'EINVALIDTAGNAME' }
+const CODES = {
+  NoTag: 'ETARGET', NoVersion: 'ETARGET', NoneInRange: 'ETARGET', Avoided: 'ETARGET', NoVersions: 'ENOVERSIONS',
+  Wanted: 'EINVALIDTAGNAME', Forbidden: 'E403',
+}
 const coded = line => (line[0] === '!' ? '!' + CODES[line.slice(1)] : line)
 
 function ourAnswers (cases) {
@@ -154,6 +170,17 @@ function packument () {
   const all = {}
   for (const key of keys) put(all, key, manifest(key))
   put(made, 'versions', below(60) ? all : one([null, [], 'no', 7, undefined]))
+  for (const [name, chance] of [['stagedVersions', 25], ['policyRestrictions', 25]]) {
+    put(made, name, maybe(chance, () => {
+      const list = {}
+      for (let left = below(4); left > 0; left--) {
+        const of = keys.length && below(2) ? one(keys) : key()
+        keys.push(of)
+        put(list, of, manifest(of))
+      }
+      return below(20) ? { versions: list, message: 'no' } : one([null, [], 'no', 7, {}, { versions: null }, { versions: [] }, { versions: 'no' }])
+    }))
+  }
   const tag = () => (keys.length && below(6) ? one(keys) : one([version(), 'no', 'constructor', 7, null]))
   const tags = {}
   put(tags, 'latest', maybe(80, tag))
@@ -177,7 +204,9 @@ function generated () {
   ])() }
   put(made_case, 'tag', maybe(15, () => one(['next', 'beta', 'gone'])))
   put(made_case, 'before', maybe(40, () => `202${below(4)}-0${1 + below(9)}-15T00:00:00.000Z`))
-  put(made_case, 'avoid', maybe(35, () => one([range(), range(), 'no range'])))
+  put(made_case, 'avoid', maybe(35, () => one([range(), range(), 'no range', '>=' + version() + ' <' + version(), '^' + own])))
+  put(made_case, 'avoidStrict', maybe(50, () => true))
+  put(made_case, 'includeStaged', maybe(50, () => true))
   put(made_case, 'node', maybe(60, () => version()))
   put(made_case, 'npm', maybe(30, () => version()))
   return made_case
@@ -227,9 +256,10 @@ const examples = RULES.map(rule => rule.example[0])
 ourAnswers(examples).forEach((ours, at) => {
   const { name, covers, example: [it, npm, wanted] } = RULES[at]
   const found = npmAnswer(it)
-  if (!covers(it) || found !== npm || ours !== wanted) {
+  const covered = covers(it, found)
+  if (!covered || found !== npm || ours !== wanted) {
     failed++
-    console.log(`WRONG: the example of '${name}': npm ${found}, npm_pick ${ours}, covered ${covers(it)}`)
+    console.log(`WRONG: the example of '${name}': npm ${found}, npm_pick ${ours}, covered ${covered}`)
   }
 })
 
@@ -239,7 +269,7 @@ function compare (cases, what) {
   ourAnswers(cases).forEach((ours, at) => {
     const npm = npmAnswer(cases[at])
     if (npm === ours) return
-    const rule = RULES.find(rule => rule.covers(cases[at]))
+    const rule = RULES.find(rule => rule.covers(cases[at], npm))
     if (rule) {
       covered++
       used[rule.name] = (used[rule.name] || 0) + 1

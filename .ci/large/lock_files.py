@@ -268,6 +268,10 @@ def pick_rows():
     document = text_of({"dist-tags": {"latest": "1.0.0"}, "versions": versions})
     yield "npm_pick::pick", [document, '{"node": "18.0.0", "avoid": ">2"}', "^1"], f"1.{MANY - 1}.0"
     yield "npm_pick::pick", [document, "", "1.7.0"], "1.7.0"
+    yield "npm_pick::keep", [document, '{"all": true}', "^1,2"], "".join(f"1.{number}.0\t" for number in range(MANY))
+    yield "npm_pick::keep", [document, "", ",".join(reversed([f"1.{number}.0" for number in range(MANY)]))], "".join(
+        f"1.{number}.0\t" for number in range(MANY))
+    yield "npm_pick::pick", [document, '{"avoidStrict": true, "avoid": "<1.9"}', "~1.0.0"], f"1.{MANY - 1}.0"
     document = text_of({"versions": {**versions, "1.3.0": {}}})
     yield "npm_pick::pick", [document, "", "*"], "1.3.0"
 

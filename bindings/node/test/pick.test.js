@@ -45,7 +45,7 @@ const RULES = {
         const keys = keysOf(packument).filter((key) => semver.valid(key, true)).sort(semver.compareLoose);
         return keys.some((key, i) => i > 0 && semver.compareLoose(keys[i - 1], key) === 0);
     },
-    'no version at all': (question, { manifest }) => manifest?._isSemVerMajor && manifest.version === undefined,
+    'no release beside those to avoid': (question, { manifest }) => manifest?._isSemVerMajor && manifest.version === undefined,
 };
 
 test(`${CASES} made documents: npm picks the same`, () => {

@@ -2,7 +2,7 @@
 use crate::answer;
 use crate::answer::Answer;
 use crate::list::{text_of_found, text_of_mismatches, text_of_problems, text_of_texts};
-use crate::picked::picked;
+use crate::picked::{kept, picked};
 use memory_trials::{CallError, Trial};
 use node_semver::Version;
 use npm_advisories::{LockError, Severity, audit_lock};
@@ -38,6 +38,8 @@ enum Name {
     Audit,
     /// For the text, with the options of the second value.
     Pick,
+    /// For the texts between commas, with the options of the second value.
+    Keep,
 }
 
 impl Trial for Call {
@@ -71,6 +73,7 @@ impl Trial for Call {
             Name::Dependents => dependents(alloc, first, text),
             Name::Audit => audited(alloc, first, second, text),
             Name::Pick => picked(alloc, first, second, text),
+            Name::Keep => kept(alloc, first, second, text),
         }
     }
 
@@ -100,6 +103,7 @@ fn name_of(name: &str) -> Option<Name> {
         "Dependents::of_lock" => Name::Dependents,
         "npm_advisories::audit_lock" => Name::Audit,
         "npm_pick::pick" => Name::Pick,
+        "npm_pick::keep" => Name::Keep,
         _ => return None,
     })
 }

@@ -2,3 +2,8 @@ pub mod Examples
 pub mod Ranked
 pub mod Reading
 pub mod Late
+pub mod Added
+pub mod SomeTexts
+pub mod Ordered
+pub mod Picks
+pub mod Gathered

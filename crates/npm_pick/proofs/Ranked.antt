@@ -1,6 +1,6 @@
 -- A release has one rank, ranks have a total order, and the best of releases as one more is looked at.
 use Rattle.std.proofs.Common.{◌≡◌, ◌≢◌, ◌↔◌, ◌∙◌, ℕ, List, [], ◌∷◌, ◌++◌, Bool, true, false, IsTrue, Option, Some, None}
-use Rattle.std.proofs.Common.{ap, append_assoc, inl, inr, not, option_map, refl, subst, sym}
+use Rattle.std.proofs.Common.{ap, append-nil, append_assoc, inl, inr, not, option_map, refl, subst, sym}
 use Rattle.std.specs.Cmp.{IsTotalOrder, bool_cmp_total, on_total, then_total}
 use Rattle.std.specs.List.{AllByRecursion}
 use Rattle.std.specs.declared.cmp.Ordering.{Ordering}
@@ -8,7 +8,7 @@ use Rattle.std.specs.declared.cmp.Ordering.TheVariants.{Equal, Greater, Less}
 use Rattle.semver_cuts.specs.Lemmas.Lists.{all-append, all_map}
 use Rattle.semver_texts.specs.Lemmas.Public.{version_total}
 use Rattle.semver_versions.specs.Lemmas.Public.{one_reading}
-use Rattle.serde_json.specs.Data.{Data, Members, member}
+use Rattle.serde_json.specs.Data.{Data, Members, member, no_members}
 use Rattle.node_semver.specs.Versions.{VersionValue}
 use Rattle.npm_lock.specs.InstalledVersions.{IsInstalledVersion, bare}
 use Rattle.npm_pick.specs.Packument.{Release, releases_among}
@@ -28,9 +28,16 @@ same_bool true false P h g = sym (g.1 (h.0 refl))
 same_bool false true P h g = h.1 (g.0 refl)
 same_bool false false P h g = refl
 
-same_rank : (a b : Rank) → a.is_avoided ≡ b.is_avoided → a.is_deprecated ≡ b.is_deprecated → a.fits ≡ b.fits
-    → a.version ≡ b.version → a ≡ b
-same_rank a b s d f v = λ i. record { is_avoided = s i; is_deprecated = d i; fits = f i; version = v i }
+same_rank : (a b : Rank) → a.is_avoided ≡ b.is_avoided → a.is_restricted ≡ b.is_restricted
+    → a.is_staged ≡ b.is_staged → a.is_deprecated ≡ b.is_deprecated → a.fits ≡ b.fits → a.version ≡ b.version → a ≡ b
+same_rank a b s r t d f v = λ i. record {
+  is_avoided = s i;
+  is_restricted = r i;
+  is_staged = t i;
+  is_deprecated = d i;
+  fits = f i;
+  version = v i;
+}
 
 pub one_rank : (p : Data) (o : Options) (range : List ℕ) (release : Release) (a b : Rank)
     → IsRankOf p o range release a → IsRankOf p o range release b → a ≡ b
@@ -39,16 +46,19 @@ one_rank p o range release a b h g =
     let avoid : Option (List ℕ) = option_map (λ text. text.now) o.avoid in
     let s : a.is_avoided ≡ b.is_avoided = same_bool a.is_avoided b.is_avoided (IsAvoided avoid a.version) h.avoided
     (subst (λ (x : VersionValue). IsTrue b.is_avoided ↔ IsAvoided avoid x) (sym v) g.avoided) in
-    same_rank a b s (h.deprecated ∙ sym g.deprecated) (same_bool a.fits b.fits _ h.fitting g.fitting) v
+    same_rank a b s (h.restricted ∙ sym g.restricted) (h.staged ∙ sym g.staged) (h.deprecated ∙ sym g.deprecated)
+    (same_bool a.fits b.fits _ h.fitting g.fitting) v
 
 -- ---- the order of ranks
 
 pub rank_total : IsTotalOrder rank_cmp
 rank_total = then_total (on_total (λ (r : Rank). not r.is_avoided) bool_cmp_total)
+    (then_total (on_total (λ (r : Rank). not r.is_restricted) bool_cmp_total)
+    (then_total (on_total (λ (r : Rank). not r.is_staged) bool_cmp_total)
     (then_total (on_total is_sound bool_cmp_total)
     (then_total (on_total (λ (r : Rank). r.fits) bool_cmp_total)
     (then_total (on_total (λ (r : Rank). not r.is_deprecated) bool_cmp_total)
-    (on_total (λ (r : Rank). r.version) version_total))))
+    (on_total (λ (r : Rank). r.version) version_total))))))
 
 below_at : (a b c : Rank) (o : Ordering) → rank_cmp a b ≡ o → rank_cmp b a ≢ Less → rank_cmp b c ≡ Less
     → rank_cmp a c ≡ Less
@@ -136,7 +146,7 @@ module _ (p : Data) (o : Options) (range : List ℕ) where
 
   -- ---- in the loop
 
-  pub walked_found : (all left : Members) (best : Option Found) (next found : Found)
+  pub walked_found : (all : List Release) (left : Members) (best : Option Found) (next found : Found)
       → IsBestSoFar p o range all (member (release_of next).key (release_of next).manifest left) best
       → IsRankOf p o range (release_of next) (rank_value next.rank) → IsBetter best next found
       → IsBestSoFar p o range all left (Some found)
@@ -146,7 +156,7 @@ module _ (p : Data) (o : Options) (range : List ℕ) where
     found = more_found so.done best next found so.found is better;
   }
 
-  pub walked_past : (all left : Members) (best : Option Found) (x : Release)
+  pub walked_past : (all : List Release) (left : Members) (best : Option Found) (x : Release)
       → IsBestSoFar p o range all (member x.key x.manifest left) best → HasNoRank x
       → IsBestSoFar p o range all left best
   walked_past all left best x so past = record {
@@ -154,3 +164,8 @@ module _ (p : Data) (o : Options) (range : List ℕ) where
     parts = so.parts ∙ sym (append_assoc so.done (x ∷ []) (releases_among left));
     found = none_found so.done best x so.found past;
   }
+
+  pub walked_all : (all : List Release) (best : Option Found) → IsBestSoFar p o range all no_members best
+      → IsBestOrNone p o range all best
+  walked_all all best so =
+      subst (λ (l : List Release). IsBestOrNone p o range l best) (sym (so.parts ∙ append-nil so.done)) so.found

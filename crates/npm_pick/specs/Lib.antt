@@ -1,8 +1,9 @@
 -- What the contracts of this crate say: all of it that is trusted, in reading order.
--- `IsPicked` of Pick is the claim of `pick`. All other words are there for it.
+-- `IsPicked` of Pick is the claim of `pick`, and `IsKept` of Kept that of `keep`. All other words are there for them.
 pub mod Packument  -- the document of a package
 pub mod Times  -- when a version was published
 pub mod Rank  -- which of the versions in a range is picked
 pub mod Pick  -- what is picked for a version, a tag or a range
+pub mod Kept  -- which versions of a document a mirror keeps
 -- ---- not part of any public contract: what private functions compute
 pub mod Private

@@ -1,6 +1,6 @@
 -- Which version of a document is picked, or why none is: npm's "npm-pick-manifest", "Algorithm".
 use Rattle.std.specs.Prelude.{◌≡◌, ◌↔◌, ◌⊎◌, ◌++◌, ℕ, List, Bool, true, false, Option, Some, None, Result, Ok, Err}
-use Rattle.std.specs.Prelude.{IsTrue, bytes_eq, codes, option_map}
+use Rattle.std.specs.Prelude.{IsTrue, bytes_eq, codes, if◌then◌else◌, option_map}
 use Rattle.std.specs.List.{AllByRecursion}
 use Rattle.serde_json.specs.Data.{Data}
 use Rattle.serde_json.specs.View.{view}
@@ -8,7 +8,7 @@ use Rattle.node_semver.specs.Versions.{VersionValue, version_text, without_build
 use Rattle.npm_lock.specs.InstalledVersions.{IsInstalledVersion}
 use Rattle.npm_lock.specs.RangeText.{is_tag}
 use Rattle.npm_lock.specs.Verdict.{Admits, IsNoRange, of_dependencies}
-use Rattle.npm_pick.specs.Packument.{Release, manifest_of, releases_of, tagged}
+use Rattle.npm_pick.specs.Packument.{Release, candidate_of, candidates_of, is_restricted, is_staged, manifest_of, tagged}
 use Rattle.npm_pick.specs.Rank.{FitsEngines, HasNone, IsAvoided, IsBest, Rank, is_deprecated}
 use Rattle.npm_pick.specs.Times.{is_published}
 use Rattle.npm_pick.specs.declared.error.PickError.{PickError}
@@ -16,17 +16,32 @@ use Rattle.npm_pick.specs.declared.error.PickError.TheVariants as Errors
 use Rattle.npm_pick.specs.declared.options.Options.{Options}
 use Rattle.npm_pick.specs.declared.picked.Picked.{Picked}
 
--- the version that is picked: its key in `versions`, its manifest, and whether it should be avoided
+-- The version that is picked: its key, its manifest, and whether it should be avoided. Of what stands in place of a
+-- version to avoid, also that it is outside what was wanted, and whether all versions were tried.
 pub record PickedValue : Type 0 where
   pub key : List ℕ
   pub manifest : Data
   pub is_avoided : Bool
+  pub is_outside : Bool
+  pub is_major : Bool
 
 abbrev pub picked_value : Picked → PickedValue
 picked_value picked = record {
   key = picked.key.now;
   manifest = view picked.manifest.now;
   is_avoided = picked.is_avoided;
+  is_outside = picked.is_outside;
+  is_major = picked.is_major;
+}
+
+-- what is picked of that which was wanted
+abbrev pub inside : (key : List ℕ) → (manifest : Data) → (is_avoided : Bool) → PickedValue
+inside key manifest is_avoided = record {
+  key = key;
+  manifest = manifest;
+  is_avoided = is_avoided;
+  is_outside = false;
+  is_major = false;
 }
 
 -- what is seen of an answer
@@ -52,22 +67,27 @@ IsInRange range key = (bytes_eq range (codes "*") ≡ true)
 -- what is picked where only this key will do
 pub data IsPickedAt (packument : Data) (options : Options) (key : List ℕ) : Result PickedValue PickError → Type 0 where
   there : (manifest : Data) (is_avoided : Bool) → is_published options.before packument key ≡ true
-      → manifest_of packument key ≡ Some manifest → (IsTrue is_avoided ↔ IsKeyAvoided options key)
-      → IsPickedAt packument options key (Ok (record { key = key; manifest = manifest; is_avoided = is_avoided }))
+      → candidate_of options.include_staged packument key ≡ Some manifest
+      → (IsTrue is_avoided ↔ IsKeyAvoided options key)
+      → IsPickedAt packument options key (Ok (inside key manifest is_avoided))
   late : is_published options.before packument key ≡ false → IsPickedAt packument options key (Err Errors.NoVersion)
-  absent : manifest_of packument key ≡ None → IsPickedAt packument options key (Err Errors.NoVersion)
+  absent : candidate_of options.include_staged packument key ≡ None
+      → IsPickedAt packument options key (Err Errors.NoVersion)
 
 -- ---- a range
 
--- The key is in the range and in time, and not to be avoided; its manifest is not deprecated, and fits the engines
+-- The key is in the range and in time, not to be avoided, not restricted and not staged; its manifest is not deprecated,
+-- and fits the engines
 pub record IsSuitable (packument : Data) (options : Options) (range key : List ℕ) (manifest : Data) : Type 0 where
   pub admitted : IsInRange range key
   pub published : is_published options.before packument key ≡ true
   pub kept : ¬ IsKeyAvoided options key
+  pub allowed : is_restricted packument key ≡ false
+  pub whole : is_staged options.include_staged packument key ≡ false
   pub lasting : is_deprecated manifest ≡ false
   pub fitting : FitsEngines options manifest
 
--- the version of the default tag is picked
+-- the version of the default tag is picked: it stands in `versions`, and is suitable
 pub record IsDefault (packument : Data) (options : Options) (range key : List ℕ) (manifest : Data) : Type 0 where
   pub tag : tagged packument options.default_tag.now ≡ Some key
   pub there : manifest_of packument key ≡ Some manifest
@@ -81,21 +101,20 @@ HasNoDefault packument options range = (key : List ℕ) (manifest : Data) → ¬
 abbrev pub HasNoneInTime : (packument : Data) → Options → Type 0
 HasNoneInTime packument options =
     AllByRecursion (λ (release : Release). is_published options.before packument release.key ≡ false)
-    (releases_of packument)
+    (candidates_of options.include_staged packument)
 
 -- What is picked for a range: the version of the default tag, or else the one with the highest rank
 pub data IsPickedIn (packument : Data) (options : Options) (range : List ℕ) : Result PickedValue PickError → Type 0
   where
     by_default : (key : List ℕ) (manifest : Data) → IsDefault packument options range key manifest
-        → IsPickedIn packument options range (Ok (record { key = key; manifest = manifest; is_avoided = false }))
+        → IsPickedIn packument options range (Ok (inside key manifest false))
     by_rank : (best : Release) (rank : Rank) → HasNoDefault packument options range
-        → IsBest packument options range (releases_of packument) best rank
-        → IsPickedIn packument options range
-        (Ok (record { key = best.key; manifest = best.manifest; is_avoided = rank.is_avoided }))
+        → IsBest packument options range (candidates_of options.include_staged packument) best rank
+        → IsPickedIn packument options range (Ok (inside best.key best.manifest rank.is_avoided))
     empty : HasNoDefault packument options range → HasNoneInTime packument options
         → IsPickedIn packument options range (Err Errors.NoVersions)
     none : HasNoDefault packument options range → ¬ HasNoneInTime packument options
-        → HasNone packument options range (releases_of packument)
+        → HasNone packument options range (candidates_of options.include_staged packument)
         → IsPickedIn packument options range (Err Errors.NoneInRange)
 
 -- ---- what is wanted
@@ -124,16 +143,91 @@ pub data IsPickedByTag (packument : Data) (options : Options) (tag : List ℕ) :
 
 -- What is picked for a text that is a version, a range or a tag. For a version that is the key without its build: for
 -- `=v1.2.3+a` the key `1.2.3`.
-pub data IsPicked (packument : Data) (options : Options) (wanted : List ℕ) : Result PickedValue PickError → Type 0 where
-  version : (v : VersionValue) (answer : Result PickedValue PickError) → IsInstalledVersion wanted v
-      → IsPickedAt packument options (version_text (without_build v)) answer → IsPicked packument options wanted answer
-  range : (answer : Result PickedValue PickError) → IsNoVersion wanted → ¬ IsNoRange of_dependencies wanted
-      → IsPickedIn packument options wanted answer → IsPicked packument options wanted answer
-  tag : (answer : Result PickedValue PickError) → IsNoVersion wanted → IsNoRange of_dependencies wanted
-      → is_tag wanted ≡ true → IsPickedByTag packument options wanted answer
-      → IsPicked packument options wanted answer
-  refused : IsNoVersion wanted → IsNoRange of_dependencies wanted → is_tag wanted ≡ false
-      → IsPicked packument options wanted (Err Errors.Wanted)
+pub data IsPickedFor (packument : Data) (options : Options) (wanted : List ℕ) : Result PickedValue PickError → Type 0
+  where
+    version : (v : VersionValue) (answer : Result PickedValue PickError) → IsInstalledVersion wanted v
+        → IsPickedAt packument options (version_text (without_build v)) answer
+        → IsPickedFor packument options wanted answer
+    range : (answer : Result PickedValue PickError) → IsNoVersion wanted → ¬ IsNoRange of_dependencies wanted
+        → IsPickedIn packument options wanted answer → IsPickedFor packument options wanted answer
+    tag : (answer : Result PickedValue PickError) → IsNoVersion wanted → IsNoRange of_dependencies wanted
+        → is_tag wanted ≡ true → IsPickedByTag packument options wanted answer
+        → IsPickedFor packument options wanted answer
+    refused : IsNoVersion wanted → IsNoRange of_dependencies wanted → is_tag wanted ≡ false
+        → IsPickedFor packument options wanted (Err Errors.Wanted)
+
+-- ---- in place of a version to avoid
+
+-- the range of what is compatible with a version: `^1.2.3`
+abbrev pub caret_of : (key : List ℕ) → List ℕ
+caret_of key = codes "^" ++ key
+
+-- for this text a version to avoid is picked
+abbrev pub PicksAvoided : (packument : Data) → Options → (wanted key : List ℕ) → Type 0
+PicksAvoided packument options wanted key = (picked : PickedValue)
+    × IsPickedFor packument options wanted (Ok picked) × (picked.is_avoided ≡ true) × (picked.key ≡ key)
+
+-- for this text no version to avoid is picked: another, or none
+abbrev pub PicksOther : (packument : Data) → Options → (wanted : List ℕ) → Result PickedValue PickError → Type 0
+PicksOther packument options wanted (Ok picked) =
+    IsPickedFor packument options wanted (Ok picked) × (picked.is_avoided ≡ false)
+PicksOther packument options wanted (Err error) = IsPickedFor packument options wanted (Err error)
+
+-- the same version, outside what was wanted
+abbrev pub outside : (is_major : Bool) → Result PickedValue PickError → Result PickedValue PickError
+outside is_major (Ok picked) = Ok (record {
+  key = picked.key;
+  manifest = picked.manifest;
+  is_avoided = picked.is_avoided;
+  is_outside = true;
+  is_major = is_major;
+})
+outside is_major (Err error) = Err error
+
+-- what is picked of all versions: for `*`, if that is no version to avoid
+pub data IsPickedOfAll (packument : Data) (options : Options) : Result PickedValue PickError → Type 0 where
+  other : (answer : Result PickedValue PickError) → PicksOther packument options (codes "*") answer
+      → IsPickedOfAll packument options (outside true answer)
+  avoided : (key : List ℕ) → PicksAvoided packument options (codes "*") key
+      → IsPickedOfAll packument options (Err Errors.Avoided)
+
+-- what is picked beside a version to avoid: what is compatible with it, or else any version
+pub data IsPickedBeside (packument : Data) (options : Options) (key : List ℕ) : Result PickedValue PickError → Type 0
+  where
+    compatible : (answer : Result PickedValue PickError) → PicksOther packument options (caret_of key) answer
+        → IsPickedBeside packument options key (outside false answer)
+    of_all : (second : List ℕ) (answer : Result PickedValue PickError)
+        → PicksAvoided packument options (caret_of key) second → IsPickedOfAll packument options answer
+        → IsPickedBeside packument options key answer
+
+-- What is picked if no version to avoid will do: what is picked for the text or, if that is one to avoid, what is picked
+-- beside it
+pub data IsPickedStrictly (packument : Data) (options : Options) (wanted : List ℕ)
+    : Result PickedValue PickError → Type 0 where
+  as_wanted : (answer : Result PickedValue PickError) → PicksOther packument options wanted answer
+      → IsPickedStrictly packument options wanted answer
+  beside : (key : List ℕ) (answer : Result PickedValue PickError) → PicksAvoided packument options wanted key
+      → IsPickedBeside packument options key answer → IsPickedStrictly packument options wanted answer
+
+-- ---- the answer
+
+-- what is picked, whether a policy restricts it or not
+abbrev pub IsChosen : (avoid_strict : Bool) → (packument : Data) → Options → (wanted : List ℕ)
+    → Result PickedValue PickError → Type 0
+IsChosen true packument options wanted answer = IsPickedStrictly packument options wanted answer
+IsChosen false packument options wanted answer = IsPickedFor packument options wanted answer
+
+-- a version that a policy restricts is forbidden
+abbrev pub allowed : (packument : Data) → Result PickedValue PickError → Result PickedValue PickError
+allowed packument (Ok picked) = if is_restricted packument picked.key then Err Errors.Forbidden else Ok picked
+allowed packument (Err error) = Err error
+
+-- The version that is picked for a text, or why there is none
+pub record IsPicked (packument : Data) (options : Options) (wanted : List ℕ) (answer : Result PickedValue PickError)
+    : Type 0 where
+  pub chosen : Result PickedValue PickError
+  pub so : IsChosen options.avoid_strict packument options wanted chosen
+  pub permitted : answer ≡ allowed packument chosen
 
 -- the answer, unless an allocation failed
 abbrev pub IsAnswer : (Result PickedValue PickError → Type 0) → Result PickedValue PickError → Type 0

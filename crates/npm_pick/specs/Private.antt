@@ -1,3 +1,4 @@
 -- What private functions compute.
 pub mod Ranking
 pub mod Picking
+pub mod Keeping

@@ -12,7 +12,7 @@ use Rattle.node_semver.specs.Versions.{VersionValue, version_cmp}
 use Rattle.npm_lock.specs.Asked.{has_true, is_true}
 use Rattle.npm_lock.specs.InstalledVersions.{IsInstalledVersion}
 use Rattle.npm_lock.specs.Verdict.{Admits, of_dependencies, of_engines}
-use Rattle.npm_pick.specs.Packument.{Release}
+use Rattle.npm_pick.specs.Packument.{Release, is_restricted, is_staged}
 use Rattle.npm_pick.specs.Times.{is_published}
 use Rattle.npm_pick.specs.declared.options.Options.{Options}
 
@@ -54,6 +54,8 @@ is_deprecated manifest = has_true (codes "deprecated") manifest
 -- the rank of a version
 pub record Rank : Type 0 where
   pub is_avoided : Bool
+  pub is_restricted : Bool
+  pub is_staged : Bool
   pub is_deprecated : Bool
   pub fits : Bool
   pub version : VersionValue
@@ -62,12 +64,13 @@ pub record Rank : Type 0 where
 abbrev pub is_sound : Rank → Bool
 is_sound rank = not rank.is_deprecated && rank.fits
 
--- The order of ranks. What comes first counts most: not to be avoided, not to be deprecated and to fit, to fit, not to be
--- deprecated, and the order of versions.
+-- The order of ranks. What comes first counts most: not to be avoided, not to be restricted, not to be staged, not to be
+-- deprecated and to fit, to fit, not to be deprecated, and the order of versions.
 abbrev pub rank_cmp : Rank → Rank → Ordering
-rank_cmp = then_cmp (on (λ (r : Rank). not r.is_avoided) bool_cmp) (then_cmp (on is_sound bool_cmp)
-    (then_cmp (on (λ (r : Rank). r.fits) bool_cmp) (then_cmp (on (λ (r : Rank). not r.is_deprecated) bool_cmp)
-    (on (λ (r : Rank). r.version) version_cmp))))
+rank_cmp = then_cmp (on (λ (r : Rank). not r.is_avoided) bool_cmp)
+    (then_cmp (on (λ (r : Rank). not r.is_restricted) bool_cmp) (then_cmp (on (λ (r : Rank). not r.is_staged) bool_cmp)
+    (then_cmp (on is_sound bool_cmp) (then_cmp (on (λ (r : Rank). r.fits) bool_cmp)
+    (then_cmp (on (λ (r : Rank). not r.is_deprecated) bool_cmp) (on (λ (r : Rank). r.version) version_cmp))))))
 
 -- A version that can be picked for a range, and its rank: it is in the range and in time
 pub record IsRankOf (packument : Data) (options : Options) (range : List ℕ) (release : Release) (rank : Rank) : Type 0
@@ -76,6 +79,8 @@ pub record IsRankOf (packument : Data) (options : Options) (range : List ℕ) (r
     pub admitted : Admits of_dependencies range rank.version
     pub published : is_published options.before packument release.key ≡ true
     pub avoided : IsTrue rank.is_avoided ↔ IsAvoided (option_map (λ text. text.now) options.avoid) rank.version
+    pub restricted : rank.is_restricted ≡ is_restricted packument release.key
+    pub staged : rank.is_staged ≡ is_staged options.include_staged packument release.key
     pub deprecated : rank.is_deprecated ≡ is_deprecated release.manifest
     pub fitting : IsTrue rank.fits ↔ FitsEngines options release.manifest
 

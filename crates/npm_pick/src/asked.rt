@@ -14,22 +14,26 @@ use crate::member::is_true;
 use crate::options::Options;
 use node_semver::{Range, VersionRef};
 use npm_semver::NpmOptions;
-use serde_json::Value;
+use serde_json::{Map, Value};
 use std::alloc::{AllocError, Global};
 
 /// What is asked of the versions of a document: a range, and the options.
 #[derive(Drop)]
-pub(crate) struct Asked<'v> {
+pub(crate) struct Asked<'v, 'o> {
     pub(crate) packument: &'v Value,
-    pub(crate) options: &'v Options<'v>,
+    pub(crate) options: &'o Options<'o>,
     /// The text of the range.
-    pub(crate) range: &'v str,
+    pub(crate) range: &'o str,
     pub(crate) wanted: Range,
     /// `None` if no version is avoided.
     pub(crate) avoid: Option<Range>,
+    /// The versions that are staged, if they are asked for.
+    pub(crate) staged: Option<&'v Map<String, Value>>,
+    /// The versions that a policy restricts.
+    pub(crate) restricted: Option<&'v Map<String, Value>>,
 }
 
-impl<'v> Asked<'v> {
+impl<'v, 'o> Asked<'v, 'o> {
     /// Returns `true` if the version should be avoided.
     pub(crate) fn avoids(&self, version: &VersionRef<'_>) -> bool
         requires { IsRead self.now }

@@ -1,17 +1,150 @@
 //! The versions of a document that a mirror keeps.
+ghost use Rattle.std.specs.Prelude.{◌≡◌, ◌≢◌, ◌↔◌, ℕ, List, IfOk, OnOk, map, string_bytes};
+ghost use Rattle.std.specs.List.{All, Contains};
+ghost use Rattle.serde_json.specs.View.{view};
+ghost use Rattle.npm_pick.specs.Kept.{ArePicked, IsInOrder, IsKept};
+ghost use Rattle.npm_pick.specs.declared.error.PickError.TheVariants as Errors;
+ghost use Rattle.npm_pick.specs.Private.Keeping.{AreGathered, IsKeyRead, IsPickAdded, key_value, texts_of};
 
 use crate::Result;
+use crate::admitted::{Admitting, ranges_of};
+use crate::error::PickError;
+use crate::key::Key;
 use crate::options::Options;
+use crate::picked::pick;
 use serde_json::Value;
-use std::alloc::Global;
+use std::alloc::{AllocError, Global};
 
-/// Returns the versions that a mirror keeps for these texts.
+/// Returns the versions of a package that a mirror keeps for these texts, each a version, a tag or a range.
+///
+/// These are the versions that [`pick`] picks for the texts. With `all` they are also the versions in the range of one of
+/// the texts that were published in time and that no policy restricts. A text for which none is picked adds none, and so does
+/// one that is no range with `all`.
+///
+/// The keys are in the order of their versions. Equal versions are in the order of their bytes, and keys that are no
+/// versions, which only a tag can name, come first. No key is there twice.
+///
+/// `avoid` counts for what is picked alone: with `all` a version to avoid is kept if it is in a range.
+///
+/// # Errors
+///
+/// Only if an allocation fails.
+///
+/// # Memory
+///
+/// Allocates the list, the ranges of the texts, and what [`pick`] does. The keys borrow the document.
+///
+/// # Examples
+///
+/// Of 1.2.0, 1.3.0 and 2.0.0, where `latest` is 1.2.0, it keeps 1.2.0 and 2.0.0 for `^1`, `*` and `^2`. With `all` it keeps
+/// 1.2.0 and 1.3.0 for `^1`.
 pub fn keep<'v>(
     alloc: Global,
-    _packument: &'v Value,
-    _wanted: &[String],
-    _options: &Options<'_>,
-    _all: bool,
-) -> Result<Vec<&'v str>> {
-    Ok(Vec::new(alloc))
+    packument: &'v Value,
+    wanted: &[String],
+    options: &Options<'_>,
+    all: bool,
+) -> Result<Vec<&'v str>>
+    ensures { IfOk result (λ keys. IsKept (view packument.now) options.now all (map string_bytes wanted.now)
+        (map (λ key. key.now) keys.items)) }
+{
+    let keys = gathered(alloc, packument, wanted, options, all)?;
+    in_order(alloc, keys)
+}
+
+/// The keys that are picked and, if all are kept, those that are admitted.
+fn gathered<'v>(
+    alloc: Global,
+    packument: &'v Value,
+    wanted: &[String],
+    options: &Options<'_>,
+    all: bool,
+) -> Result<Vec<Key<'v>>>
+    ensures { IfOk result (λ keys. AreGathered (view packument.now) options.now all (map string_bytes wanted.now)
+        (map key_value keys.items)) }
+{
+    let keys = picked_keys(alloc, packument, wanted, options)?;
+    if !all {
+        return Ok(keys);
+    }
+    let asked = Admitting {
+        packument,
+        options,
+        ranges: ranges_of(alloc, wanted)?,
+    };
+    asked.with_all(keys)
+}
+
+/// The keys that are picked for the texts.
+fn picked_keys<'v>(
+    alloc: Global,
+    packument: &'v Value,
+    wanted: &[String],
+    options: &Options<'_>,
+) -> Result<Vec<Key<'v>>>
+    ensures picked { IfOk result (λ keys. ArePicked (view packument.now) options.now (map string_bytes wanted.now)
+        (texts_of (map key_value keys.items))) }
+    ensures read { IfOk result (λ keys. All IsKeyRead (map key_value keys.items)) }
+{
+    let mut keys = Vec::new(alloc);
+    for text in wanted {
+        push_picked(alloc, packument, text.as_str(), options, &mut keys)?;
+    }
+    Ok(keys)
+}
+
+/// Adds the key that is picked for a text, if there is one.
+fn push_picked<'v>(
+    alloc: Global,
+    packument: &'v Value,
+    wanted: &str,
+    options: &Options<'_>,
+    keys: &mut Vec<Key<'v>>,
+) -> Result<()>
+    ensures { OnOk result (IsPickAdded (view packument.now) options.now wanted.now (map key_value keys.old.items)
+        (map key_value keys.new.items)) }
+{
+    match pick(alloc, packument, wanted, options) {
+        Ok(picked) => {
+            keys.push(Key::of(picked.key))?;
+            Ok(())
+        }
+        Err(error) => {
+            unless_memory(error)?;
+            Ok(())
+        }
+    }
+}
+
+/// Fails if an allocation failed.
+fn unless_memory(error: PickError) -> Result<()>
+    ensures { OnOk result (error ≢ Errors.Memory) }
+{
+    match error {
+        PickError::Memory => Err(AllocError),
+        _ => Ok(()),
+    }
+}
+
+/// The texts of the keys in order, each once.
+fn in_order<'v>(alloc: Global, mut keys: Vec<Key<'v>>) -> Result<Vec<&'v str>>
+    requires { All IsKeyRead (map key_value keys.items) }
+    ensures ordered { IfOk result (λ texts. IsInOrder (map (λ text. text.now) texts.items)) }
+    ensures exact { IfOk result (λ texts. (key : List ℕ) → Contains (map (λ text. text.now) texts.items) key
+        ↔ Contains (texts_of (map key_value keys.entry.items)) key) }
+{
+    keys.sort_unstable();
+    keys.dedup();
+    texts_of_keys(alloc, &keys)
+}
+
+/// The texts of the keys.
+fn texts_of_keys<'v>(alloc: Global, keys: &[Key<'v>]) -> Result<Vec<&'v str>>
+    ensures { IfOk result (λ texts. map (λ text. text.now) texts.items ≡ texts_of (map key_value keys.now)) }
+{
+    let mut texts = Vec::new(alloc);
+    for key in keys {
+        texts.push(key.text)?;
+    }
+    Ok(texts)
 }

@@ -1,17 +1,21 @@
 //! The version of a package that npm would install: npm's `npm-pick-manifest`.
 //!
 //! [`pick`] reads the document of a package as a registry serves it, whole or abbreviated, and picks one of its versions.
+//! [`keep`] lists those that a mirror needs.
 #![tactic(auto)]
 
+mod admitted;
 mod asked;
 mod best;
 mod error;
 mod kept;
+mod key;
 mod member;
 mod options;
 mod picked;
 mod ranged;
 mod rank;
+mod strict;
 mod time;
 
 pub use error::PickError;

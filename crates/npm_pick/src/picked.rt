@@ -5,13 +5,14 @@ ghost use Rattle.serde_json.specs.View.{view};
 ghost use Rattle.node_semver.specs.Versions.{version_text, without_build};
 ghost use Rattle.npm_lock.specs.RangeText as RangeText;
 ghost use Rattle.npm_pick.specs.Pick as Picks;
-ghost use Rattle.npm_pick.specs.Pick.{IsAnswer, IsPicked, IsPickedAt, IsPickedByTag, answer_value};
+ghost use Rattle.npm_pick.specs.Pick.{IsAnswer, IsChosen, IsPicked, IsPickedAt, IsPickedByTag, IsPickedFor, answer_value};
 
 use crate::asked::{OF_DEPENDENCIES, range_of};
 use crate::error::PickError;
-use crate::member::tagged;
+use crate::member::{is_restricted, tagged};
 use crate::options::Options;
 use crate::ranged::{pick_at, pick_in};
+use crate::strict::pick_strictly;
 use crate::time::is_published;
 use node_semver::VersionRef;
 use npm_lock::installed_version;
@@ -21,9 +22,9 @@ use std::alloc::{AllocError, Global};
 /// The version that is picked.
 #[derive(Clone, Copy)]
 pub struct Picked<'v> {
-    /// The version, as it is written in `versions`.
+    /// The version, as it is written in the document.
     pub key: &'v str,
-    /// What stands for it in `versions`.
+    /// What stands for it in `versions`, or else in `stagedVersions`.
     pub manifest: &'v Value,
     /// It is in the range of the versions to avoid, and no other version was left. npm: `_shouldAvoid`.
     pub is_avoided: bool,
@@ -36,12 +37,16 @@ pub struct Picked<'v> {
 /// Picks the version of a package that npm would install for a version, a tag or a range.
 ///
 /// For a range it picks the version of the default tag, if that is in the range and in time, not to be avoided, not
-/// deprecated, and fits the versions of Node and npm. Else it picks the version with the highest rank. These count, the
-/// first most: not to be avoided; not to be deprecated and to fit; to fit; not to be deprecated; the order of versions. So
-/// a deprecated version is picked if no other version is in the range.
+/// restricted, not staged, not deprecated, and fits the versions of Node and npm. Else it picks the version with the highest
+/// rank. These count, the first most: not to be avoided; not to be restricted; not to be staged; not to be deprecated and to
+/// fit; to fit; not to be deprecated; the order of versions. So a deprecated version is picked if no other version is in
+/// the range.
 ///
 /// For a version or a tag only that version will do. If the version of a tag was published after `before`, the highest
 /// version at or below it is picked. The empty text is `*`.
+///
+/// With `avoid_strict` a version to avoid is not picked. In its place comes what is picked for `^` and that version, with
+/// `is_outside`, or else what is picked for `*`, also with `is_major`.
 ///
 /// # Errors
 ///
@@ -49,6 +54,8 @@ pub struct Picked<'v> {
 /// - `next`: `NoTag`, there is no such tag.
 /// - `1.2.3`: `NoVersion`, there is no such version, or it was published after `before`.
 /// - `^9`: `NoneInRange`, or `NoVersions` if no version at all was published in time.
+/// - `^1`: `Forbidden`, the version is one of `policyRestrictions`.
+/// - `^1` with `avoid_strict`: `Avoided`, each of the three versions is one to avoid.
 /// - any text: `Memory` if an allocation fails.
 ///
 /// # Memory
@@ -70,24 +77,46 @@ pub fn pick<'v>(
 ) -> Result<Picked<'v>, PickError>
     ensures { IsAnswer (IsPicked (view packument.now) options.now (RangeText.filled wanted.now)) (answer_value result) }
 {
-    pick_filled(alloc, packument, filled(wanted), options)
+    let picked = pick_chosen(alloc, packument, filled(wanted), options)?;
+    if is_restricted(packument, picked.key) {
+        Err(PickError::Forbidden)
+    } else {
+        Ok(picked)
+    }
+}
+
+/// Picks a version, whether a policy restricts it or not.
+fn pick_chosen<'v>(
+    alloc: Global,
+    packument: &'v Value,
+    wanted: &str,
+    options: &Options<'_>,
+) -> Result<Picked<'v>, PickError>
+    ensures { IsAnswer (IsChosen options.now.avoid_strict (view packument.now) options.now wanted.now)
+        (answer_value result) }
+{
+    if options.avoid_strict {
+        pick_strictly(alloc, packument, wanted, options)
+    } else {
+        pick_for(alloc, packument, wanted, options)
+    }
 }
 
 /// Returns the text, or `*` for the empty one.
-fn filled(wanted: &str) -> &str
+pub(crate) fn filled(wanted: &str) -> &str
     ensures { result.now ≡ RangeText.filled wanted.now }
 {
     if wanted.is_empty() { "*" } else { wanted }
 }
 
 /// Picks for a text that is a version, a range or a tag.
-fn pick_filled<'v>(
+pub(crate) fn pick_for<'v>(
     alloc: Global,
     packument: &'v Value,
     wanted: &str,
     options: &Options<'_>,
 ) -> Result<Picked<'v>, PickError>
-    ensures { IsAnswer (IsPicked (view packument.now) options.now wanted.now) (answer_value result) }
+    ensures { IsAnswer (IsPickedFor (view packument.now) options.now wanted.now) (answer_value result) }
 {
     if let Some(version) = installed_version(wanted) {
         return pick_version(alloc, packument, &version, options);

@@ -1,20 +1,22 @@
 //! What is picked for a range, and where only one version will do.
-ghost use Rattle.std.specs.Prelude.{◌≡◌, ◌↔◌, IfNone, IfOk, IfSome, IsTrue, option_map};
+ghost use Rattle.std.specs.Prelude.{◌≡◌, ◌↔◌, ◌&&◌, IfNone, IfOk, IfSome, IsTrue, option_map};
 ghost use Rattle.serde_json.specs.View.{members_view, view};
 ghost use Rattle.node_semver.specs.Ranges.{RangeAdmits};
 ghost use Rattle.node_semver.specs.Versions.{VersionValue};
 ghost use Rattle.npm_lock.specs.Verdict.{Admits, of_dependencies};
-ghost use Rattle.npm_pick.specs.Packument.{releases_among};
+ghost use Rattle.npm_pick.specs.Packument.{releases_among, releases_in};
 ghost use Rattle.npm_pick.specs.Pick as Picks;
-ghost use Rattle.npm_pick.specs.Pick.{IsAnswer, IsPickedAt, IsPickedIn, answer_value};
+ghost use Rattle.npm_pick.specs.Pick.{HasNoneInTime, IsAnswer, IsPickedAt, IsPickedIn, answer_value};
 ghost use Rattle.npm_pick.specs.Private.Ranking.{IsRead};
-ghost use Rattle.npm_pick.specs.Private.Picking.{IsDefaultOrNone, IsKeyAvoidedBy, IsRankedIn, HasSomeInTime};
+ghost use Rattle.npm_pick.specs.Private.Picking.{AreLate, IsDefaultOrNone, IsKeyAvoidedBy, IsRankedIn};
 
 use crate::Result;
 use crate::asked::{Asked, avoided, is_in};
 use crate::best::best_of;
 use crate::error::PickError;
-use crate::member::{has_true, release_at, tagged, versions_of};
+use crate::member::{
+    candidate_of, has_true, is_listed, release_in, restricted_of, staged_of, tagged, versions_of,
+};
 use crate::options::Options;
 use crate::picked::Picked;
 use crate::time::is_published;
@@ -35,7 +37,7 @@ pub(crate) fn pick_at<'v>(
     if !is_published(packument, options.before, key) {
         return Err(PickError::NoVersion);
     }
-    let Some((key, manifest)) = release_at(packument, key) else {
+    let Some((key, manifest)) = candidate_of(packument, options.include_staged, key) else {
         return Err(PickError::NoVersion);
     };
     let avoid = avoided(alloc, options.avoid)?;
@@ -75,31 +77,26 @@ pub(crate) fn pick_in<'v>(
         range: text,
         wanted: range,
         avoid: avoided(alloc, options.avoid)?,
+        staged: staged_of(packument, options.include_staged),
+        restricted: restricted_of(packument),
     };
-    if let Some(picked) = default_of(alloc, packument, &asked)? {
-        return Ok(picked);
+    match default_of(alloc, &asked)? {
+        Some(picked) => Ok(picked),
+        None => pick_ranked(alloc, &asked),
     }
-    let Some(versions) = versions_of(packument) else {
-        return Err(PickError::NoVersions);
-    };
-    pick_ranked(alloc, &asked, versions)
 }
 
 /// The version of the default tag, if it is picked.
-fn default_of<'v>(
-    alloc: Global,
-    packument: &'v Value,
-    asked: &Asked<'_>,
-) -> Result<Option<Picked<'v>>>
-    requires read { IsRead asked.now }
-    requires same { view packument.now ≡ view asked.now.packument.now }
-    ensures { IfOk result (λ picked. IsDefaultOrNone (view packument.now) asked.now.options.now asked.now.range.now
-        (option_map Picks.picked_value picked)) }
+fn default_of<'v>(alloc: Global, asked: &Asked<'v, '_>) -> Result<Option<Picked<'v>>>
+    requires { IsRead asked.now }
+    ensures { IfOk result (λ picked. IsDefaultOrNone (view asked.now.packument.now) asked.now.options.now
+        asked.now.range.now (option_map Picks.picked_value picked)) }
 {
+    let packument = asked.packument;
     let Some(key) = tagged(packument, asked.options.default_tag) else {
         return Ok(None);
     };
-    let Some((key, manifest)) = release_at(packument, key) else {
+    let Some((key, manifest)) = release_in(versions_of(packument), key) else {
         return Ok(None);
     };
     if !is_suitable(alloc, asked, key, manifest)? {
@@ -115,7 +112,7 @@ fn default_of<'v>(
 }
 
 /// Returns `true` if the version is picked if the default tag names it.
-fn is_suitable(alloc: Global, asked: &Asked<'_>, key: &str, manifest: &Value) -> Result<bool>
+fn is_suitable(alloc: Global, asked: &Asked<'_, '_>, key: &str, manifest: &Value) -> Result<bool>
     requires { IsRead asked.now }
     ensures { IfOk result (λ suitable. IsTrue suitable ↔ Picks.IsSuitable (view asked.now.packument.now)
         asked.now.options.now asked.now.range.now key.now (view manifest.now)) }
@@ -129,6 +126,12 @@ fn is_suitable(alloc: Global, asked: &Asked<'_>, key: &str, manifest: &Value) ->
     if is_key_avoided(&asked.avoid, key) {
         return Ok(false);
     }
+    if is_listed(asked.restricted, key) {
+        return Ok(false);
+    }
+    if is_listed(asked.staged, key) {
+        return Ok(false);
+    }
     if has_true(manifest, "deprecated") {
         return Ok(false);
     }
@@ -136,7 +139,7 @@ fn is_suitable(alloc: Global, asked: &Asked<'_>, key: &str, manifest: &Value) ->
 }
 
 /// Returns `true` if the key is a version in the range, or if the range is `*`.
-fn is_in_range(asked: &Asked<'_>, key: &str) -> bool
+fn is_in_range(asked: &Asked<'_, '_>, key: &str) -> bool
     requires { IsRead asked.now }
     ensures { IsTrue result ↔ Picks.IsInRange asked.now.range.now key.now }
 {
@@ -150,16 +153,12 @@ fn is_in_range(asked: &Asked<'_>, key: &str) -> bool
 }
 
 /// Picks the version with the highest rank.
-fn pick_ranked<'v>(
-    alloc: Global,
-    asked: &Asked<'_>,
-    versions: &'v Map<String, Value>,
-) -> Result<Picked<'v>, PickError>
+fn pick_ranked<'v>(alloc: Global, asked: &Asked<'v, '_>) -> Result<Picked<'v>, PickError>
     requires { IsRead asked.now }
-    ensures { IsAnswer (IsRankedIn (view asked.now.packument.now) asked.now.options.now asked.now.range.now
-        (releases_among (members_view versions.now.entries))) (answer_value result) }
+    ensures { IsAnswer (IsRankedIn (view asked.now.packument.now) asked.now.options.now asked.now.range.now)
+        (answer_value result) }
 {
-    match best_of(alloc, asked, versions)? {
+    match best_of(alloc, asked)? {
         Some(best) => Ok(Picked {
             key: best.key,
             manifest: best.manifest,
@@ -167,20 +166,47 @@ fn pick_ranked<'v>(
             is_outside: false,
             is_major: false,
         }),
-        None if has_some_in_time(asked, versions) => Err(PickError::NoneInRange),
-        None => Err(PickError::NoVersions),
+        None if has_none_in_time(asked) => Err(PickError::NoVersions),
+        None => Err(PickError::NoneInRange),
     }
 }
 
-/// Returns `true` if some version was published in time.
-fn has_some_in_time(asked: &Asked<'_>, versions: &Map<String, Value>) -> bool
-    ensures { IsTrue result ↔ HasSomeInTime (view asked.now.packument.now) asked.now.options.now
+/// Returns `true` if no version was published in time.
+fn has_none_in_time(asked: &Asked<'_, '_>) -> bool
+    requires { IsRead asked.now }
+    ensures { IsTrue result ↔ HasNoneInTime (view asked.now.packument.now) asked.now.options.now }
+{
+    let versions = are_late(asked, versions_of(asked.packument));
+    let staged = are_late(asked, asked.staged);
+    let restricted = are_late(asked, asked.restricted);
+    are_true(versions, staged, restricted)
+}
+
+fn are_true(first: bool, second: bool, third: bool) -> bool
+    ensures { result ≡ ((first && second) && third) }
+{
+    first && second && third
+}
+
+/// Returns `true` if all of these were published too late.
+fn are_late(asked: &Asked<'_, '_>, listed: Option<&Map<String, Value>>) -> bool
+    ensures { IsTrue result ↔ AreLate (view asked.now.packument.now) asked.now.options.now
+        (releases_in (option_map (λ members. members_view members.now.entries) listed.entry)) }
+{
+    match listed {
+        Some(versions) => are_all_late(asked, versions),
+        None => true,
+    }
+}
+
+fn are_all_late(asked: &Asked<'_, '_>, versions: &Map<String, Value>) -> bool
+    ensures { IsTrue result ↔ AreLate (view asked.now.packument.now) asked.now.options.now
         (releases_among (members_view versions.now.entries)) }
 {
     for (key, _) in versions.iter() {
         if is_published(asked.packument, asked.options.before, key.as_str()) {
-            return true;
+            return false;
         }
     }
-    false
+    true
 }

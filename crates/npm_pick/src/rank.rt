@@ -7,7 +7,7 @@ ghost use Rattle.npm_pick.specs.Private.Ranking.{IsRead, rank_value};
 
 use crate::Result;
 use crate::asked::Asked;
-use crate::member::has_true;
+use crate::member::{has_true, is_listed};
 use crate::time::is_published;
 use node_semver::{OrderedVersion, VersionRef};
 use npm_lock::installed_version;
@@ -19,6 +19,8 @@ use std::cmp::Ordering;
 #[derive(Drop)]
 pub(crate) struct Rank<'v> {
     pub(crate) is_avoided: bool,
+    pub(crate) is_restricted: bool,
+    pub(crate) is_staged: bool,
     pub(crate) is_deprecated: bool,
     /// The versions of Node and npm fit its `engines`.
     pub(crate) fits: bool,
@@ -34,8 +36,10 @@ impl<'v> Rank<'v> {
         let lasting = (!self.is_deprecated).cmp(&!other.is_deprecated);
         let fits = self.fits.cmp(&other.fits);
         let sound = self.is_sound().cmp(&other.is_sound());
+        let whole = (!self.is_staged).cmp(&!other.is_staged);
+        let allowed = (!self.is_restricted).cmp(&!other.is_restricted);
         let kept = (!self.is_avoided).cmp(&!other.is_avoided);
-        kept.then(sound.then(fits.then(lasting.then(version))))
+        kept.then(allowed.then(whole.then(sound.then(fits.then(lasting.then(version))))))
     }
 
     fn is_sound(&self) -> bool
@@ -48,7 +52,7 @@ impl<'v> Rank<'v> {
 /// The rank of a version of the document, or `None` if it cannot be picked for the range.
 pub(crate) fn rank_of<'v>(
     alloc: Global,
-    asked: &Asked<'_>,
+    asked: &Asked<'_, '_>,
     key: &'v str,
     manifest: &Value,
 ) -> Result<Option<Rank<'v>>>
@@ -71,6 +75,8 @@ pub(crate) fn rank_of<'v>(
     let fits = asked.fits(alloc, manifest)?;
     Ok(Some(Rank {
         is_avoided: asked.avoids(&version),
+        is_restricted: is_listed(asked.restricted, key),
+        is_staged: is_listed(asked.staged, key),
         is_deprecated: has_true(manifest, "deprecated"),
         fits,
         version,

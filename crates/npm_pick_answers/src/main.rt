@@ -1,8 +1,10 @@
 //! Picks versions of documents, for `.ci/npm_pick`, which compares them with those that npm picks.
 //!
 //! Each line of the input is a JSON object with the members `packument` and `wanted`, and maybe `tag`, `before`, `avoid`,
-//! `node` and `npm`, which are texts. The program writes a line for each: the key that is picked, `*` before one that
-//! should be avoided, or `!` and the name of the error. It exits with status 2 if it cannot answer.
+//! `node` and `npm`, which are texts, and `avoidStrict` and `includeStaged`, which are `true` or `false`. The program writes
+//! a line for each: the key that is picked, or `!` and the name of the error. Before the key is `*` if it should be
+//! avoided, `>` if it is outside what was wanted, and `>>` if all versions were tried. It exits with status 2 if it cannot
+//! answer.
 #![tactic(auto)]
 
 use jiff::Timestamp;
@@ -33,11 +35,20 @@ fn write_answers(rt: &HostRuntime) -> anyhow::Result<()> {
 
 fn write_answer(rt: &HostRuntime, answer: Result<Picked<'_>, PickError>) -> anyhow::Result<()> {
     match answer {
-        Ok(picked) if picked.is_avoided => println!(rt; "*{}", picked.key)?,
-        Ok(picked) => println!(rt; "{}", picked.key)?,
+        Ok(picked) => println!(rt; "{}{}", mark_of(&picked), picked.key)?,
         Err(error) => println!(rt; "!{error:?}")?,
     }
     Ok(())
+}
+
+fn mark_of(picked: &Picked<'_>) -> &'static str {
+    match (picked.is_avoided, picked.is_outside, picked.is_major) {
+        (false, false, false) => "",
+        (true, false, false) => "*",
+        (false, true, false) => ">",
+        (false, true, true) => ">>",
+        _ => "?",
+    }
 }
 
 /// What is picked for a case.
@@ -49,8 +60,8 @@ fn answer_of(alloc: Global, case: &Value) -> Result<Picked<'_>, PickError> {
         default_tag: text_of(case, "tag").unwrap_or("latest"),
         before: text_of(case, "before").and_then(time_of),
         avoid: text_of(case, "avoid"),
-        avoid_strict: false,
-        include_staged: false,
+        avoid_strict: is_set(case, "avoidStrict"),
+        include_staged: is_set(case, "includeStaged"),
         node: text_of(case, "node").and_then(version_of),
         npm: text_of(case, "npm").and_then(version_of),
     };
@@ -64,6 +75,10 @@ fn answer_of(alloc: Global, case: &Value) -> Result<Picked<'_>, PickError> {
 
 fn text_of<'v>(case: &'v Value, key: &str) -> Option<&'v str> {
     case.get(key)?.as_str()
+}
+
+fn is_set(case: &Value, key: &str) -> bool {
+    case.get(key).and_then(Value::as_bool).unwrap_or(false)
 }
 
 fn version_of(text: &str) -> Option<VersionRef<'_>> {

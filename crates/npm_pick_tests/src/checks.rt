@@ -9,6 +9,8 @@ use std::alloc::Global;
 pub(crate) struct Asks {
     pub(crate) before: &'static str,
     pub(crate) avoid: &'static str,
+    pub(crate) avoid_strict: bool,
+    pub(crate) include_staged: bool,
     pub(crate) node: &'static str,
     pub(crate) npm: &'static str,
 }
@@ -16,6 +18,8 @@ pub(crate) struct Asks {
 pub(crate) const NOTHING: Asks = Asks {
     before: "",
     avoid: "",
+    avoid_strict: false,
+    include_staged: false,
     node: "",
     npm: "",
 };
@@ -34,7 +38,7 @@ fn time_of(text: &str) -> Option<Timestamp> {
     }
 }
 
-fn options_of(asks: Asks) -> Options<'static> {
+pub(crate) fn options_of(asks: Asks) -> Options<'static> {
     Options {
         default_tag: "latest",
         before: time_of(asks.before),
@@ -43,18 +47,28 @@ fn options_of(asks: Asks) -> Options<'static> {
         } else {
             Some(asks.avoid)
         },
-        avoid_strict: false,
-        include_staged: false,
+        avoid_strict: asks.avoid_strict,
+        include_staged: asks.include_staged,
         node: version_of(asks.node),
         npm: version_of(asks.npm),
     }
 }
 
-// The key that is picked, with ` avoided` after one that should be avoided, or the name of the error.
+// What is told of the version that is picked, as a word after its key.
+fn mark_of(picked: &Picked<'_>) -> &'static str {
+    match (picked.is_avoided, picked.is_outside, picked.is_major) {
+        (false, false, false) => "",
+        (true, false, false) => " avoided",
+        (false, true, false) => " outside",
+        (false, true, true) => " major",
+        _ => " odd",
+    }
+}
+
+// The key that is picked, with its mark, or the name of the error.
 fn answer_text(alloc: Global, answer: Result<Picked<'_>, PickError>) -> Option<String> {
     match answer {
-        Ok(picked) if picked.is_avoided => format!(in alloc; "{} avoided", picked.key).ok(),
-        Ok(picked) => format!(in alloc; "{}", picked.key).ok(),
+        Ok(picked) => format!(in alloc; "{}{}", picked.key, mark_of(&picked)).ok(),
         Err(error) => format!(in alloc; "{error:?}").ok(),
     }
 }

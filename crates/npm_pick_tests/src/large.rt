@@ -1,4 +1,6 @@
-use crate::checks::{NOTHING, picks};
+use crate::checks::{NOTHING, options_of, picks};
+use npm_pick::keep;
+use serde_json::Value;
 use std::alloc::{AllocError, Global};
 
 // A document of so many versions, 1.0.0 and above.
@@ -26,4 +28,22 @@ fn picks_the_greatest(alloc: Global) -> bool {
 #[test]
 fn picks_of_many_versions_with_ample_memory(rt: HostRuntime) {
     assert!(rt; picks_the_greatest(rt.alloc()));
+}
+
+// How many keys are kept for `^1.0.7` and `<1`.
+fn kept_count(alloc: Global, all: bool) -> Result<usize, AllocError> {
+    let Ok(packument) = &Value::from_str(alloc, document(alloc, 4_000)?.as_str()) else {
+        return Ok(0);
+    };
+    let mut texts = Vec::new(alloc);
+    texts.push(String::from_str(alloc, "^1.0.7")?)?;
+    texts.push(String::from_str(alloc, "<1")?)?;
+    Ok(keep(alloc, packument, &texts, &options_of(NOTHING), all)?.len())
+}
+
+// A body that always gave up for want of memory would be proved: there is enough here.
+#[test]
+fn keeps_many_versions_with_ample_memory(rt: HostRuntime) {
+    assert_eq!(rt; kept_count(rt.alloc(), false).ok(), Some(2));
+    assert_eq!(rt; kept_count(rt.alloc(), true).ok(), Some(3_994));
 }

@@ -7,8 +7,8 @@ use Rattle.node_semver.specs.RangeAlgebra.{sets_of_answer}
 use Rattle.node_semver.specs.Ranges.{RangeContains}
 use Rattle.node_semver.specs.Versions.{VersionValue}
 use Rattle.npm_lock.specs.InstalledVersions.{IsInstalledVersion}
-use Rattle.npm_pick.specs.Packument.{Release}
-use Rattle.npm_pick.specs.Pick.{HasNoDefault, IsDefault, PickedValue}
+use Rattle.npm_pick.specs.Packument.{Release, candidates_of}
+use Rattle.npm_pick.specs.Pick.{HasNoDefault, HasNoneInTime, IsDefault, PickedValue, inside}
 use Rattle.npm_pick.specs.Rank.{HasNone, IsBest, Rank}
 use Rattle.npm_pick.specs.Times.{is_published}
 use Rattle.npm_pick.specs.declared.error.PickError.{PickError}
@@ -23,24 +23,21 @@ IsKeyAvoidedBy range key = (v : VersionValue) × IsInstalledVersion key v × Ran
 abbrev pub IsDefaultOrNone : (packument : Data) → Options → (range : List ℕ) → Option PickedValue → Type 0
 IsDefaultOrNone packument options range None = HasNoDefault packument options range
 IsDefaultOrNone packument options range (Some picked) =
-    IsDefault packument options range picked.key picked.manifest × (picked.is_avoided ≡ false)
+    IsDefault packument options range picked.key picked.manifest
+    × (picked.is_avoided ≡ false) × (picked.is_outside ≡ false) × (picked.is_major ≡ false)
 
 -- none of these was published in time
 abbrev pub AreLate : (packument : Data) → Options → List Release → Type 0
 AreLate packument options releases =
     AllByRecursion (λ (release : Release). is_published options.before packument release.key ≡ false) releases
 
--- one of these was published in time
-abbrev pub HasSomeInTime : (packument : Data) → Options → List Release → Type 0
-HasSomeInTime packument options releases = ¬ AreLate packument options releases
-
--- what is picked by rank of these releases
-pub data IsRankedIn (packument : Data) (options : Options) (range : List ℕ) (releases : List Release)
+-- what is picked by rank
+pub data IsRankedIn (packument : Data) (options : Options) (range : List ℕ)
     : Result PickedValue PickError → Type 0 where
-  best : (best : Release) (rank : Rank) → IsBest packument options range releases best rank
-      → IsRankedIn packument options range releases
-      (Ok (record { key = best.key; manifest = best.manifest; is_avoided = rank.is_avoided }))
-  late : AreLate packument options releases
-      → IsRankedIn packument options range releases (Err Errors.NoVersions)
-  none : HasSomeInTime packument options releases → HasNone packument options range releases
-      → IsRankedIn packument options range releases (Err Errors.NoneInRange)
+  best : (best : Release) (rank : Rank)
+      → IsBest packument options range (candidates_of options.include_staged packument) best rank
+      → IsRankedIn packument options range (Ok (inside best.key best.manifest rank.is_avoided))
+  late : HasNoneInTime packument options → IsRankedIn packument options range (Err Errors.NoVersions)
+  none : ¬ HasNoneInTime packument options
+      → HasNone packument options range (candidates_of options.include_staged packument)
+      → IsRankedIn packument options range (Err Errors.NoneInRange)

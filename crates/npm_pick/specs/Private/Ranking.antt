@@ -3,12 +3,12 @@ use Rattle.std.specs.Prelude.{◌≡◌, ◌≢◌, ◌↔◌, ◌⊎◌, ◌++�
 use Rattle.std.specs.declared.cmp.Ordering.TheVariants.{Less}
 use Rattle.semver_cuts.specs.Ends.{Ends}
 use Rattle.serde_json.specs.Data.{Data, Members}
-use Rattle.serde_json.specs.View.{view}
+use Rattle.serde_json.specs.View.{members_view, view}
 use Rattle.node_semver.specs.RangeAlgebra.{sets_of_answer}
 use Rattle.node_semver.specs.Ranges.{RangeAdmits, RangeContains}
 use Rattle.node_semver.specs.Versions.{VersionValue}
 use Rattle.npm_lock.specs.Verdict.{Admits, of_dependencies}
-use Rattle.npm_pick.specs.Packument.{Release, releases_among}
+use Rattle.npm_pick.specs.Packument.{Release, releases_among, restricted_of, staged_of}
 use Rattle.npm_pick.specs.Rank as Ranks
 use Rattle.npm_pick.specs.Rank.{HasNone, IsAvoided, IsBest, rank_cmp}
 use Rattle.npm_pick.specs.declared.asked.Asked.{Asked}
@@ -20,6 +20,8 @@ use Rattle.npm_pick.specs.declared.rank.Rank.{Rank}
 abbrev pub rank_value : Rank → Ranks.Rank
 rank_value rank = record {
   is_avoided = rank.is_avoided;
+  is_restricted = rank.is_restricted;
+  is_staged = rank.is_staged;
   is_deprecated = rank.is_deprecated;
   fits = rank.fits;
   version = rank.version;
@@ -29,10 +31,14 @@ rank_value rank = record {
 abbrev pub IsAvoidRead : Option (List ℕ) → Option (List (Ends VersionValue)) → Type 0
 IsAvoidRead text range = (v : VersionValue) → RangeContains (sets_of_answer range) v ↔ IsAvoided text v
 
--- the ranges are those of their texts
+-- the ranges are those of their texts, and the lists are those of the document
 pub record IsRead (asked : Asked) : Type 0 where
   pub wanted : (v : VersionValue) → RangeAdmits asked.wanted v ↔ Admits of_dependencies asked.range.now v
   pub avoid : IsAvoidRead (option_map (λ text. text.now) asked.options.now.avoid) asked.avoid
+  pub staged : option_map (λ members. members_view members.now.entries) asked.staged
+      ≡ staged_of asked.options.now.include_staged (view asked.packument.now)
+  pub restricted : option_map (λ members. members_view members.now.entries) asked.restricted
+      ≡ restricted_of (view asked.packument.now)
 
 -- the release that was found
 abbrev pub release_of : Found → Release
@@ -44,12 +50,19 @@ IsBestOrNone packument options range releases None = HasNone packument options r
 IsBestOrNone packument options range releases (Some found) =
     IsBest packument options range releases (release_of found) (rank_value found.rank)
 
+-- the best of any releases and of these was found, where the best of the former is given
+abbrev pub IsBestWith : (packument : Data) → Options → (range : List ℕ) → (best : Option Found) → List Release
+    → Option Found → Type 0
+IsBestWith packument options range best releases found = (before : List Release)
+    → IsBestOrNone packument options range before best
+    → IsBestOrNone packument options range (before ++ releases) found
+
 -- the best of those releases that are done was found; the others are left
-pub record IsBestSoFar (packument : Data) (options : Options) (range : List ℕ) (all left : Members)
+pub record IsBestSoFar (packument : Data) (options : Options) (range : List ℕ) (all : List Release) (left : Members)
     (best : Option Found)
     : Type 0 where
   pub done : List Release
-  pub parts : releases_among all ≡ done ++ releases_among left
+  pub parts : all ≡ done ++ releases_among left
   pub found : IsBestOrNone packument options range done best
 
 -- the next one if its rank is higher, or if it is the first

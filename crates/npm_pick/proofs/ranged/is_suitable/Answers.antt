@@ -12,6 +12,8 @@ returns c =
         admitted = c.is_in_range.ensures.0 c.if-not-is_in_range.false;
         published = sym c.is_published.ensures ∙ c.if-not-is_published.false;
         kept = kept;
+        allowed = rw c.requires.restricted at (sym c.is_listed.ensures ∙ c.if-is_listed.false);
+        whole = rw c.requires.staged at (sym c.is_listed-2.ensures ∙ c.if-is_listed-2.false);
         lasting = sym c.has_true.ensures ∙ c.if-has_true.false;
         fitting = fits.0 yes;
       }),

@@ -27,6 +27,8 @@ returns-clause-found c = record {
   admitted = (c.requires.wanted c.in-Some.version).0 (c.satisfies.ensures.0 c.if-not-satisfies.false);
   published = sym c.is_published.ensures ∙ c.if-not-is_published.false;
   avoided = c.avoids.ensures;
+  restricted = rw c.requires.restricted at c.is_listed.ensures;
+  staged = rw c.requires.staged at c.is_listed-2.ensures;
   deprecated = c.has_true.ensures;
   fitting = c.in_ok-fits.ensures;
 }

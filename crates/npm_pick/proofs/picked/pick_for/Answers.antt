@@ -1,7 +1,7 @@
 -- The text is a version, a range, a tag or none of these.
 use Rattle.std.proofs.Common.{◌∙◌, inl, inr, sym}
 use Rattle.npm_pick.specs.Pick.{answer_value, range, refused, tag, version}
-use Rattle.npm_pick.proofs.picked.pick_filled.Goals as goal
+use Rattle.npm_pick.proofs.picked.pick_for.Goals as goal
 
 pub returns-in-Some : goal.returns-in-Some
 returns-in-Some c = elim c.pick_version.ensures [

@@ -3,7 +3,7 @@ use Rattle.std.proofs.Common.{◌↔◌}
 use Rattle.serde_json.specs.View.{members_view, view}
 use Rattle.npm_pick.specs.Packument.{releases_among}
 use Rattle.npm_pick.specs.Private.Picking.{AreLate}
-use Rattle.npm_pick.proofs.ranged.has_some_in_time.Given as goal
+use Rattle.npm_pick.proofs.ranged.are_all_late.Given as goal
 
 abbrev pub invariant-loop-key : goal.invariant-loop-key
 invariant-loop-key l =

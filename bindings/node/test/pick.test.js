@@ -38,13 +38,14 @@ function outcome(call, document, ...rest) {
 const keysOf = (packument) => [packument.versions, packument.stagedVersions?.versions, packument.policyRestrictions?.versions]
     .flatMap((versions) => Object.keys(versions ?? {}));
 
-// Where the two differ, as the table of crates/npm_pick/README.md has it.
+// Where the two differ, as the table of crates/npm_pick/README.md has it. If no version can take the place of one to avoid, npm
+// returns an object that has the marks alone.
 const RULES = {
     'equal versions': ([packument]) => {
         const keys = keysOf(packument).filter((key) => semver.valid(key, true)).sort(semver.compareLoose);
         return keys.some((key, i) => i > 0 && semver.compareLoose(keys[i - 1], key) === 0);
     },
-    'a late tag of no version': ([packument, wanted]) => wanted !== 'latest' && !semver.valid(packument['dist-tags']?.[wanted]),
+    'no release beside those to avoid': (question, { manifest }) => manifest?._isSemVerMajor && manifest.version === undefined,
 };
 
 test(`${CASES} made documents: npm picks the same`, () => {
@@ -56,7 +57,7 @@ test(`${CASES} made documents: npm picks the same`, () => {
         const [npm, here] = [outcome(npmPick, ...question), outcome(pick, ...question)];
         thrown += Number('thrown' in npm);
         if (!isDeepStrictEqual(npm, here)) {
-            const rule = Object.keys(RULES).find((name) => RULES[name](question));
+            const rule = Object.keys(RULES).find((name) => RULES[name](question, npm));
             assert.ok(rule, `${JSON.stringify(question)}\nnpm: ${JSON.stringify(npm)}\nhere: ${JSON.stringify(here)}`);
             covered[rule] = (covered[rule] ?? 0) + 1;
         }

@@ -25,8 +25,8 @@ DOCUMENT: Dict[str, Any] = {
     },
     "time": {"1.3.0": "2021-01-01T00:00:00.000Z", "2.0.0": "2022-01-01T00:00:00.000Z", "2.1.0": "2023-01-01T00:00:00.000Z"},
 }
-STAGED = {"stagedVersions": {"versions": {"1.0.0": {}}}}
-RESTRICTED = {"policyRestrictions": {"versions": {"1.0.0": {}}, "message": "no"}}
+STAGED: Dict[str, Any] = {"stagedVersions": {"versions": {"1.0.0": {}}}}
+RESTRICTED: Dict[str, Any] = {"policyRestrictions": {"versions": {"1.0.0": {}}, "message": "no"}}
 
 # A document, what is wanted, options, and the version with `!` if it is one to avoid, `^` if it is outside and `*` if it was
 # picked of all; or npm's code and the kind of the error.
@@ -106,7 +106,8 @@ class Pick(unittest.TestCase):
             pick("{}", "gone")
 
     def test_texts_that_cannot_be_read(self) -> None:
-        for document in ("", "[", b"", b"\xff", b'"\xff"', "{} x", '"\\ud800"', "[" * 1000):
+        texts: List[Any] = ["", "[", b"", b"\xff", b'"\xff"', "{} x", '"\\ud800"', "[" * 1000]
+        for document in texts:
             with self.subTest(document=document), self.assertRaises(ValueError):
                 pick(document, "*")
         options: List[Dict[str, Any]] = [
@@ -114,14 +115,16 @@ class Pick(unittest.TestCase):
             {"npm": "next"}, {"default_tag": "\ud800"}, {"avoid": "\udfff"}, {"wanted": "\ud800"},
         ]  # fmt: skip
         for given in options:
+            asked: Dict[str, Any] = {"wanted": "*", **given}
             with self.subTest(**given), self.assertRaises(ValueError):
-                pick(DOCUMENT, **{"wanted": "*", **given})
+                pick(DOCUMENT, **asked)
 
     def test_arguments_of_other_types(self) -> None:
         wrong: List[Any] = [7, 1.5, [], object(), b"*", True]
-        for document in [None, 7, [], object(), bytearray(b"{}")]:
+        documents: List[Any] = [None, 7, [], object(), bytearray(b"{}")]
+        for document in documents:
             with self.subTest(document=document), self.assertRaises(TypeError):
-                pick(document, "*")  # type: ignore[arg-type]
+                pick(document, "*")
         for value in wrong:
             for name in ("wanted", "default_tag", "avoid", "before", "node", "npm"):
                 with self.subTest(name=name, value=value), self.assertRaises(TypeError):

@@ -62,6 +62,8 @@ class Typing(unittest.TestCase):
             file.write("node_semver.Bump\nnode_semver._types.Bump\n")
             file.write("node_semver.BumpFault\nnode_semver._error.BumpFault\n")
             file.write("node_semver.ReleaseType\nnode_semver._types.ReleaseType\n")
+            for name in ("PickCode", "PickFault"):
+                file.write(f"node_semver.{name}\nnode_semver._picking.{name}\n")
             file.flush()
             self.accepts("mypy.stubtest", "node_semver", "--allowlist", file.name, "--ignore-unused-allowlist")
 

@@ -1,10 +1,11 @@
 # SPDX-License-Identifier: Apache-2.0
 """The version of a package that npm would install. The native part is loaded by the first call."""
 
+import collections.abc
+import datetime
 import json
-from collections.abc import Mapping
-from datetime import datetime
-from typing import Any, Literal, NamedTuple
+import typing
+from typing import Any, Literal
 
 PickFault = Literal["Wanted", "NoTag", "NoVersion", "NoVersions", "NoneInRange", "Forbidden", "Avoided"]
 
@@ -38,7 +39,7 @@ _OF_MANIFEST = ("deprecated", "engines")
 _OF_DOCUMENT = ("dist-tags", "time")
 
 
-class Picked(NamedTuple):
+class Picked(typing.NamedTuple):
     """The version that is picked.
 
     >>> pick({'versions': {'1.2.0': {}, '2.0.0': {}}}, '^1')
@@ -87,32 +88,32 @@ Picked.__module__ = PickError.__module__ = "node_semver"
 
 
 def _manifest(manifest: Any) -> Any:
-    if not isinstance(manifest, Mapping):
+    if not isinstance(manifest, collections.abc.Mapping):
         return manifest
     return {member: manifest[member] for member in _OF_MANIFEST if member in manifest}
 
 
 def _versions(versions: Any) -> Any:
-    if not isinstance(versions, Mapping):
+    if not isinstance(versions, collections.abc.Mapping):
         return versions
     return {key: _manifest(manifest) for key, manifest in versions.items()}
 
 
-def _document(packument: Mapping[str, Any]) -> str:
+def _document(packument: collections.abc.Mapping[str, Any]) -> str:
     """The JSON of what is read of a document."""
     document = {member: packument[member] for member in _OF_DOCUMENT if member in packument}
     document["versions"] = _versions(packument.get("versions"))
     for member in ("stagedVersions", "policyRestrictions"):
         value = packument.get(member)
-        if isinstance(value, Mapping):
+        if isinstance(value, collections.abc.Mapping):
             document[member] = {"versions": _versions(value.get("versions"))}
     return json.dumps(document)
 
 
-def _time(before: datetime | str | None) -> str:
+def _time(before: datetime.datetime | str | None) -> str:
     if before is None:
         return ""
-    if not isinstance(before, datetime):
+    if not isinstance(before, datetime.datetime):
         return before
     if before.tzinfo is None:
         raise ValueError("before must have a time zone")
@@ -126,11 +127,11 @@ def _text(text: str | None, name: str) -> str:
 
 
 def pick(
-    packument: Mapping[str, Any] | str | bytes,
+    packument: collections.abc.Mapping[str, Any] | str | bytes,
     wanted: str = "",
     *,
     default_tag: str = "latest",
-    before: datetime | str | None = None,
+    before: datetime.datetime | str | None = None,
     avoid: str | None = None,
     avoid_strict: bool = False,
     include_staged: bool = False,
@@ -152,9 +153,9 @@ def pick(
     """
     from . import _pick
 
-    if not isinstance(packument, (Mapping, str, bytes)):
+    if not isinstance(packument, (collections.abc.Mapping, str, bytes)):
         raise TypeError("a packument must be a dict, a str or bytes")
-    document = _document(packument) if isinstance(packument, Mapping) else packument
+    document = _document(packument) if isinstance(packument, collections.abc.Mapping) else packument
     asked = _text(wanted, "wanted")
     texts = (_text(default_tag, "default_tag"), _text(avoid, "avoid"), _text(_time(before), "before"),
              _text(node, "node"), _text(npm, "npm"))  # fmt: skip
@@ -163,5 +164,5 @@ def pick(
         return Picked(*answer)
     if answer in _REFUSED:
         raise ValueError(_REFUSED[answer])
-    name = packument.get("name") if isinstance(packument, Mapping) else None
+    name = packument.get("name") if isinstance(packument, collections.abc.Mapping) else None
     raise PickError(name if isinstance(name, str) else "", asked, _KINDS[answer])

@@ -98,7 +98,7 @@ static int fail(struct cursor *cursor, const struct failure *failure) {
     tell_failure(failure, reason, sizeof reason);
     sqlite3_free(cursor->base.pVtab->zErrMsg);
     cursor->base.pVtab->zErrMsg = sqlite3_mprintf("semver_intervals: %s", reason);
-    return SQLITE_ERROR;
+    return cursor->base.pVtab->zErrMsg == NULL ? SQLITE_NOMEM : SQLITE_ERROR;
 }
 
 /* No range and NULL have no interval. */

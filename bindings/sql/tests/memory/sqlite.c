@@ -1,8 +1,8 @@
 /* SPDX-License-Identifier: Apache-2.0 */
 /*
  * Runs statements in SQLite with the extension, and refuses each request for memory of each statement in turn: it alone, and
- * it with all later ones. SQLite must say that memory is out, or give the right result, and what a statement was given must
- * be back at its end. Then a range of a million alternatives is asked for.
+ * it with all later ones. SQLite must say that memory is out, or give the right result: of an error it may have no memory for
+ * the message. What a statement was given must be back at its end. Then a range of a million alternatives is asked for.
  *
  *     sqlite EXTENSION
  *
@@ -85,6 +85,11 @@ static bool is_result(const char *result, const struct statement *statement) {
     return strncmp(result, statement->result, strlen(statement->result)) == 0;
 }
 
+/* An error whose message SQLite had no memory for. */
+static bool is_error_alone(int status, const struct statement *statement) {
+    return status == SQLITE_ERROR && strncmp(statement->result, "semver_", 7) == 0;
+}
+
 /* Runs a statement with a request refused. Returns false if no request was refused, since there are not so many. */
 static bool run_refused(const char *extension, const struct statement *statement, size_t number, bool and_later) {
     char result[400];
@@ -95,7 +100,8 @@ static bool run_refused(const char *extension, const struct statement *statement
     bool was_refused = refused() > 0;
     refuse_request(0, false);
     sqlite3_close(database);
-    check(status == SQLITE_NOMEM || is_result(result, statement), statement->sql, result, number);
+    bool is_excused = was_refused && (status == SQLITE_NOMEM || is_error_alone(status, statement));
+    check(is_excused || is_result(result, statement), statement->sql, result, number);
     check(blocks_in_use() == blocks && bytes_in_use() == bytes, statement->sql, "memory is not given back", number);
     return was_refused;
 }
@@ -121,10 +127,12 @@ static void run_long(const char *extension) {
 }
 
 int main(int count, char **words) {
+    static char room[BUFSIZ];
     size_t number = sizeof statements / sizeof statements[0], tried = 0;
     if (count != 2) {
         return 2;
     }
+    setvbuf(stdout, room, _IOFBF, sizeof room);
     sqlite3_initialize();
     /* What SQLite and the loader keep from their first uses on is there before anything is counted. */
     for (int round = 0; round < 2; round++) {

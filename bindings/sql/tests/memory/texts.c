@@ -106,10 +106,11 @@ static size_t refuse_each(const char *name, call *make, struct text range, struc
 #define TEXT(literal) ((struct text){literal, sizeof literal - 1})
 
 int main(void) {
-    static char word[2000], long_range[8000];
+    static char room[BUFSIZ], word[201], long_range[500];
     struct text range = TEXT("^1.2.3-rc.4 || >=3 || 2.5"), none = TEXT("^1 || 2 foo");
     struct text version = TEXT("1.2.3-rc.5+build"), other = TEXT("2.4.0"), bad = TEXT("1.2.3.4");
     size_t tried = 0;
+    setvbuf(stdout, room, _IOFBF, sizeof room);
     memset(word, 'a', sizeof word - 1);
     snprintf(long_range, sizeof long_range, ">=1.0.0-%s <1.0.0 || >=2.0.0-%s <3", word, word);
     struct text long_keys = {long_range, strlen(long_range)};

@@ -3,6 +3,7 @@ pub mod Answered
 pub mod ArgumentSteps
 pub mod BareTexts
 pub mod Best
+pub mod Examples
 pub mod Gathering
 pub mod Increments
 pub mod InputLines

@@ -1,6 +1,5 @@
 -- What the definitions say of some words and some input.
-use Rattle.std.proofs.Common.{◌≡◌, ◌==◌, ◌≢◌, ◌∷◌, ◌++◌, ℕ, List, [], Bool, Some, codes, false, if◌then◌else◌, refl, true, arith}
-use Rattle.std.proofs.lemmas.Bool.{eqb-true}
+use Rattle.std.proofs.Common.{◌≡◌, ◌==◌, ◌≢◌, ◌∷◌, ℕ, List, [], Bool, Some, codes, false, if◌then◌else◌, refl, true, arith}
 use Rattle.std.proofs.lemmas.List.Elements.{All-cons, All-nil}
 use mathlib.Core.Bool.{true≢false}
 use Rattle.semver_command.specs.Input.{AreLines, AreTexts, HasNoNewline, dash, ended, last, none, placed}

@@ -10,11 +10,10 @@ use mathlib.Core.Bool.{cond, not}
 use Rattle.std.specs.Str.{bytes_eq}
 use Rattle.node_semver.specs.Versions.{VersionValue}
 use Rattle.semver_command.specs.Chosen.{AreChosen, IsChosen, IsLeftOut, chosen, left_out, none}
-use Rattle.semver_command.specs.Input.{AreLines, AreTexts, HasNoNewline, IsWhole, dash, ended, last, without_dashes}
+use Rattle.semver_command.specs.Input.{AreLines, HasNoNewline, IsWhole, dash, ended, last, without_dashes}
 use Rattle.semver_command.specs.Input.{given, placed, read}
 use Rattle.semver_command.specs.Input.{none as no_lines}
-use Rattle.semver_command.specs.Private.Gathering.{Adds, Gathers, GathersLines, GathersTexts, IsKept}
-use Rattle.semver_command.specs.declared.asked.Listing.{Listing}
+use Rattle.semver_command.specs.Private.Gathering.{Adds, Gathers, GathersLines, GathersTexts}
 use Rattle.semver_command.specs.declared.asked.Options.{Options}
 use Rattle.semver_command.specs.declared.kept.Kept.{Kept}
 

@@ -1,9 +1,8 @@
 -- The bytes up to a newline byte.
-use Rattle.std.proofs.Common.{◌≡◌, ◌≢◌, ℕ, ◌+◌, ◌-◌, ◌<◌, ◌==◌, List, [], ◌∷◌, ◌++◌, Bool, true, false, ap, arith, get_or}
-use Rattle.std.proofs.Common.{if◌then◌else◌, length, refl, take, eqb-true, IfSome, None, Option, Some, subst, sym, ◌∙◌}
+use Rattle.std.proofs.Common.{◌≡◌, ◌≢◌, ℕ, ◌==◌, List, [], ◌∷◌, Bool, true, false, ap, arith}
+use Rattle.std.proofs.Common.{if◌then◌else◌, length, refl, eqb-true, IfSome, None, Option, Some, subst, sym, ◌∙◌}
 use Rattle.std.proofs.lemmas.List.Elements.{All-tail}
 use Rattle.std.specs.Io.BufRead.{take_through}
-use Rattle.std.specs.List.{All}
 use Rattle.std.specs.Io.KnownBytes.{Consumes}
 use Rattle.semver_command.specs.Input.{HasNoNewline, IsWhole}
 

@@ -2,6 +2,7 @@ pub mod AllTexts
 pub mod Answered
 pub mod ArgumentSteps
 pub mod Best
+pub mod Examples
 pub mod Gathering
 pub mod Increments
 pub mod InputLines

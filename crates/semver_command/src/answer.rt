@@ -2,11 +2,9 @@
 ghost use Rattle.std.specs.Prelude.{◌≡◌, ◌≢◌, ◌∷◌, [], ℕ, List, IfOk, MatchOption, None, Some, length, Bool};
 ghost use Rattle.std.specs.Bool.{MatchBool};
 ghost use Rattle.std.specs.Io.Buffered.{reader_remaining};
-ghost use Rattle.std.specs.Io.KnownBytes.{Appends};
 ghost use Rattle.semver_command.specs.Answer.{IsAnswer, npm_options};
 ghost use Rattle.semver_command.specs.Asked.{asked_value};
 ghost use Rattle.semver_command.specs.Private.Gathering.{AreAllKept, HasVersions, IsAnswered, IsKept, IsListed};
-ghost use Rattle.semver_command.specs.Listed.{AreListed};
 ghost use Rattle.semver_command.specs.declared.asked.Listing.TheVariants as Listings;
 ghost use Rattle.node_semver.specs.Versions.{VersionValue};
 

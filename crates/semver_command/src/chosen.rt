@@ -1,5 +1,5 @@
 //! The version of a text that satisfies all ranges.
-ghost use Rattle.std.specs.Prelude.{◌≡◌, [], ◌∷◌, IfOk, MatchOption, OnOk};
+ghost use Rattle.std.specs.Prelude.{[], ◌∷◌, IfOk, MatchOption, OnOk};
 ghost use Rattle.semver_command.specs.Chosen.{IsChosen, IsLeftOut};
 ghost use Rattle.semver_command.specs.Private.Gathering.{Gathers};
 ghost use Rattle.semver_command.specs.Ranges.{IsInAll};

@@ -1,7 +1,6 @@
 //! The version after an increment.
 ghost use Rattle.std.specs.Prelude.{◌≡◌, ◌≢◌, ◌⊎◌, IfErr, IfOk, IsErrOf, OnOk, Option, option_map};
 ghost use Rattle.std.specs.Io.KnownBytes.{Appends};
-ghost use Rattle.node_semver.specs.Versions.{VersionValue};
 ghost use Rattle.semver_texts.specs.Identifier.{value_of};
 ghost use Rattle.semver_command.specs.Arguments.{text_value};
 ghost use Rattle.semver_command.specs.Increment.{IsIdentifierGiven, IsIncremented, IsNoIdentifier, incremented_text, null_text};

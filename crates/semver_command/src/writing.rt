@@ -1,9 +1,8 @@
 //! Writing versions, a line each or as a JSON array of strings.
-ghost use Rattle.std.specs.Prelude.{◌≡◌, ◌++◌, IfErr, OnOk};
+ghost use Rattle.std.specs.Prelude.{◌≡◌, OnOk};
 ghost use Rattle.std.specs.Io.KnownBytes.{Appends};
 ghost use Rattle.semver_texts.specs.Print.{version_text};
-ghost use Rattle.semver_command.specs.Lines.{array_end, array_mark, end_text, item_text, listed_text, string_text};
-ghost use Rattle.semver_command.specs.Answer.{ending_of};
+ghost use Rattle.semver_command.specs.Lines.{array_end, array_mark, end_text, item_text, string_text};
 
 use crate::command_error::CommandError;
 use node_semver::Version;

@@ -4,7 +4,7 @@ use Rattle.semver_command.specs.Private.Reading.{IsLineRead}
 use Rattle.semver_command.specs.Ranges.{IsInAll}
 use Rattle.semver_command.specs.declared.input_line.InputLine.TheVariants as InputLines
 use Rattle.std.proofs.Common.{[], ◌∷◌}
-use Rattle.semver_command.proofs.Gathering.{lines_ended, lines_kept, lines_last, lines_more, lines_none, on_ok}
+use Rattle.semver_command.proofs.Gathering.{lines_ended, lines_kept, lines_last, lines_more, on_ok}
 use Rattle.semver_command.proofs.gathered.add_lines.Goals as goal
 
 pub returns-in-Last : goal.returns-in-Last

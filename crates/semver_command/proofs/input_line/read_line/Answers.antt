@@ -1,4 +1,4 @@
-use Rattle.std.proofs.Common.{◌≡◌, ◌≢◌, ℕ, List, [], arith, length}
+use Rattle.std.proofs.Common.{◌≢◌, arith, length}
 use Rattle.std.specs.Io.Buffered.{reader_remaining}
 use Rattle.semver_command.proofs.InputLines.{last_line, some_read}
 use Rattle.semver_command.proofs.input_line.read_line.Goals as goal

@@ -1,0 +1,2 @@
+pub mod InputExamples
+pub mod ListingExamples

@@ -3,7 +3,7 @@ use Rattle.std.proofs.Common.{◌≡◌, ◌∙◌, ℕ, ◌+◌, ◌<◌, List,
 use Rattle.std.proofs.Common.{drop, get_or, length, map, refl, sym}
 use Rattle.std.proofs.lemmas.List.{drop_all, drop_more, map-append}
 use Rattle.std.specs.List.{AllZip, list_any}
-use Rattle.std.specs.Prelude.{count_by, ◌≤◌}
+use Rattle.std.specs.Prelude.{count_by, cond, sum_by, ◌≤◌}
 use Rattle.npm_lock.specs.Edges.{EdgeValue, edge_value}
 use Rattle.npm_lock.specs.declared.edges.Edge.{Edge}
 use Rattle.npm_pick_command.specs.Outdated.{OutcomeValue, outcome_value}
@@ -66,7 +66,11 @@ pub any-map : {X Y : Type 0} (test : Y → Bool) (f : X → Y) (xs : List X)
 any-map test f [] = refl
 any-map test f (x ∷ xs) = rw (any-map test f xs) refl
 
+sum-map : {X Y : Type 0} (size : Y → ℕ) (f : X → Y) (xs : List X)
+    → sum_by size (map f xs) ≡ sum_by (λ x. size (f x)) xs
+sum-map size f [] = refl
+sum-map size f (x ∷ xs) = ap (λ n. size (f x) + n) (sum-map size f xs)
+
 pub count-map : {X Y : Type 0} (test : Y → Bool) (f : X → Y) (xs : List X)
     → count_by test (map f xs) ≡ count_by (λ x. test (f x)) xs
-count-map test f [] = refl
-count-map test f (x ∷ xs) = rw (count-map test f xs) refl
+count-map test f xs = sum-map (λ y. cond (test y) 1 0) f xs

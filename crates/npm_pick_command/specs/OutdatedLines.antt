@@ -1,5 +1,5 @@
 -- The lines of outdated dependencies.
-use Rattle.std.specs.Prelude.{ℕ, List, [], ◌∷◌, ◌++◌, Option, Some, None, codes, unwrap_or}
+use Rattle.std.specs.Prelude.{ℕ, List, [], ◌∷◌, ◌++◌, Option, Some, None, codes}
 use Rattle.serde_json.specs.Data.{Data, member, no_members, null, object, string}
 use Rattle.serde_json.specs.Written.{compact_text}
 use Rattle.npm_pick_command.specs.Outdated.{OutcomeValue, RowValue, absent, outdated, passed}
@@ -21,9 +21,14 @@ row_data row = object (member (codes "current") (text_or_null row.edge.version)
     (member (codes "name") (string row.edge.name)
     (member (codes "wanted") (string row.wanted) no_members))))))
 
+-- the version that is installed
+abbrev pub installed_words : Option (List ℕ) → List ℕ
+installed_words None = codes "MISSING"
+installed_words (Some version) = version
+
 -- the name, and the versions that are installed, wanted and the latest: `a 1.0.0 1.2.0 2.0.0`
 abbrev pub row_words : RowValue → List ℕ
-row_words row = shown row.edge.name ++ (codes " " ++ (shown (unwrap_or row.edge.version (codes "MISSING"))
+row_words row = shown row.edge.name ++ (codes " " ++ (shown (installed_words row.edge.version)
     ++ (codes " " ++ (shown row.wanted ++ (codes " " ++ shown row.latest)))))
 
 abbrev pub row_text : Format → RowValue → List ℕ

@@ -39,7 +39,10 @@ fn version_with(alloc: Global, text: &str, zeros: &str) -> Result<Option<String>
 fn is_version(text: &str) -> bool
     ensures { IsTrue result ↔ IsSomeVersion text.now }
 {
-    VersionRef::parse(text).is_ok()
+    match VersionRef::parse(text) {
+        Ok(_) => true,
+        Err(_) => false,
+    }
 }
 
 /// Returns the instant of a text, in which the time of the day may be left out: `2024-03-01` is the beginning of that day in UTC.

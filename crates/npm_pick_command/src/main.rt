@@ -16,6 +16,7 @@ mod help;
 mod input;
 mod input_error;
 mod load_error;
+mod members;
 mod name;
 mod outdated;
 mod outdated_lines;

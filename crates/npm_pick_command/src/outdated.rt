@@ -77,7 +77,10 @@ pub fn outcomes_of<'v, F: Fn(&str) -> Result<Option<Value>, LoadError>>(
             Ok(outcome) => outcome,
             Err(error) => return Err(error),
         };
-        outcomes.push(outcome).map_err(|_| RunError::Memory)?;
+        match outcomes.push(outcome) {
+            Ok(()) => {}
+            Err(_) => return Err(RunError::Memory),
+        }
     }
     Ok(outcomes)
 }

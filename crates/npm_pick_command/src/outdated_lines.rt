@@ -5,9 +5,10 @@ ghost use Rattle.npm_pick_command.specs.OutdatedLines as Lines;
 ghost use Rattle.npm_pick_command.specs.Outdated.{outcome_value, row_value};
 
 use crate::arguments::Format;
+use crate::members::{put_text, put_text_or_null};
 use crate::outdated::{Outcome, Row};
 use crate::shown::push_shown;
-use serde_json::{Map, Value, put};
+use serde_json::{Map, Value};
 use std::alloc::{AllocError, Global};
 
 /// Returns a line for each dependency that is outdated.
@@ -60,13 +61,23 @@ fn push_row(
     lines.extend_from_slice(b"\n")
 }
 
+/// The version that is installed.
+fn installed_words(version: Option<&str>) -> &str
+    ensures { result.now ≡ Lines.installed_words (option_map (λ text. text.now) version.entry) }
+{
+    match version {
+        Some(version) => version,
+        None => "MISSING",
+    }
+}
+
 /// Adds the words of a dependency that is outdated.
 fn push_words(lines: &mut Vec<u8>, row: &Row<'_>) -> Result<(), AllocError>
     ensures { OnOk result (lines.new.items ≡ lines.old.items ++ Lines.row_words (row_value row.now)) }
 {
     push_shown(lines, row.edge.name)?;
     lines.extend_from_slice(b" ")?;
-    push_shown(lines, row.edge.version.unwrap_or("MISSING"))?;
+    push_shown(lines, installed_words(row.edge.version))?;
     lines.extend_from_slice(b" ")?;
     push_shown(lines, row.wanted.as_str())?;
     lines.extend_from_slice(b" ")?;
@@ -78,51 +89,11 @@ fn row_json(alloc: Global, row: &Row<'_>) -> Result<Value, AllocError>
     ensures { IfOk result (λ value. view value ≡ Lines.row_data (row_value row.now)) }
 {
     let mut members = Map::new(alloc);
-    put(
-        &mut members,
-        alloc,
-        "current",
-        text_or_null(alloc, row.edge.version)?,
-    )?;
-    put(
-        &mut members,
-        alloc,
-        "folder",
-        text_or_null(alloc, row.edge.to)?,
-    )?;
-    put(
-        &mut members,
-        alloc,
-        "from",
-        Value::try_from_str(alloc, row.edge.from)?,
-    )?;
-    put(
-        &mut members,
-        alloc,
-        "latest",
-        Value::try_from_str(alloc, row.latest.as_str())?,
-    )?;
-    put(
-        &mut members,
-        alloc,
-        "name",
-        Value::try_from_str(alloc, row.edge.name)?,
-    )?;
-    put(
-        &mut members,
-        alloc,
-        "wanted",
-        Value::try_from_str(alloc, row.wanted.as_str())?,
-    )?;
+    put_text_or_null(&mut members, alloc, "current", row.edge.version)?;
+    put_text_or_null(&mut members, alloc, "folder", row.edge.to)?;
+    put_text(&mut members, alloc, "from", row.edge.from)?;
+    put_text(&mut members, alloc, "latest", row.latest.as_str())?;
+    put_text(&mut members, alloc, "name", row.edge.name)?;
+    put_text(&mut members, alloc, "wanted", row.wanted.as_str())?;
     Ok(Value::Object(members))
-}
-
-/// A text, or `null` if there is none.
-fn text_or_null(alloc: Global, text: Option<&str>) -> Result<Value, AllocError>
-    ensures { IfOk result (λ value. view value ≡ Lines.text_or_null (option_map (λ text. text.now) text.entry)) }
-{
-    match text {
-        Some(text) => Value::try_from_str(alloc, text),
-        None => Ok(Value::Null),
-    }
 }

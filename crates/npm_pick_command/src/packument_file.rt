@@ -1,7 +1,8 @@
 //! Reads the documents of packages in a folder.
 ghost use Rattle.std.specs.Prelude.{◌≡◌, IfOk, option_map, string_bytes};
 ghost use Rattle.std.specs.List.{list_all};
-ghost use Rattle.npm_texts.specs.RangeText.{is_tag_byte};
+ghost use Rattle.npm_lock.specs.RangeText.{is_tag_byte};
+ghost use Rattle.npm_lock.specs.Texts as Texts;
 ghost use Rattle.npm_pick_command.specs.PackumentFile as Files;
 
 use crate::input::read_json;
@@ -86,10 +87,17 @@ fn path_of(alloc: Global, folder: &str, name: &str, end: &str) -> Result<String,
 fn is_package_name(name: &str) -> bool
     ensures { result ≡ Files.is_package_name name.now }
 {
-    match name.strip_prefix('@') {
+    match rest_after(name, "@") {
         Some(scoped) => is_scoped(scoped),
         None => is_part(name),
     }
+}
+
+/// The text after this start, if it begins so.
+fn rest_after<'t>(text: &'t str, start: &str) -> Option<&'t str>
+    ensures { option_map (λ rest. rest.now) result ≡ Texts.rest_after start.now text.now }
+{
+    text.strip_prefix(start)
 }
 
 /// Returns `true` for a scope, a slash and a name.

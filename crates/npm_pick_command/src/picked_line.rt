@@ -6,9 +6,10 @@ ghost use Rattle.npm_pick.specs.Pick.{picked_value};
 ghost use Rattle.npm_pick_command.specs.PickedLine as Lines;
 
 use crate::arguments::Format;
+use crate::members::{put_bool, put_text};
 use crate::shown::push_shown;
 use npm_pick::Picked;
-use serde_json::{Map, Value, put};
+use serde_json::{Map, Value};
 use std::alloc::{AllocError, Global};
 
 /// Returns the line of a version, with its newline.
@@ -32,17 +33,7 @@ fn picked_json(alloc: Global, picked: Picked<'_>) -> Result<Value, AllocError>
     ensures { IfOk result (λ value. view value ≡ Lines.picked_data (picked_value picked.entry)) }
 {
     let mut members = Map::new(alloc);
-    put(
-        &mut members,
-        alloc,
-        "avoided",
-        Value::Bool(picked.is_avoided),
-    )?;
-    put(
-        &mut members,
-        alloc,
-        "version",
-        Value::try_from_str(alloc, picked.key)?,
-    )?;
+    put_bool(&mut members, alloc, "avoided", picked.is_avoided)?;
+    put_text(&mut members, alloc, "version", picked.key)?;
     Ok(Value::Object(members))
 }

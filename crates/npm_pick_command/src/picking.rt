@@ -102,5 +102,8 @@ fn version_of(text: &Option<String>) -> Option<VersionRef<'_>>
     ensures { Picking.IsVersionOf (option_map string_bytes text.now) result }
 {
     let text = text.as_ref()?;
-    VersionRef::parse(text.as_str()).ok()
+    match VersionRef::parse(text.as_str()) {
+        Ok(version) => Some(version),
+        Err(_) => None,
+    }
 }

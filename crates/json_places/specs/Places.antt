@@ -55,3 +55,20 @@ pub record ArePlacesOf (text : List ℕ) (paths : List Path) (found : List (Opti
   pub one_for_each : length found ≡ length paths
   pub each : (k : ℕ) (path : Path) (place : Place) → slice_get paths k ≡ Some path
       → slice_get found k ≡ Some (Some place) → IsPlaceOf text path place
+
+-- ---- the places of subjects
+
+-- the place where every text begins
+abbrev pub start : Place
+start = record { offset = 0; line = 1; column = 1 }
+
+-- the place of one of the subject's paths, or where the text begins
+pub data IsChoice (text : List ℕ) (paths : List Path) (subject : ℕ) : Place → Type 0 where
+  none : IsChoice text paths subject start
+  of_path : (k : ℕ) (path : Path) (place : Place) → slice_get paths k ≡ Some path → path.subject ≡ subject
+      → IsPlaceOf text path place → IsChoice text paths subject place
+
+-- a place for each subject
+pub record AreChoices (text : List ℕ) (paths : List Path) (count : ℕ) (places : List Place) : Type 0 where
+  pub one_for_each : length places ≡ count
+  pub each : (k : ℕ) (place : Place) → slice_get places k ≡ Some place → IsChoice text paths k place

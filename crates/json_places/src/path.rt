@@ -6,8 +6,10 @@ use std::cmp::Ordering;
 #[derive(Debug, PartialEq, Eq, PartialOrd, Ord, Drop)]
 pub struct Path<'a> {
     pub names: Vec<&'a str>,
-    /// A number by which the caller knows the path.
-    pub number: usize,
+    /// Which of the caller's subjects the path is for.
+    pub subject: usize,
+    /// Of the paths of a subject, those with a lower rank are preferred.
+    pub rank: usize,
 }
 
 /// How the name at this depth of a path compares with a name. A path that ends before is less.

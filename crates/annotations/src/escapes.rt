@@ -120,7 +120,12 @@ fn push_uri_byte(out: &mut Vec<u8>, byte: u8) -> Result<(), AllocError>
 fn is_plain(byte: u8) -> bool
     ensures { result ≡ Escapes.is_plain byte }
 {
-    is_letter_or_digit(byte) || byte == b'-' || byte == b'.' || byte == b'_' || byte == b'~' || byte == b'/'
+    is_letter_or_digit(byte)
+        || byte == b'-'
+        || byte == b'.'
+        || byte == b'_'
+        || byte == b'~'
+        || byte == b'/'
 }
 
 /// Whether a byte is a letter or a digit of ASCII.

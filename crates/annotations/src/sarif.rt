@@ -12,11 +12,17 @@ use std::alloc::AllocError;
 /// # Errors
 ///
 /// An allocation failed. Then a beginning of the log may have been added.
-pub fn push_log(out: &mut Vec<u8>, tool: Tool<'_>, findings: &[Finding<'_>]) -> Result<(), AllocError>
+pub fn push_log(
+    out: &mut Vec<u8>,
+    tool: Tool<'_>,
+    findings: &[Finding<'_>],
+) -> Result<(), AllocError>
     ensures { OnOk result (out.new.items
         ≡ out.old.items ++ Sarif.log (tool_value tool.entry) (map finding_value findings.now)) }
 {
-    out.extend_from_slice(b"{\"$schema\":\"https://json.schemastore.org/sarif-2.1.0.json\",\"version\":\"2.1.0\",")?;
+    out.extend_from_slice(
+        b"{\"$schema\":\"https://json.schemastore.org/sarif-2.1.0.json\",\"version\":\"2.1.0\",",
+    )?;
     out.extend_from_slice(b"\"runs\":[{\"tool\":{\"driver\":{\"name\":")?;
     push_json(out, tool.name.as_bytes())?;
     out.extend_from_slice(b",\"version\":")?;

@@ -16,7 +16,11 @@ impl Part {
 
 /// Those of a part whose name at this depth is this one.
 pub fn narrowed(paths: &[Path<'_>], part: Part, depth: usize, name: &str) -> Part {
-    let start = first_index(paths, part, |path| compared(path, depth, name) == Ordering::Less);
+    let start = first_index(
+        paths,
+        part,
+        |path| compared(path, depth, name) == Ordering::Less,
+    );
     let end = first_index(
         paths,
         Part {

@@ -21,8 +21,7 @@ fn finding(alloc: Global) -> Result<Finding<'static>, AllocError> {
 fn writes_an_annotation(rt: HostRuntime) -> Result<(), Fail> {
     let mut line = Vec::new(rt.alloc());
     push_annotation(&mut line, &finding(rt.alloc())?)?;
-    assert_eq!(
-        rt;
+    assert_eq!(rt;
         line.as_slice(),
         b"::error file=a b%2Cc%3A%25/package-lock.json,line=12,col=7::100%25 \"a\\b\"%0D%0A\n".as_slice()
     );
@@ -51,8 +50,7 @@ fn writes_a_log(rt: HostRuntime) -> Result<(), Fail> {
     };
     let mut log = Vec::new(rt.alloc());
     push_log(&mut log, tool, &[finding(rt.alloc())?])?;
-    assert_eq!(
-        rt;
+    assert_eq!(rt;
         log.as_slice(),
         b"{\"$schema\":\"https://json.schemastore.org/sarif-2.1.0.json\",\"version\":\"2.1.0\",\"runs\":[{\"tool\":{\"driver\":{\"name\":\"t\",\"version\":\"1.0.0\",\"rules\":[{\"id\":\"missing\",\"shortDescription\":{\"text\":\"m\"},\"defaultConfiguration\":{\"level\":\"error\"}},{\"id\":\"invalid\",\"shortDescription\":{\"text\":\"i\"},\"defaultConfiguration\":{\"level\":\"warning\"}}]}},\"columnKind\":\"unicodeCodePoints\",\"results\":[{\"ruleId\":\"invalid\",\"ruleIndex\":1,\"level\":\"error\",\"message\":{\"text\":\"100% \\\"a\\\\b\\\"\\u000D\\u000A\"},\"locations\":[{\"physicalLocation\":{\"artifactLocation\":{\"uri\":\"a%20b%2Cc%3A%25/package-lock.json\"},\"region\":{\"startLine\":12,\"startColumn\":7}}}]}]}]}\n".as_slice()
     );
@@ -69,8 +67,7 @@ fn writes_a_log_of_nothing(rt: HostRuntime) -> Result<(), Fail> {
     };
     let mut log = Vec::new(rt.alloc());
     push_log(&mut log, tool, &[])?;
-    assert_eq!(
-        rt;
+    assert_eq!(rt;
         log.as_slice(),
         b"{\"$schema\":\"https://json.schemastore.org/sarif-2.1.0.json\",\"version\":\"2.1.0\",\"runs\":[{\"tool\":{\"driver\":{\"name\":\"t\",\"version\":\"1\",\"rules\":[]}},\"columnKind\":\"unicodeCodePoints\",\"results\":[]}]}\n".as_slice()
     );

@@ -8,7 +8,7 @@ use Rattle.semver_cuts.specs.Ends.{Ends}
 use Rattle.semver_cuts.specs.Lemmas.Lists.{any-either, any-left, any-right}
 use Rattle.serde_json.specs.Data.{Data, Members, member, no_members}
 use Rattle.node_semver.specs.Versions.{VersionValue}
-use Rattle.npm_lock.specs.InstalledVersions.{IsInstalledVersion}
+use Rattle.npm_texts.specs.InstalledVersions.{IsInstalledVersion}
 use Rattle.npm_pick.specs.Kept.{KeyValue}
 use Rattle.npm_pick.specs.Packument.{Release, releases_among}
 use Rattle.npm_pick.specs.Private.Keeping.{AreAdded, AreAddedSoFar, IsKeyRead, IsWithin, texts_of}

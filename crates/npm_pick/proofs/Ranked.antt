@@ -10,7 +10,7 @@ use Rattle.semver_texts.specs.Lemmas.Public.{version_total}
 use Rattle.semver_versions.specs.Lemmas.Public.{one_reading}
 use Rattle.serde_json.specs.Data.{Data, Members, member, no_members}
 use Rattle.node_semver.specs.Versions.{VersionValue}
-use Rattle.npm_lock.specs.InstalledVersions.{IsInstalledVersion, bare}
+use Rattle.npm_texts.specs.InstalledVersions.{IsInstalledVersion, bare}
 use Rattle.npm_pick.specs.Packument.{Release, releases_among}
 use Rattle.npm_pick.specs.Private.Ranking.{IsBestOrNone, IsBestSoFar, IsBetter, rank_value, release_of}
 use Rattle.npm_pick.specs.Rank.{HasNone, IsAvoided, IsBest, IsRankOf, Rank, is_sound, rank_cmp}

@@ -8,7 +8,7 @@ use Rattle.std.specs.Ordering.{nat_cmp}
 use Rattle.semver_cuts.specs.Ends.{Ends}
 use Rattle.node_semver.specs.Versions.{VersionValue}
 use Rattle.npm_semver.specs.NpmRanges.{NpmOptions, NpmSetsAdmit}
-use Rattle.npm_lock.specs.Verdict.{Admits, IsNoRange, of_dependencies}
+use Rattle.npm_texts.specs.Admission.{Admits, IsNoRange, of_dependencies}
 use Rattle.npm_pick.specs.Private.Keeping.{IsSatisfied}
 use Rattle.npm_pick.specs.Private.Ranking.{IsAvoidRead}
 use Rattle.npm_pick.specs.Rank.{of_avoided}

@@ -9,9 +9,9 @@ use Rattle.std.specs.declared.cmp.Ordering.{Ordering}
 use Rattle.semver_cuts.specs.SpanLists.{AnyByRecursion}
 use Rattle.serde_json.specs.Data.{Data}
 use Rattle.node_semver.specs.Versions.{VersionValue, version_cmp}
-use Rattle.npm_lock.specs.InstalledVersions.{IsInstalledVersion}
-use Rattle.npm_lock.specs.RangeText.{filled}
-use Rattle.npm_lock.specs.Verdict.{Admits, of_dependencies}
+use Rattle.npm_texts.specs.InstalledVersions.{IsInstalledVersion}
+use Rattle.npm_texts.specs.RangeText.{filled}
+use Rattle.npm_texts.specs.Admission.{Admits, of_dependencies}
 use Rattle.npm_pick.specs.Packument.{Release, candidates_of, is_restricted}
 use Rattle.npm_pick.specs.Pick.{IsNoVersion, IsPicked, PickedValue}
 use Rattle.npm_pick.specs.Times.{is_published}

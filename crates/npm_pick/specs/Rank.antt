@@ -9,9 +9,9 @@ use Rattle.serde_json.specs.Data.{Data}
 use Rattle.serde_json.specs.Find.{as_str, get}
 use Rattle.npm_semver.specs.NpmRanges.{NpmOptions}
 use Rattle.node_semver.specs.Versions.{VersionValue, version_cmp}
-use Rattle.npm_lock.specs.Asked.{has_true, is_true}
-use Rattle.npm_lock.specs.InstalledVersions.{IsInstalledVersion}
-use Rattle.npm_lock.specs.Verdict.{Admits, of_dependencies, of_engines}
+use Rattle.npm_texts.specs.Truth.{has_true, is_true}
+use Rattle.npm_texts.specs.InstalledVersions.{IsInstalledVersion}
+use Rattle.npm_texts.specs.Admission.{Admits, of_dependencies, of_engines}
 use Rattle.npm_pick.specs.Packument.{Release, is_restricted, is_staged}
 use Rattle.npm_pick.specs.Times.{is_published}
 use Rattle.npm_pick.specs.declared.options.Options.{Options}

@@ -7,7 +7,7 @@ use Rattle.serde_json.specs.Find.{as_str, get}
 use Rattle.jiff.specs.Words.{parse_timestamp}
 use Rattle.jiff_core.specs.declared.timestamp.Timestamp.{Timestamp}
 use Rattle.jiff_core.specs.declared.error.Error.{Error}
-use Rattle.npm_lock.specs.Asked.{is_true}
+use Rattle.npm_texts.specs.Truth.{is_true}
 
 -- what stands in `time` for a version
 abbrev pub time_of : (packument : Data) → (key : List ℕ) → Option Data

@@ -2,22 +2,20 @@
 ghost use Rattle.std.specs.Prelude.{◌≡◌, ◌↔◌, IfNone, IfOk, IfSome, IsTrue, map, option_map, string_bytes};
 ghost use Rattle.serde_json.specs.View.{members_view, view};
 ghost use Rattle.node_semver.specs.Versions.{VersionValue};
-ghost use Rattle.npm_lock.specs.InstalledVersions.{IsInstalledVersion};
-ghost use Rattle.npm_lock.specs.RangeText as RangeText;
-ghost use Rattle.npm_lock.specs.Verdict.{Admits, of_dependencies};
+ghost use Rattle.npm_texts.specs.InstalledVersions.{IsInstalledVersion};
+ghost use Rattle.npm_texts.specs.RangeText as RangeText;
+ghost use Rattle.npm_texts.specs.Admission.{Admits, of_dependencies};
 ghost use Rattle.npm_pick.specs.Kept.{IsInSome};
 ghost use Rattle.npm_pick.specs.Packument.{candidates_of, releases_among, releases_in};
 ghost use Rattle.npm_pick.specs.Private.Keeping.{AreAdded, IsInOne, IsSatisfied, IsWithin, key_value};
 
 use crate::Result;
-use crate::asked::{OF_DEPENDENCIES, range_of};
 use crate::key::Key;
 use crate::member::{is_restricted, restricted_of, staged_of, versions_of};
 use crate::options::Options;
-use crate::picked::filled;
 use crate::time::is_published;
 use node_semver::{Range, VersionRef};
-use npm_lock::installed_version;
+use npm_texts::{OF_DEPENDENCIES, filled, installed_version, range_of};
 use serde_json::{Map, Value};
 use std::alloc::Global;
 

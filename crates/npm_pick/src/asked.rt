@@ -1,21 +1,18 @@
 //! The ranges that versions are asked by.
-ghost use Rattle.std.specs.Prelude.{◌≡◌, ◌↔◌, IfErr, IfOk, IfSome, IfNone, IsTrue, codes, option_map};
+ghost use Rattle.std.specs.Prelude.{◌≡◌, ◌↔◌, IfOk, IsTrue, codes, option_map};
 ghost use Rattle.serde_json.specs.View.{view};
 ghost use Rattle.node_semver.specs.RangeAlgebra.{sets_of_answer};
 ghost use Rattle.node_semver.specs.Ranges.{RangeContains};
-ghost use Rattle.node_semver.specs.Versions.{VersionValue};
-ghost use Rattle.npm_semver.specs.NpmRanges.{NpmSetsAdmit};
-ghost use Rattle.npm_lock.specs.Verdict.{Admits, IsNoRange, of_dependencies};
 ghost use Rattle.npm_pick.specs.Rank as Ranks;
 ghost use Rattle.npm_pick.specs.Private.Ranking.{IsRead, IsAvoidRead};
 
 use crate::Result;
-use crate::member::is_true;
 use crate::options::Options;
 use node_semver::{Range, VersionRef};
 use npm_semver::NpmOptions;
+use npm_texts::{OF_ENGINES, is_true, range_of};
 use serde_json::{Map, Value};
-use std::alloc::{AllocError, Global};
+use std::alloc::Global;
 
 /// What is asked of the versions of a document: a range, and the options.
 #[derive(Drop)]
@@ -107,34 +104,8 @@ pub(crate) fn avoided(alloc: Global, text: Option<&str>) -> Result<Option<Range>
     }
 }
 
-/// How npm reads the ranges of dependencies.
-pub(crate) const OF_DEPENDENCIES: NpmOptions = NpmOptions {
-    loose: true,
-    include_prerelease: false,
-};
-
-/// How npm reads the ranges of engines.
-const OF_ENGINES: NpmOptions = NpmOptions {
-    loose: false,
-    include_prerelease: true,
-};
-
 /// How npm reads the range of the versions to avoid.
 const OF_AVOIDED: NpmOptions = NpmOptions {
     loose: true,
     include_prerelease: true,
 };
-
-/// The range of a text as npm reads it, or `None` if it is none.
-pub(crate) fn range_of(alloc: Global, text: &str, options: NpmOptions) -> Result<Option<Range>>
-    ensures refused { IfOk result (λ range. IfNone range (IsNoRange options text.now)) }
-    ensures accepted { IfOk result (λ range. IfSome range (λ range. ¬ IsNoRange options text.now)) }
-    ensures means { IfOk result (λ range. IfSome range (λ range.
-        (v : VersionValue) → NpmSetsAdmit options.include_prerelease range v ↔ Admits options text.now v)) }
-{
-    match npm_semver::parse_range(alloc, text, options) {
-        Ok(range) => Ok(Some(range)),
-        Err(error) if error.is_out_of_memory() => Err(AllocError),
-        Err(_) => Ok(None),
-    }
-}

@@ -5,7 +5,7 @@ ghost use Rattle.std.specs.Ordering.{eq_by_cmp};
 ghost use Rattle.npm_pick.specs.Private.Keeping.{IsKeyRead, key_order, key_total, key_value};
 
 use node_semver::VersionRef;
-use npm_lock::installed_version;
+use npm_texts::installed_version;
 use std::cmp::Ordering;
 
 /// A key, and the version that it is read as.

@@ -1,7 +1,6 @@
 //! Members of JSON objects.
 ghost use Rattle.std.specs.Prelude.{◌≡◌, IfSome, is_some, option_map};
 ghost use Rattle.serde_json.specs.View.{members_view, view};
-ghost use Rattle.npm_lock.specs.Asked as Truth;
 ghost use Rattle.npm_pick.specs.Packument as Documents;
 
 use serde_json::{Map, Value};
@@ -89,28 +88,3 @@ pub(crate) fn tagged<'v>(packument: &'v Value, tag: &str) -> Option<&'v str>
 {
     packument.get("dist-tags")?.get(tag)?.as_str()
 }
-
-/// Returns `true` if a member is there and counts as true.
-pub(crate) fn has_true(value: &Value, key: &str) -> bool
-    ensures { result ≡ Truth.has_true key.now (view value.now) }
-{
-    value.get(key).is_some_and(is_true)
-}
-
-/// Returns `true` if JavaScript counts the value as true.
-pub(crate) fn is_true(value: &Value) -> bool
-    ensures { result ≡ Truth.is_true (view value.now) }
-{
-    if let Some(mark) = value.as_bool() {
-        return mark;
-    }
-    if let Some(number) = value.as_f64() {
-        return !(number == ZERO);
-    }
-    if let Some(text) = value.as_str() {
-        return !text.is_empty();
-    }
-    !value.is_null()
-}
-
-const ZERO: f64 = 0.0;

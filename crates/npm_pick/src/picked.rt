@@ -1,13 +1,11 @@
 //! The version of a document that npm would install.
 ghost use Rattle.std.specs.Prelude.{◌≡◌, IfOk, string_bytes};
-ghost use Rattle.std.specs.List.{list_all};
 ghost use Rattle.serde_json.specs.View.{view};
 ghost use Rattle.node_semver.specs.Versions.{version_text, without_build};
-ghost use Rattle.npm_lock.specs.RangeText as RangeText;
+ghost use Rattle.npm_texts.specs.RangeText as RangeText;
 ghost use Rattle.npm_pick.specs.Pick as Picks;
 ghost use Rattle.npm_pick.specs.Pick.{IsAnswer, IsChosen, IsPicked, IsPickedAt, IsPickedByTag, IsPickedFor, answer_value};
 
-use crate::asked::{OF_DEPENDENCIES, range_of};
 use crate::error::PickError;
 use crate::member::{is_restricted, tagged};
 use crate::options::Options;
@@ -15,7 +13,7 @@ use crate::ranged::{pick_at, pick_in};
 use crate::strict::pick_strictly;
 use crate::time::is_published;
 use node_semver::VersionRef;
-use npm_lock::installed_version;
+use npm_texts::{OF_DEPENDENCIES, filled, installed_version, is_tag, range_of};
 use serde_json::Value;
 use std::alloc::{AllocError, Global};
 
@@ -102,13 +100,6 @@ fn pick_chosen<'v>(
     }
 }
 
-/// Returns the text, or `*` for the empty one.
-pub(crate) fn filled(wanted: &str) -> &str
-    ensures { result.now ≡ RangeText.filled wanted.now }
-{
-    if wanted.is_empty() { "*" } else { wanted }
-}
-
 /// Picks for a text that is a version, a range or a tag.
 pub(crate) fn pick_for<'v>(
     alloc: Global,
@@ -180,23 +171,4 @@ fn up_to(alloc: Global, key: &str) -> Result<String, AllocError>
     let mut text = String::from_str(alloc, "<=")?;
     text.push_str(key)?;
     Ok(text)
-}
-
-/// Returns `true` if the text can be a tag. White space around it does not count.
-fn is_tag(text: &str) -> bool
-    ensures { result ≡ RangeText.is_tag text.now }
-{
-    are_tag_bytes(text.trim())
-}
-
-fn are_tag_bytes(text: &str) -> bool
-    ensures { result ≡ list_all RangeText.is_tag_byte text.now }
-{
-    text.bytes().all(is_tag_byte)
-}
-
-fn is_tag_byte(byte: u8) -> bool
-    ensures { result ≡ RangeText.is_tag_byte byte }
-{
-    byte.is_ascii_alphanumeric() || b"-_.!~*'()".contains(&byte)
 }

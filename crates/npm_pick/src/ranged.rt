@@ -3,7 +3,7 @@ ghost use Rattle.std.specs.Prelude.{◌≡◌, ◌↔◌, ◌&&◌, IfNone, IfOk
 ghost use Rattle.serde_json.specs.View.{members_view, view};
 ghost use Rattle.node_semver.specs.Ranges.{RangeAdmits};
 ghost use Rattle.node_semver.specs.Versions.{VersionValue};
-ghost use Rattle.npm_lock.specs.Verdict.{Admits, of_dependencies};
+ghost use Rattle.npm_texts.specs.Admission.{Admits, of_dependencies};
 ghost use Rattle.npm_pick.specs.Packument.{releases_among, releases_in};
 ghost use Rattle.npm_pick.specs.Pick as Picks;
 ghost use Rattle.npm_pick.specs.Pick.{HasNoneInTime, IsAnswer, IsPickedAt, IsPickedIn, answer_value};
@@ -15,13 +15,13 @@ use crate::asked::{Asked, avoided, is_in};
 use crate::best::best_of;
 use crate::error::PickError;
 use crate::member::{
-    candidate_of, has_true, is_listed, release_in, restricted_of, staged_of, tagged, versions_of,
+    candidate_of, is_listed, release_in, restricted_of, staged_of, tagged, versions_of,
 };
 use crate::options::Options;
 use crate::picked::Picked;
 use crate::time::is_published;
 use node_semver::Range;
-use npm_lock::installed_version;
+use npm_texts::{has_true, installed_version};
 use serde_json::{Map, Value};
 use std::alloc::Global;
 

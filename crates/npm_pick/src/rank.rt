@@ -7,10 +7,10 @@ ghost use Rattle.npm_pick.specs.Private.Ranking.{IsRead, rank_value};
 
 use crate::Result;
 use crate::asked::Asked;
-use crate::member::{has_true, is_listed};
+use crate::member::is_listed;
 use crate::time::is_published;
 use node_semver::{OrderedVersion, VersionRef};
-use npm_lock::installed_version;
+use npm_texts::{has_true, installed_version};
 use serde_json::Value;
 use std::alloc::Global;
 use std::cmp::Ordering;

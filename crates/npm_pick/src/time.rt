@@ -3,8 +3,8 @@ ghost use Rattle.std.specs.Prelude.{◌≡◌, option_map};
 ghost use Rattle.serde_json.specs.View.{view};
 ghost use Rattle.npm_pick.specs.Times as Times;
 
-use crate::member::is_true;
 use jiff::Timestamp;
+use npm_texts::is_true;
 use serde_json::Value;
 
 /// Returns `true` if the version was not published after this time. A version without a time counts as published.

@@ -1,13 +1,13 @@
 //! Reads the documents of packages in a folder.
-ghost use Rattle.std.specs.Prelude.{◌≡◌, IfOk, option_map, string_bytes};
+ghost use Rattle.std.specs.Prelude.{◌≡◌, IfOk, string_bytes};
 ghost use Rattle.std.specs.List.{list_all};
-ghost use Rattle.npm_lock.specs.RangeText.{is_tag_byte};
-ghost use Rattle.npm_lock.specs.Texts as Texts;
+ghost use Rattle.npm_texts.specs.RangeText.{is_tag_byte};
 ghost use Rattle.npm_pick_command.specs.PackumentFile as Files;
 
 use crate::input::read_json;
 use crate::input_error::{InputError, open_error};
 use crate::load_error::{LoadError, PackageName};
+use npm_texts::rest_after;
 use serde_json::Value;
 use std::alloc::{AllocError, Global};
 use std::fs::File;
@@ -91,13 +91,6 @@ fn is_package_name(name: &str) -> bool
         Some(scoped) => is_scoped(scoped),
         None => is_part(name),
     }
-}
-
-/// The text after this start, if it begins so.
-fn rest_after<'t>(text: &'t str, start: &str) -> Option<&'t str>
-    ensures { option_map (λ rest. rest.now) result ≡ Texts.rest_after start.now text.now }
-{
-    text.strip_prefix(start)
 }
 
 /// Returns `true` for a scope, a slash and a name.

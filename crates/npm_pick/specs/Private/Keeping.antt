@@ -10,8 +10,8 @@ use Rattle.semver_texts.specs.Lemmas.Public.{version_total}
 use Rattle.serde_json.specs.Data.{Data, Members}
 use Rattle.node_semver.specs.Ranges.{RangeAdmits}
 use Rattle.node_semver.specs.Versions.{VersionValue}
-use Rattle.npm_lock.specs.InstalledVersions.{IsInstalledVersion}
-use Rattle.npm_lock.specs.RangeText.{filled}
+use Rattle.npm_texts.specs.InstalledVersions.{IsInstalledVersion}
+use Rattle.npm_texts.specs.RangeText.{filled}
 use Rattle.npm_pick.specs.Kept.{ArePicked, IsAdmitted, IsReadAs, IsThere, KeyValue, key_cmp}
 use Rattle.npm_pick.specs.Packument.{Release, is_restricted, releases_among}
 use Rattle.npm_pick.specs.Pick.{IsPicked, PickedValue}

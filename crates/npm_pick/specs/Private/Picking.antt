@@ -6,7 +6,7 @@ use Rattle.serde_json.specs.Data.{Data}
 use Rattle.node_semver.specs.RangeAlgebra.{sets_of_answer}
 use Rattle.node_semver.specs.Ranges.{RangeContains}
 use Rattle.node_semver.specs.Versions.{VersionValue}
-use Rattle.npm_lock.specs.InstalledVersions.{IsInstalledVersion}
+use Rattle.npm_texts.specs.InstalledVersions.{IsInstalledVersion}
 use Rattle.npm_pick.specs.Packument.{Release, candidates_of}
 use Rattle.npm_pick.specs.Pick.{HasNoDefault, HasNoneInTime, IsDefault, PickedValue, inside}
 use Rattle.npm_pick.specs.Rank.{HasNone, IsBest, Rank}

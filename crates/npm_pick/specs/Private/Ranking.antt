@@ -7,7 +7,7 @@ use Rattle.serde_json.specs.View.{members_view, view}
 use Rattle.node_semver.specs.RangeAlgebra.{sets_of_answer}
 use Rattle.node_semver.specs.Ranges.{RangeAdmits, RangeContains}
 use Rattle.node_semver.specs.Versions.{VersionValue}
-use Rattle.npm_lock.specs.Verdict.{Admits, of_dependencies}
+use Rattle.npm_texts.specs.Admission.{Admits, of_dependencies}
 use Rattle.npm_pick.specs.Packument.{Release, releases_among, restricted_of, staged_of}
 use Rattle.npm_pick.specs.Rank as Ranks
 use Rattle.npm_pick.specs.Rank.{HasNone, IsAvoided, IsBest, rank_cmp}

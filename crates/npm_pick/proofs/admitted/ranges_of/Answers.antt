@@ -1,7 +1,7 @@
 -- One range more.
 use Rattle.std.proofs.Common.{◌↔◌, string_bytes}
-use Rattle.npm_lock.specs.RangeText.{filled}
-use Rattle.npm_lock.specs.Verdict.{Admits, of_dependencies}
+use Rattle.npm_texts.specs.RangeText.{filled}
+use Rattle.npm_texts.specs.Admission.{Admits, of_dependencies}
 use Rattle.npm_pick.specs.Private.Keeping.{IsSatisfied}
 use Rattle.npm_pick.proofs.SomeTexts.{some_done, some_more}
 use Rattle.npm_pick.proofs.admitted.ranges_of.Goals as goal

@@ -1,8 +1,8 @@
 use Rattle.std.proofs.Common.{◌≡◌, ◌∙◌, ℕ, List, Some, ap, option_map, subst, sym, true}
 use Rattle.serde_json.specs.Find.{as_str}
 use Rattle.serde_json.specs.View.{view}
-use Rattle.npm_lock.specs.Asked.{is_true}
-use Rattle.npm_lock.specs.Verdict.{Admits, of_engines}
+use Rattle.npm_texts.specs.Truth.{is_true}
+use Rattle.npm_texts.specs.Admission.{Admits, of_engines}
 use Rattle.npm_pick.proofs.asked.is_engine_for.Goals as goal
 
 pub returns-in-Some-2 : goal.returns-in-Some-2

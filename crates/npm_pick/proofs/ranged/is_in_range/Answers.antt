@@ -1,6 +1,6 @@
 use Rattle.std.proofs.Common.{◌≡◌, inl, inr, subst}
 use Rattle.node_semver.specs.Versions.{VersionValue}
-use Rattle.npm_lock.specs.Verdict.{Admits, of_dependencies}
+use Rattle.npm_texts.specs.Admission.{Admits, of_dependencies}
 use Rattle.npm_pick.proofs.Ranked.{one_version}
 use Rattle.npm_pick.proofs.ranged.is_in_range.Goals as goal
 

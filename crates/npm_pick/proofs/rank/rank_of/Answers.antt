@@ -1,6 +1,6 @@
 use Rattle.std.proofs.Common.{◌≡◌, ◌∙◌, IsTrue, subst, sym}
 use Rattle.node_semver.specs.Versions.{VersionValue}
-use Rattle.npm_lock.specs.Verdict.{Admits, of_dependencies}
+use Rattle.npm_texts.specs.Admission.{Admits, of_dependencies}
 use Rattle.npm_pick.proofs.Ranked.{one_version}
 use Rattle.npm_pick.proofs.rank.rank_of.Goals.{then-not-satisfies-via-then-not-satisfies, then-not-satisfies-via-else-not-satisfies+then-not-is_published}
 use Rattle.npm_pick.proofs.rank.rank_of.Goals as goal

@@ -7,7 +7,7 @@ use Rattle.std.specs.Prelude.{nat_eq}
 use Rattle.std.specs.Str.Pattern.{FindsTextPrefix}
 use denote.Ref.{Bor}
 use Rattle.std.proofs.lemmas.Str.Pattern.{starts_text}
-use Rattle.npm_lock.specs.Texts.{rest_after}
+use Rattle.npm_texts.specs.Texts.{rest_after}
 use Rattle.npm_pick_command.proofs.packument_file.rest_after.Goals as goal
 
 stripped : (start text : List ℕ) (r : Option (Bor (List ℕ)))

@@ -1,0 +1,5 @@
+//! Tests of the public calls of annotations.
+#![tactic(auto)]
+
+#[cfg(test)]
+mod written;

@@ -1,0 +1,3 @@
+-- What private functions are said to compute.
+pub mod Searches
+pub mod LastNames

@@ -1,0 +1,43 @@
+//! Neighbours in a sorted list of paths: those that begin with the same names.
+use crate::path::{Path, compared};
+use std::cmp::Ordering;
+
+/// The paths from one index up to another.
+#[derive(Clone, Copy, Debug, Drop)]
+pub struct Part {
+    pub start: usize,
+    pub end: usize,
+}
+
+impl Part {
+    /// No path.
+    pub const NONE: Part = Part { start: 0, end: 0 };
+}
+
+/// Those of a part whose name at this depth is this one.
+pub fn narrowed(paths: &[Path<'_>], part: Part, depth: usize, name: &str) -> Part {
+    let start = first_index(
+        paths,
+        part,
+        |path| compared(path, depth, name) == Ordering::Less,
+    );
+    let end = first_index(
+        paths,
+        Part {
+            start,
+            end: part.end,
+        },
+        |path| compared(path, depth, name) != Ordering::Greater,
+    );
+    Part { start, end }
+}
+
+/// The index of the first path of a part that fails a test which those before it pass.
+fn first_index<F: FnMut(&Path<'_>) -> bool>(paths: &[Path<'_>], part: Part, test: F) -> usize
+    requires { F.IsAlwaysCallable test }
+{
+    match paths.get(part.start..part.end) {
+        Some(paths) => part.start + paths.partition_point(test),
+        None => part.end,
+    }
+}

@@ -11,8 +11,8 @@ ghost use Rattle.npm_pick_command.specs.Loading.{IsLoadFailure};
 use crate::load_error::LoadError;
 use crate::run_error::RunError;
 use npm_lock::Edge;
-use npm_texts::registry_spec;
 use npm_pick::{Options, PickError, pick};
+use npm_texts::registry_spec;
 use serde_json::Value;
 use std::alloc::{AllocError, Global};
 

@@ -21,11 +21,7 @@ pub const OF_ENGINES: NpmOptions = NpmOptions {
 };
 
 /// The range of a text as npm reads it, or `None` if it is none.
-pub fn range_of(
-    alloc: Global,
-    text: &str,
-    options: NpmOptions,
-) -> Result<Option<Range>, AllocError>
+pub fn range_of(alloc: Global, text: &str, options: NpmOptions) -> Result<Option<Range>, AllocError>
     ensures refused { IfOk result (λ range. IfNone range (IsNoRange options text.now)) }
     ensures accepted { IfOk result (λ range. IfSome range (λ range. ¬ IsNoRange options text.now)) }
     ensures means { IfOk result (λ range. IfSome range (λ range.

@@ -11,7 +11,8 @@ import re
 from crates import CRATES, is_program, listed
 
 # Libraries that no user calls.
-SCRIPTS = {"memory_trials": "makes the calls", "node_semver_callers": "examples"}
+SCRIPTS = {"memory_trials": "makes the calls", "node_semver_callers": "examples", "json_places": "no program uses it yet",
+           "annotations": "no program uses it yet"}
 
 # A function, and the call that makes it.
 THROUGH = {

@@ -48,12 +48,12 @@ returns-in-Ok-lines_of-clause-found c =
         mismatches = c.in_ok-mismatches.ensures.mismatches;
         exact = refl;
         unread = refl;
-        problems = rw made at c.in_ok-problems.ensures.found;
+        problems = rw made at (rw c.deref.ensures.value at c.in_ok-problems.ensures.found);
         hit = rw made at c.in-Ok.ensures.found;
         audited = c.is_some.ensures ∙ some_same (λ file. view file.now) c.args.wanted.advisories;
-        hits = c.len.ensures ∙ sym (rw c.deref.ensures.value at c.deref.ensures.len) ∙ length_same found_value
+        hits = c.len.ensures ∙ sym (rw c.deref-2.ensures.value at c.deref-2.ensures.len) ∙ length_same found_value
             c.in-Ok.found.items;
         listed = refl;
       },
-      rw c.deref.ensures.value at c.in-Ok-lines_of.ensures,
+      rw c.deref-2.ensures.value at c.in-Ok-lines_of.ensures,
     )

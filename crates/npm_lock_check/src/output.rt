@@ -4,6 +4,7 @@ ghost use Rattle.std.specs.Fn.{FnOnceReturnsAt};
 ghost use Rattle.std.specs.Io.KnownBytes.{Appends};
 ghost use Rattle.serde_json.specs.View.{view};
 ghost use Rattle.npm_lock.specs.Faults.{lock_fault};
+ghost use Rattle.npm_lock.specs.Findings.{IsChecked};
 ghost use Rattle.npm_lock_version_one.specs.VersionOne.{any_fault, converted};
 ghost use Rattle.npm_advisories.specs.Audit.{FoundValue};
 ghost use Rattle.npm_lock_check.specs.Kinds.{has};
@@ -153,12 +154,31 @@ fn problems_of(
         (wanted_value wanted.entry)) }
     ensures refused { IfErr result (IsCheckRefused (view lock.now)) }
 {
-    let mut problems = match check(alloc, lock, wanted.node) {
-        Ok(problems) => problems,
-        Err(CheckError::Refused(fault)) => return Err(RunError::NoLockFile(fault)),
-        Err(CheckError::Memory) => return Err(RunError::Memory),
-    };
-    add_workspaces(alloc, &mut problems.list, lock, workspaces).map_err(|_| RunError::Memory)?;
+    match check(alloc, lock, wanted.node) {
+        Ok(problems) => problems_left(alloc, problems, lock, workspaces, wanted),
+        Err(CheckError::Refused(fault)) => Err(RunError::NoLockFile(fault)),
+        Err(CheckError::Memory) => Err(RunError::Memory),
+    }
+}
+
+/// These problems after those of workspaces, without those of ignored kinds.
+fn problems_left(
+    alloc: Global,
+    all: Problems,
+    lock: &Value,
+    workspaces: &[Workspace],
+    wanted: Wanted<'_>,
+) -> Result<Problems, RunError>
+    requires { IsChecked (view lock.now) (wanted_value wanted).node all }
+    ensures found { IfOk result (AreLeft (view lock.now) (map workspace_value workspaces.now)
+        (wanted_value wanted.entry)) }
+    ensures memory { IfErr result (λ error. error ≡ RunError.Memory) }
+{
+    let mut problems = all;
+    match add_workspaces(alloc, &mut problems.list, lock, workspaces) {
+        Ok(()) => {}
+        Err(_) => return Err(RunError::Memory),
+    }
     leave_out(&mut problems.list, wanted.ignored);
     Ok(problems)
 }

@@ -1,6 +1,8 @@
 //! Tests of the patterns of workspaces, and of workspaces that were found on disk.
-use npm_lock::{Kind, is_part, workspace_patterns, workspace_problem};
+use crate::checks::is_text;
+use npm_lock::{Problem, is_part, workspace_patterns, workspace_problem};
 use serde_json::Value;
+use std::alloc::Global;
 use std::test::Fail;
 
 // `workspaces` of a root, and its patterns: none if one is not read.
@@ -54,90 +56,113 @@ fn a_star_stands_for_one_name(rt: HostRuntime) {
     }
 }
 
-// `packages` of a lock file, the name and the folder of a workspace, and its problem with the folder that was found.
-const PROBLEMS: [(&str, &str, &str, Option<(Kind, Option<&str>)>); 12] = [
-    (r#""": {}"#, "a", "w", Some((Kind::Missing, None))),
+// `packages` of a lock file, the name and the folder of a workspace, and its problem, with the folder that was found.
+const PROBLEMS: [(&str, &str, &str, &str); 12] = [
+    (r#""": {}"#, "a", "w", "missing"),
     (
         r#""": {}, "node_modules/a": {"link": true, "resolved": "w"}, "w": {}"#,
         "a",
         "w",
-        None,
+        "none",
     ),
     // The workspace was renamed, or moved.
     (
         r#""": {}, "node_modules/a": {"link": true, "resolved": "w"}, "w": {}"#,
         "b",
         "w",
-        Some((Kind::Missing, None)),
+        "missing",
     ),
     (
         r#""": {}, "node_modules/a": {"link": true, "resolved": "w"}, "w": {}"#,
         "a",
         "v",
-        Some((Kind::Invalid, Some("w"))),
+        "invalid w",
     ),
     // Another package is there, a link to nothing, or one in a folder of another package.
     (
         r#""": {}, "node_modules/a": {}"#,
         "a",
         "w",
-        Some((Kind::Invalid, Some("node_modules/a"))),
+        "invalid node_modules/a",
     ),
     (
         r#""": {}, "node_modules/a": {"link": true, "resolved": "w"}"#,
         "a",
         "w",
-        Some((Kind::Missing, None)),
+        "missing",
     ),
     (
         r#""": {}, "v/node_modules/a": {"link": true, "resolved": "w"}, "w": {}"#,
         "a",
         "w",
-        Some((Kind::Missing, None)),
+        "missing",
     ),
     // The root itself asks for the name, and it is missing anyhow, but not if it may be missing.
-    (r#""": {"dependencies": {"a": "1"}}"#, "a", "w", None),
+    (r#""": {"dependencies": {"a": "1"}}"#, "a", "w", "none"),
     (
         r#""": {"devDependencies": {"a": "1"}, "optionalDependencies": {"a": "1"}}"#,
         "a",
         "w",
-        None,
+        "none",
     ),
     (
         r#""": {"dependencies": {"a": "1"}, "optionalDependencies": {"a": "1"}}"#,
         "a",
         "w",
-        Some((Kind::Missing, None)),
+        "missing",
     ),
     (
         r#""": {"peerDependencies": {"a": "1"}, "peerDependenciesMeta": {"a": {"optional": true}}}"#,
         "a",
         "w",
-        Some((Kind::Missing, None)),
+        "missing",
     ),
-    ("", "a", "w", None),
+    ("", "a", "w", "none"),
 ];
 
 #[test]
-fn finds_the_problem_of_each_workspace(rt: HostRuntime) -> Result<(), Fail> {
-    let alloc = rt.alloc();
+fn finds_the_problem_of_each_workspace(rt: HostRuntime) {
     for (packages, name, folder, wanted) in PROBLEMS {
-        let text = format!(in alloc; "{{\"packages\": {{{packages}}}}}")?;
-        let lock = Value::from_str(alloc, text.as_str())?;
-        let problem = workspace_problem(alloc, &lock, name, folder)?;
-        let spec = format!(in alloc; "file:{folder}")?;
-        let found = problem.as_ref().map(|problem| {
-            let to = problem.dependency.to.as_ref().map(String::as_str);
-            (problem.kind, to)
-        });
-        assert!(rt; found == wanted, "{packages} {name} {folder}");
-        if let Some(problem) = &problem {
-            let dependency = &problem.dependency;
-            assert!(rt;
-                dependency.name.as_str() == name && dependency.spec == spec,
-                "{packages}"
-            );
-        }
+        assert!(rt;
+            is_text(told(rt.alloc(), packages, name, folder), wanted),
+            "{packages} {name} {folder}"
+        );
     }
-    Ok(())
+}
+
+// The problem of a workspace beside these packages.
+fn told(alloc: Global, packages: &str, name: &str, folder: &str) -> Option<String> {
+    let text = format!(in alloc; "{{\"packages\": {{{packages}}}}}").ok()?;
+    match &Value::from_str(alloc, text.as_str()) {
+        Ok(lock) => problem_text(alloc, lock, name, folder),
+        Err(_) => None,
+    }
+}
+
+fn problem_text(alloc: Global, lock: &Value, name: &str, folder: &str) -> Option<String> {
+    match &workspace_problem(alloc, lock, name, folder) {
+        Ok(Some(problem)) => words_of(alloc, problem, name, folder),
+        Ok(None) => String::from_str(alloc, "none").ok(),
+        Err(_) => None,
+    }
+}
+
+// The kind of a problem, and the folder that was found, if the dependency has this name and asks for this folder.
+fn words_of(alloc: Global, problem: &Problem, name: &str, folder: &str) -> Option<String> {
+    let dependency = &problem.dependency;
+    if dependency.name.as_str() != name || !asks_for(dependency.spec.as_str(), folder) {
+        return None;
+    }
+    let kind = problem.kind.as_str();
+    match &dependency.to {
+        Some(to) => format!(in alloc; "{kind} {to}").ok(),
+        None => String::from_str(alloc, kind).ok(),
+    }
+}
+
+fn asks_for(spec: &str, folder: &str) -> bool {
+    match spec.strip_prefix("file:") {
+        Some(rest) => rest == folder,
+        None => false,
+    }
 }

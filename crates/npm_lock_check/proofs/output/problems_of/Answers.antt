@@ -9,4 +9,4 @@ returns-in-Err-Refused-clause-refused c =
     let told : lock_fault (view c.args.lock.now) ≡ Some c.in-Err-Refused.fault =
     (c.check.ensures.refused c.in-Err-Refused.fault).0
     (c.in-Err-Refused.is ∙ ap Err c.in-Err-Refused.field-0-is) in
-    inl (c.in-Err-Refused.fault, refl, told)
+    inl (c.in-Err-Refused.fault, rw c.in-Err-Refused.field-0-is refl, told)

@@ -1,6 +1,6 @@
 -- What is found out about dependencies, one after the other, and their lines.
-use Rattle.std.proofs.Common.{◌≡◌, ◌≢◌, ◌∙◌, ℕ, ◌+◌, ◌<◌, List, [], ◌∷◌, ◌++◌, Bool, true, false, append_assoc}
-use Rattle.std.proofs.Common.{Err, Global, IfErr, IfOk, None, Ok, OnOk, Option, Result, Some, String, ap, append-nil}
+use Rattle.std.proofs.Common.{◌≡◌, ◌≢◌, ◌∙◌, ℕ, ◌+◌, ◌<◌, List, [], ◌∷◌, ◌++◌, Bool, false, append_assoc}
+use Rattle.std.proofs.Common.{Err, Global, IfErr, IfOk, Ok, OnOk, Result, Some, String, ap, append-nil}
 use Rattle.std.proofs.Common.{codes, drop, get_or, inl, inr, length, map, refl, string_bytes, sym}
 use Rattle.std.proofs.lemmas.List.{drop_all, drop_more, map-append}
 use Rattle.std.specs.List.{AllZip, fold, list_any}

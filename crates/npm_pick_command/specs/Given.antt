@@ -1,5 +1,5 @@
 -- The times and versions that arguments name.
-use Rattle.std.specs.Prelude.{◌≡◌, ◌++◌, ℕ, ℤ, List, Option, Some, None, Result, Ok, Err, codes, option_map}
+use Rattle.std.specs.Prelude.{◌++◌, ℕ, ℤ, List, Option, Some, None, Result, Ok, Err, codes, option_map}
 use Rattle.jiff.specs.Words.{parse_timestamp}
 use Rattle.jiff_core.specs.declared.error.Error.{Error}
 use Rattle.jiff_core.specs.declared.timestamp.Timestamp.{Timestamp}

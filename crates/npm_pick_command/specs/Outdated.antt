@@ -1,6 +1,6 @@
 -- Which dependencies of a lock file are outdated: npm's "npm outdated".
-use Rattle.std.specs.Prelude.{◌≡◌, ◌⊎◌, ◌&&◌, ◌||◌, ◌==◌, ℕ, List, [], ◌∷◌, ◌++◌, Bool, true, false, Option, Some, None}
-use Rattle.std.specs.Prelude.{Result, Ok, Err, bytes_eq, codes, is_none, length, not, string_bytes}
+use Rattle.std.specs.Prelude.{◌≡◌, ◌⊎◌, ◌&&◌, ◌||◌, ◌==◌, ℕ, List, Bool, true, false, Option, Some, None}
+use Rattle.std.specs.Prelude.{Ok, Err, bytes_eq, codes, is_none, length, not, string_bytes}
 use Rattle.serde_json.specs.Data.{Data}
 use Rattle.serde_json.specs.View.{view}
 use Rattle.serde_json.specs.declared.value.Value.{Value}
@@ -27,8 +27,8 @@ pub data OutcomeValue : Type 0 where
   absent : OutcomeValue
   passed : OutcomeValue
 
--- A dependency that is left out: one of another package than the root, unless all count; one that `overrides` change in a
--- way that is not read here; and, as npm does, one in development alone or a peer that is missing.
+-- A dependency that is left out: one of another package than the root, unless all count; one that `overrides` change
+-- in a way that is not read here; and, as npm does, one in development alone or a peer that is missing.
 abbrev pub is_passed : (all : Bool) → EdgeValue → Bool
 is_passed all edge = (not all && not (length edge.from == 0)) || edge.is_overridden
     || (is_none edge.to && edge.is_needed && (edge.is_peer || edge.is_dev))

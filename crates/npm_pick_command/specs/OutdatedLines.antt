@@ -12,7 +12,8 @@ abbrev pub text_or_null : Option (List ℕ) → Data
 text_or_null None = null
 text_or_null (Some text) = string text
 
--- the JSON object: `{"current":"1.0.0","folder":"node_modules/a","from":"","latest":"2.0.0","name":"a","wanted":"1.2.0"}`
+-- the JSON object:
+-- `{"current":"1.0.0","folder":"node_modules/a","from":"","latest":"2.0.0","name":"a","wanted":"1.2.0"}`
 abbrev pub row_data : RowValue → Data
 row_data row = object (member (codes "current") (text_or_null row.edge.version)
     (member (codes "folder") (text_or_null row.edge.to)

@@ -4,7 +4,7 @@ use Rattle.jiff_core.specs.declared.timestamp.Timestamp.{Timestamp}
 use Rattle.node_semver.specs.Versions.{IsVersionText, VersionValue}
 use Rattle.npm_pick.specs.declared.options.Options.{Options}
 use Rattle.npm_pick_command.specs.Arguments.{ArgumentsValue}
-use Rattle.npm_pick_command.specs.Given.{IsVersionGiven, instant_of, time_given}
+use Rattle.npm_pick_command.specs.Given.{IsVersionGiven, time_given}
 use Rattle.npm_pick_command.specs.declared.picking.Values.{Values}
 
 -- the time of a text, if there is a text

@@ -1,7 +1,8 @@
 -- What the program does, by its arguments.
 use Rattle.std.specs.Prelude.{ℕ, List, [], if◌then◌else◌, Option, Some, None, Result, Ok, Err, unwrap_or}
 use Rattle.std.specs.Result.{result_map_both}
-use Rattle.npm_pick_command.specs.Arguments.{ArgumentErrorValue, ArgumentsValue, argument_error_value, no_lock, no_packument}
+use Rattle.npm_pick_command.specs.Arguments.{ArgumentErrorValue, ArgumentsValue, argument_error_value, no_lock}
+use Rattle.npm_pick_command.specs.Arguments.{no_packument}
 use Rattle.npm_pick_command.specs.Arguments.{no_packuments, no_spec}
 use Rattle.npm_pick_command.specs.declared.argument_error.ArgumentError.{ArgumentError}
 use Rattle.npm_pick_command.specs.declared.task.Task.{Task}

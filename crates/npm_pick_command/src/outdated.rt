@@ -91,12 +91,12 @@ fn outcome_of<'v, F: Fn(&str) -> Result<Option<Value>, LoadError>>(
     edge: Edge<'v>,
     all: bool,
     options: &Options<'_>,
-    load: F,
+    load: &F,
 ) -> Result<Outcome<'v>, RunError>
-    requires { F.IsAlwaysCallable load }
-    ensures found { IfOk result (λ outcome. IsOutcome (FnReturnsAt F.Fn load) all options.now (edge_value edge.entry)
-        (outcome_value outcome)) }
-    ensures failed { IfErr result (IsLoadFailure (FnReturnsAt F.Fn load)) }
+    requires { F.IsAlwaysCallable load.now }
+    ensures found { IfOk result (λ outcome. IsOutcome (FnReturnsAt F.Fn load.now) all options.now
+        (edge_value edge.entry) (outcome_value outcome)) }
+    ensures failed { IfErr result (IsLoadFailure (FnReturnsAt F.Fn load.now)) }
 {
     if is_passed(&edge, all) {
         return Ok(Outcome::Passed);
@@ -168,8 +168,10 @@ fn key_of<'p>(
 {
     match pick(alloc, packument, text, options) {
         Ok(picked) => Ok(Some(picked.key)),
-        Err(PickError::Memory) => Err(RunError::Memory),
-        Err(_) => Ok(None),
+        Err(error) => match error {
+            PickError::Memory => Err(RunError::Memory),
+            _ => Ok(None),
+        },
     }
 }
 

@@ -1,5 +1,6 @@
 //! What the arguments say of the version that is picked.
-ghost use Rattle.std.specs.Prelude.{◌≡◌, IfOk, string_bytes, option_map};
+ghost use Rattle.std.specs.Prelude.{◌≡◌, IfOk, Some, string_bytes, option_map};
+ghost use Rattle.node_semver.specs.Versions.{IsVersionText, VersionValue};
 ghost use Rattle.npm_pick_command.specs.Arguments.{arguments_value};
 ghost use Rattle.npm_pick_command.specs.Picking as Picking;
 ghost use Rattle.npm_pick_command.specs.Picking.{AreOptions, AreValues};
@@ -97,12 +98,21 @@ fn npm_of<'a>(alloc: Global, text: Option<&'a str>) -> Result<Option<String>, Pr
     }
 }
 
-/// The version of a text that is one.
+/// The version of a text, if there is a text.
 fn version_of(text: &Option<String>) -> Option<VersionRef<'_>>
     ensures { Picking.IsVersionOf (option_map string_bytes text.now) result }
 {
-    let text = text.as_ref()?;
-    match VersionRef::parse(text.as_str()) {
+    match text {
+        Some(text) => version_in(text.as_str()),
+        None => None,
+    }
+}
+
+/// The version of a text that is one.
+fn version_in(text: &str) -> Option<VersionRef<'_>>
+    ensures { (v : VersionValue) → IsVersionText text.now v → result ≡ Some v }
+{
+    match VersionRef::parse(text) {
         Ok(version) => Some(version),
         Err(_) => None,
     }

@@ -77,15 +77,31 @@ pub fn run<W: Write, F: Fn(&str) -> Result<Option<Value>, LoadError>>(
         × IsReply (FnReturnsAt F.Fn load) question.entry options.now format (record { lines = text; ending = ending })
         × Appends (W.contents writer.old) (W.contents writer.new) text) }
 {
-    let reply = match question {
-        Question::Pick(packument, wanted) => {
-            pick_reply(alloc, packument, wanted, options, format)?
-        }
-        Question::Outdated(lock, all) => outdated_reply(alloc, lock, all, options, format, load)?,
+    let reply = match reply_of(alloc, question, options, format, load) {
+        Ok(reply) => reply,
+        Err(error) => return Err(error),
     };
     match writer.write_all(reply.lines.as_slice()) {
         Ok(()) => Ok(reply.ending),
         Err(_) => Err(RunError::Write),
+    }
+}
+
+/// What is written for a question.
+fn reply_of<F: Fn(&str) -> Result<Option<Value>, LoadError>>(
+    alloc: Global,
+    question: Question<'_>,
+    options: &Options<'_>,
+    format: Format,
+    load: F,
+) -> Result<Reply, RunError>
+    requires { F.IsAlwaysCallable load }
+    ensures { IfOk result (λ reply. IsReply (FnReturnsAt F.Fn load) question.entry options.now format
+        (reply_value reply)) }
+{
+    match question {
+        Question::Pick(packument, wanted) => pick_reply(alloc, packument, wanted, options, format),
+        Question::Outdated(lock, all) => outdated_reply(alloc, lock, all, options, format, load),
     }
 }
 
@@ -105,11 +121,13 @@ fn pick_reply(
             lines: picked_line(alloc, picked, format)?,
             ending: Ending::Picked,
         }),
-        Err(PickError::Memory) => Err(RunError::Memory),
-        Err(error) => Ok(Reply {
-            lines: Vec::new(alloc),
-            ending: Ending::Nothing(error),
-        }),
+        Err(error) => match error {
+            PickError::Memory => Err(RunError::Memory),
+            _ => Ok(Reply {
+                lines: Vec::new(alloc),
+                ending: Ending::Nothing(error),
+            }),
+        },
     }
 }
 

@@ -24,7 +24,7 @@ returns-in_err-text-clause-refused g c =
     let ended : IsAtEnd (g.R.Read.remaining c.read_to_end.new.self) = search rules in
     let stopped : IsUnread g.R.Read.remaining c.args.reader.now c.read_to_end.new.self NoUtf8 = record {
       bytes = appended_bytes c.new-bytes.result.items c.read_to_end.new.buf.items;
-      taken = c.read_to_end.ensures.taken;
+      taken = c.read_to_end.ensures.none_lost;
       ended = ended;
       such = (unmarked, unread);
     } in

@@ -82,6 +82,7 @@ class Setup(unittest.TestCase):
         self.linked()
         older = os.path.join(self.python, "older.a")
         shutil.copy(os.path.join(self.c, "build", "libnode_semver.a"), older)
+        shutil.copy(os.path.join(self.c, "build", "libnpm_pick.a"), self.python)
         os.utime(older, (0, 0))
         self.write(self.source, SOURCE % "second")
         self.assertEqual(self.linked(), "second")

@@ -9,6 +9,7 @@ use Rattle.npm_lock_check.specs.Linked.{AreRead, LinkedValue, no_folder, one_mor
 use Rattle.npm_lock_check.specs.ManifestFile.{HasNoSlash, IsFolderOf, above, current, path_of}
 use Rattle.npm_lock_check.specs.Output.{linked_fault}
 use Rattle.npm_lock_check.specs.Report.{manifests_of, placed}
+use Rattle.npm_lock_check.specs.WorkspaceName.{folder_name, workspace_name}
 use Rattle.npm_lock_check.specs.declared.linked.Found.{Found}
 use Rattle.npm_lock_check.specs.declared.linked.Found.TheVariants.{Manifest, Nothing, Unread}
 use Rattle.npm_lock_check.specs.declared.run_error.LoadError.{LoadError}
@@ -60,12 +61,23 @@ v_then_w = codes "v" ∷ codes "w" ∷ []
 module _ (Gives : (folder : List ℕ) → Result Found LoadError → Type 0) (manifest : Value) where
   -- what is there counts, and what is not read is told
   pub all_that_is_found : Gives (codes "v") (Ok Unread) → Gives (codes "w") (Ok (Manifest manifest))
-      → AreRead Gives v_then_w (record { linked = at_w (view manifest) ∷ []; unread = codes "v" ∷ [] })
+      → AreRead Gives v_then_w (record { linked = at_w (view manifest) ∷ []; unread = codes "v" ∷ []; workspaces = [] })
   all_that_is_found v w = one_more _ _ _ _ _ v (one_more _ _ _ _ _ w (no_folder _))
 
   pub what_is_not_there_is_left_out : Gives (codes "v") (Ok Nothing) → Gives (codes "w") (Ok (Manifest manifest))
-      → AreRead Gives v_then_w (record { linked = at_w (view manifest) ∷ []; unread = [] })
+      → AreRead Gives v_then_w (record { linked = at_w (view manifest) ∷ []; unread = []; workspaces = [] })
   what_is_not_there_is_left_out v w = one_more _ _ _ _ _ v (one_more _ _ _ _ _ w (no_folder _))
+
+-- ---- workspaces
+
+pub the_name_of_the_manifest : workspace_name (one (codes "name") (string (codes "renamed"))) (codes "/p/w") ≡ codes "renamed"
+the_name_of_the_manifest = refl
+
+pub an_empty_name_is_that_of_the_folder : workspace_name (one (codes "name") (string [])) (codes "/p/w") ≡ codes "w"
+an_empty_name_is_that_of_the_folder = refl
+
+pub a_scope_is_in_the_name : folder_name (codes "/p/@s/w") ≡ codes "@s/w"
+a_scope_is_in_the_name = refl
 
 -- ---- files
 

@@ -70,7 +70,8 @@ module _ (Gives : (folder : List ℕ) → Result Found LoadError → Type 0) (ma
 
 -- ---- workspaces
 
-pub the_name_of_the_manifest : workspace_name (one (codes "name") (string (codes "renamed"))) (codes "/p/w") ≡ codes "renamed"
+pub the_name_of_the_manifest : workspace_name (one (codes "name") (string (codes "renamed"))) (codes "/p/w")
+    ≡ codes "renamed"
 the_name_of_the_manifest = refl
 
 pub an_empty_name_is_that_of_the_folder : workspace_name (one (codes "name") (string [])) (codes "/p/w") ≡ codes "w"

@@ -3,6 +3,7 @@ import ctypes
 import json
 
 ROOM = 1000  # More bytes than a key has.
+NAMES = {"avoidStrict": "avoid_strict", "includeStaged": "include_staged"}  # npm's names of options.
 
 
 class Text(ctypes.Structure):
@@ -31,8 +32,9 @@ class Picks:
             return None
         self.called.add("npm_pick_c::npm_pick_version")
         document, options, wanted = words
-        given = {key: text.encode() for key, text in json.loads(options or "{}").items()}
-        asked = Options(**{key: Text(text, len(text)) for key, text in given.items()})
+        given = {NAMES.get(key, key): value if isinstance(value, bool) else value.encode()
+                 for key, value in json.loads(options or "{}").items()}
+        asked = Options(**{key: value if isinstance(value, bool) else Text(value, len(value)) for key, value in given.items()})
         texts = [it for text in (document.encode(), wanted.encode()) for it in (text, ctypes.c_size_t(len(text)))]
         status = self.library.npm_pick_version(*texts, ctypes.byref(asked), self.room, ctypes.c_size_t(ROOM),
                                                ctypes.byref(self.picked))

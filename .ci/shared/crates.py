@@ -39,6 +39,15 @@ def is_built(*words):
     return subprocess.run([os.path.join(CI, "is_built"), *words], stdout=subprocess.PIPE, text=True)
 
 
+def arguments(name):
+    """What `rt run` passes to a program in its stored run, whose file `args` has a line each."""
+    path = os.path.join(CRATES, name, "args")
+    if not os.path.isfile(path):
+        return []
+    with open(path, encoding="utf-8") as file:
+        return ["--", *file.read().splitlines()]
+
+
 def program(name):
     """The path of a program as it stands in the sources: the gate leaves it built, and else it is proved and built here."""
     path, crates = os.path.join(CRATES, name, "out", name), below(name)
@@ -48,7 +57,7 @@ def program(name):
         if os.path.exists(path):
             os.remove(path)
         with open(os.path.join(CRATES, name, "stdin"), encoding="utf-8") as given:
-            words = ["rt", "run"]
+            words = ["rt", "run", *arguments(name)]
             ran = subprocess.run(words, cwd=os.path.join(CRATES, name), stdin=given, capture_output=True, text=True)
         if not os.path.isfile(path):
             sys.exit(f"{ran.stdout[-2000:]}{ran.stderr[-2000:]}\n{name} was not built\n0 passed, 1 failed")

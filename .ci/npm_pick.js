@@ -29,7 +29,7 @@ const withTime = time => ({
 })
 
 // Where npm answers otherwise: the name of a rule, which cases it covers, and an example with the answers of npm and of npm_pick.
-// crates/npm_pick/README.md has the rules by these names, with reasons.
+// crates/npm_pick/README.md has the rules by these names.
 const RULES = [
   {
     name: 'equal versions',

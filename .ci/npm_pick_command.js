@@ -1,6 +1,7 @@
 // Runs the program npm_pick_command and npm's own code on the same files: node npm_pick_command.js PROGRAM LINES SEED ROOM.
 // The version that is picked is compared with npm-pick-manifest, as the installed npm has it, and what is outdated with npm outdated,
-// which asks a registry on the loopback that serves the same documents.
+// which asks a registry on the loopback that serves the same documents. What a mirror keeps is compared with npm-package-arg, which reads
+// the specs, and with npm-pick-manifest and semver.
 'use strict';
 
 const { execFile, execSync, spawnSync } = require('node:child_process');
@@ -11,6 +12,8 @@ const path = require('node:path');
 const [program, count, seed, room] = [process.argv[2], Number(process.argv[3]), Number(process.argv[4]), process.argv[5]];
 const modules = path.join(execSync('npm root -g', { encoding: 'utf8' }).trim(), 'npm/node_modules');
 const pickManifest = require(path.join(modules, 'npm-pick-manifest'));
+const npa = require(path.join(modules, 'npm-package-arg'));
+const semver = require(path.join(modules, 'semver'));
 
 let state = seed >>> 0;
 function below(limit) {
@@ -169,6 +172,72 @@ const server = http.createServer((request, response) => {
     response.writeHead(found ? 200 : 404, { 'content-type': 'application/json' }).end(JSON.stringify(found ?? { error: 'not found' }));
 });
 
+// ---- what a mirror keeps, beside npm-package-arg, npm-pick-manifest and semver
+
+const bytes = (a, b) => Buffer.compare(Buffer.from(a), Buffer.from(b));
+
+// The versions that are kept for these specs, whether a package has no document, and what standard error says.
+function npmsKept(asks, all, options) {
+    const specs = new Map();
+    const notes = new Set();
+    for (const [name, text] of asks) {
+        const { subSpec, ...asked } = npa.resolve(name, text, '/');
+        const { registry, name: real, fetchSpec } = subSpec ?? asked;
+        if (registry) {
+            specs.set(real, [...specs.get(real) ?? [], fetchSpec]);
+        } else {
+            notes.add(`not from a registry: ${name} (${text})`);
+        }
+    }
+    const names = [...specs.keys()].sort(bytes);
+    const kept = names.filter((name) => documents[name]).flatMap((name) => {
+        const keys = specs.get(name).map((text) => picked(documents[name], text, options)?.version).filter((key) => key);
+        const admitted = Object.keys(documents[name].versions).filter((key) => all && isPublished(documents[name], key, options)
+            && specs.get(name).some((text) => semver.satisfies(key, text, { loose: true })));
+        return [...new Set([...keys, ...admitted])].sort((a, b) => semver.compare(a, b) || bytes(a, b)).map((key) => `${name}@${key}`);
+    });
+    const absent = names.filter((name) => !documents[name]);
+    const said = [...absent.map((name) => `no document in the folder: ${name}`), ...notes].sort(bytes);
+    return { kept, status: absent.length ? 1 : 0, error: said.map((note) => `npm_pick: ${note}\n`).join('') };
+}
+
+function isPublished(document, key, options) {
+    return !options.before || !document.time[key] || new Date(document.time[key]) <= new Date(options.before);
+}
+
+const GROUPS = ['dependencies', 'devDependencies', 'optionalDependencies', 'peerDependencies'];
+
+// What a manifest or a package of a lock file asks for. Of one name in two groups both count for a manifest.
+const asksOf = (manifest) => GROUPS.flatMap((group) => Object.entries(manifest[group] ?? {}));
+
+// What the packages of a lock file ask for: of one name the last group counts, and devDependencies do for the root alone.
+function asksOfLock(lock) {
+    return Object.entries(lock.packages).flatMap(([folder, asker]) => Object.entries(Object.assign({}, asker.peerDependencies,
+        asker.dependencies, asker.optionalDependencies, folder === '' ? asker.devDependencies : {})));
+}
+
+function compareKept(folder) {
+    let versions = 0;
+    const manifest = path.join(folder, 'project/package.json');
+    const lock = path.join(folder, 'project/package-lock.json');
+    const read = (file) => JSON.parse(fs.readFileSync(file, 'utf8'));
+    for (const [words, asks] of [[['--manifest', manifest], asksOf(read(manifest))], [['--lock', lock], asksOfLock(read(lock))],
+        [['--lock', lock, '--manifest', manifest], [...asksOf(read(manifest)), ...asksOfLock(read(lock))]]]) {
+        const all = chance(50);
+        const made = madeOptions();
+        const isJson = chance(30);
+        const { kept, ...expected } = npmsKept(asks, all, made.options);
+        const answer = answerOf([...made.words, '--packuments', path.join(folder, 'mirror'), ...words, '--keep',
+            ...(all ? ['--all'] : []), ...(isJson ? ['--format=json'] : [])]);
+        expected.output = isJson ? `${JSON.stringify(kept)}\n` : kept.map((line) => `${line}\n`).join('');
+        if (answer.output !== expected.output || answer.status !== expected.status || answer.error !== expected.error) {
+            wrong('what is kept', { words: [...made.words, ...words], all, asks, expected, answer });
+        }
+        versions += kept.length;
+    }
+    return versions;
+}
+
 // What npm outdated says: a row for each dependency, with its name, and the versions that are current, wanted and latest.
 function npmsRows(folder, all) {
     const words = ['outdated', '--json', ...(all ? ['--all'] : []), `--registry=http://127.0.0.1:${server.address().port}`,
@@ -212,8 +281,10 @@ const npmVersion = execSync('npm --version', { encoding: 'utf8' }).trim();
 server.listen(0, '127.0.0.1', async () => {
     const folder = path.join(room, 'made');
     let rows = 0;
+    let versions = 0;
     for (let at = 0; at < PROJECTS; at += 1) {
         documents = madeProject(folder);
+        versions += compareKept(folder);
         for (const all of [false, true]) {
             const npms = await npmsRows(folder, all);
             const ours = ourRows(folder, all);
@@ -225,7 +296,7 @@ server.listen(0, '127.0.0.1', async () => {
             }
         }
     }
-    console.log(`${PROJECTS} projects have ${rows} rows as npm outdated has them`);
+    console.log(`${PROJECTS} projects have ${rows} rows as npm outdated has them, and a mirror keeps ${versions} versions for them`);
     server.close();
     process.exit(failed ? 1 : 0);
 });

@@ -7,9 +7,10 @@ const { execSync, spawnSync } = require('node:child_process');
 const fs = require('node:fs');
 const { createRequire } = require('node:module');
 const path = require('node:path');
+const { ROWS: READ_ROWS } = require('../bindings/node/test/command-rows.js');
 
 const [program, ...before] = process.argv[2].split(' ');
-const lines = Number(process.argv[3]);
+const count = Number(process.argv[3]);
 let seed = Number(process.argv[4]);
 
 // ---- npm's command
@@ -65,43 +66,6 @@ const ROWS = [
     [['1.2.3-9007199254740993', '1.2.3-9007199254740992'], written('1.2.3-9007199254740993', '1.2.3-9007199254740992'),
         written('1.2.3-9007199254740992', '1.2.3-9007199254740993')],
 ];
-
-// ---- what npm's command has not: words, standard input, and what the program writes. npm's command reads no standard input.
-
-const VERSIONS = '1.10.0\nv1.2.3\r\n\nlatest\n2.0.0-rc.1\n 1.4.2 \n2.0.0+5';
-const text = (output, status = 0) => ({ status, output, error: '' });
-const READ_ROWS = [
-    [['-r', '^1'], VERSIONS, written('1.2.3', '1.4.2', '1.10.0')],
-    [['--loose'], VERSIONS, written('1.2.3', '1.4.2', '1.10.0', '2.0.0-rc.1', '2.0.0')],
-    [['-'], VERSIONS, written('1.2.3', '1.4.2', '1.10.0', '2.0.0-rc.1', '2.0.0')],
-    [['--unsorted', '3.0.0', '-', '0.1.0', '-', 'x'], VERSIONS, written('3.0.0', '1.10.0', '1.2.3', '2.0.0-rc.1', '1.4.2', '2.0.0', '0.1.0')],
-    [['--unsorted', '3.0.0', '1.0.0'], VERSIONS, written('3.0.0', '1.0.0')],
-    [['--unsorted', '--reverse', '-'], '1.0.0\n3.0.0\n2.0.0\n', written('1.0.0', '3.0.0', '2.0.0')],
-    [['-v', '-'], '1.0.0', written('1.0.0')],
-    [['--least', '-'], VERSIONS, written('1.2.3')],
-    [['--greatest', '-'], VERSIONS, written('2.0.0')],
-    [['--greatest', '-r', '1.x', '-'], VERSIONS, written('1.10.0')],
-    [['--least', '--greatest', '1.0.0', '2.0.0'], '', written('2.0.0')],
-    [['--greatest', '--least', '1.0.0', '2.0.0'], '', written('1.0.0')],
-    [['--greatest', '--unsorted', '2.0.0', '1.0.0'], '', written('2.0.0', '1.0.0')],
-    [['--least', '-r', '^3', '-'], VERSIONS, NOTHING],
-    [['--least', '-i', 'minor', '1.2.3'], '', written('1.3.0')],
-    [['-i', 'major'], '1.2.3\n', written('2.0.0')],
-    [['-r', '^1'], '', NOTHING],
-    [['-c'], 'release-1.2\n', written('1.2.0')],
-    [['--json', '1.10.0', '1.2.3'], '', text('["1.2.3","1.10.0"]\n')],
-    [['--json', '--unsorted', '1.10.0', 'x', '1.2.3-rc.1'], '', text('["1.10.0","1.2.3-rc.1"]\n')],
-    [['--json', '--least', '1.10.0', '1.2.3'], '', text('["1.2.3"]\n')],
-    [['--json', 'x'], '', text('[]\n', 1)],
-    [['--json', '--unsorted', 'x'], '', text('[]\n', 1)],
-    [['--json', '--greatest', 'x'], '', text('[]\n', 1)],
-    [['--json', '-i', 'minor', '1.2.3'], '', text('["1.3.0"]\n')],
-    [['--json', '-i', 'minor', 'x'], '', text('[]\n', 1)],
-    [['--json', '-i', 'major', '9007199254740991.0.0'], '', text('[null]\n')],
-];
-
-// Bytes that are no UTF-8 make a line that is no version.
-const NO_UTF8 = [['-'], Buffer.from([0x31, 0x2e, 0x32, 0x2e, 0x33, 0xff, 0x0a, 0x31, 0x2e, 0x30, 0x2e, 0x30, 0x0a]), written('1.0.0')];
 
 // What `--help` writes is the program's own.
 const isHelp = (words) => npmsAnswer(words).output.startsWith('SemVer ');
@@ -214,13 +178,14 @@ for (const [words, npms, ours] of before.length > 0 ? [] : ROWS) {
     check(isSame(npmsAnswer(words), npms), 'what npm has in a row', words, npmsAnswer(words), npms);
     check(isSame(programsAnswer(words), ours), 'a row', words, ours, programsAnswer(words));
 }
-for (const [words, input, ours] of before.length > 0 ? [] : [...READ_ROWS, NO_UTF8]) {
-    check(isSame(programsAnswer(words, input), ours), 'standard input', words, ours, programsAnswer(words, input));
+// What npm's command has not.
+for (const [words, input, ours] of READ_ROWS) {
+    check(isSame(programsAnswer(words, input), ours), 'what npm has not', words, ours, programsAnswer(words, input));
 }
 let helps = 0;
 let explained = 0;
 let printed = 0;
-for (let at = 0; at < lines; at++) {
+for (let at = 0; at < count; at++) {
     const words = commandLine();
     const npms = npmsAnswer(words);
     const ours = programsAnswer(words);
@@ -235,11 +200,11 @@ for (let at = 0; at < lines; at++) {
     } else {
         check(isSame(npms, ours), 'a command line', words, npms, ours);
     }
-    if (at % Math.ceil(lines / 50) === 0) {
+    if (at % Math.ceil(count / 50) === 0) {
         const real = answerOf(process.execPath, [command, ...words]);
         check(isSame(real, npms), 'npm in a process of its own', words, npms, real);
     }
 }
-console.log(`${lines} command lines, ${printed} with status 0, ${helps} with help, ${explained} in rows of the table: ${wrong} wrong`);
-check(printed * 3 > lines, 'a third of the lines writes versions', [], printed, lines);
+console.log(`${count} command lines, ${printed} with status 0, ${helps} with help, ${explained} in rows of the table: ${wrong} wrong`);
+check(printed * 3 > count, 'a third of the lines writes versions', [], printed, count);
 process.exit(wrong === 0 ? 0 : 1);

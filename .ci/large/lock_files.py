@@ -165,7 +165,7 @@ def manifest_rows():
         yield "npm_manifests::put_manifest", [text_of(lock), text_of(asked("^2", group)), ""], text_of(put)
     links = {f"node_modules/{name}": {"link": True, "resolved": f"w/{name}"} for name in NAMES}
     folders = {f"w/{name}": {} for name in NAMES}
-    yield "npm_lock::linked_folders", [text_of({"packages": {**links, **folders}})], "".join(f"w/{name}\t" for name in NAMES)
+    yield "npm_packages::linked_folders", [text_of({"packages": {**links, **folders}})], "".join(f"w/{name}\t" for name in NAMES)
     yield "npm_lock::workspace_patterns", [text_of({"workspaces": [f"./w/{name}" for name in NAMES]})], "".join(f"w/{name}\t" for name in NAMES)
     among = text_of({"packages": {"": {}, **links, **folders}})
     long = "d" * MANY
@@ -267,7 +267,7 @@ def audit_rows():
     lock = lock_of({}, {**packages, "node_modules/d": {"version": "1.0.0"}})
     yield "Dependents::of_lock", [text_of(lock), "", "node_modules/d"], "^1\t" * MANY
     found = "".join(f"node_modules/{name}>d ^1 node_modules/d 1.0.0\t" for name in sorted(NAMES))
-    yield "npm_lock::edges_of", [text_of(lock)], found
+    yield "npm_packages::edges_of", [text_of(lock)], found
 
 
 def pick_rows():

@@ -2,6 +2,7 @@
 import os
 
 from lock_files import GROUPS, LEVELS, NAMES, asked, at_root, audits, cases, lock_of, mismatch, osv_audits, text_of
+from ranges import alternatives
 from versions import LONG, MANY
 
 VERDICTS = {
@@ -150,3 +151,27 @@ def pair_runs():
     yield lines, answers
     many = "||".join(f"{number}.0.0" for number in range(MANY))
     yield [many, f"{MANY - 1}.0.0", "f" * LONG, "1.0.0", "1.2.3", "1" * LONG], ["yes", "bad range", "bad version"]
+
+
+LONG_WORD = 100000  # The bytes of a long word of a command line, which the system bounds.
+# A form of alternatives that semver_command explains, the print of its sets, and which prereleases satisfy them.
+EXPLAINED = [
+    ("^%.1.0", ">=%.1.0 <&.0.0-0", "no prereleases"),
+    (">=%.0.0-rc.% <%.9.0-a.b", ">=%.0.0-rc.% <%.9.0-a.b", "prereleases of %.0.0 and %.9.0"),
+    (">%.0.0 <%.0.1-0", ">%.0.0 <%.0.1-0", "no versions"),
+]
+
+
+def explained_runs():
+    """Words of semver_command after `--explain`, with the status and all that is written."""
+    for form, print_of, note in EXPLAINED:
+        sets, noted = alternatives(print_of), f"{print_of}  {note}"
+        lines = alternatives(noted).replace("||", "\n") + "\n"
+        yield ["--range", alternatives(form)], (0, lines, "")
+        yield [word for text in sets.split("||") for word in ("--range", text)], (0, lines, "")
+    included = alternatives(">=%.1.0 <&.0.0-0  all prereleases inside").replace("||", "\n") + "\n"
+    yield ["--include-prerelease", "--range", alternatives("^%.1.0")], (0, included, "")
+    before = ">=1.0.0 " * (LONG_WORD // 8)
+    yield ["--range", before + "foo"], (1, "", f"{before}foo\n{' ' * len(before)}^\n")
+    yield ["--loose", "--range", before + "foo"], (0, ">=1.0.0  no prereleases\n", "")
+    yield ["--range", "f" * LONG_WORD, "--range", "1.2.3"], (1, "1.2.3  no prereleases\n", "f" * LONG_WORD + "\n^\n")

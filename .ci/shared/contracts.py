@@ -76,16 +76,21 @@ def end_of_parameters(text, at):
     return len(text)
 
 
-def labelled_clauses(text):
-    """The clauses of the functions of a text: whether the function is public, its name, `requires` or `ensures`, the label or
-    None, and the clause."""
+def clauses_at(text):
+    """The clauses of the functions of a text: where the function begins, whether it is public, its name, `requires` or
+    `ensures`, the label or None, and the clause."""
     for function in FUNCTION.finditer(text):
         is_public = (function[1] or "").strip() == "pub"
         clause = CLAUSE.search(text, end_of_parameters(text, function.end()))
         while clause and clause[1]:
             end = end_of_block(text, clause.end() - 1)
-            yield is_public, function[2], clause[1], clause[2], text[clause.end() : end - 1]
+            yield function.start(), is_public, function[2], clause[1], clause[2], text[clause.end() : end - 1]
             clause = CLAUSE.match(text, re.compile(r"\s*").match(text, end).end())
+
+
+def labelled_clauses(text):
+    """The same without the place."""
+    yield from (clause[1:] for clause in clauses_at(text))
 
 
 def ghost_members(text):

@@ -10,9 +10,11 @@ import re
 
 from crates import CRATES, is_program, listed
 
-# Libraries that no user calls.
-SCRIPTS = {"memory_trials": "makes the calls", "node_semver_callers": "examples", "json_places": "no program uses it yet",
-           "annotations": "no program uses it yet"}
+# Libraries that no user calls, and those of which runs of npm_lock_check make each call.
+SCRIPTS = {"memory_trials": "makes the calls", "node_semver_callers": "examples",
+           "json_places": "runs with --format github and sarif", "annotations": "runs with --format github and sarif",
+           "json_findings": "runs with --format github and sarif", "npm_lock_annotations": "runs with --format github and sarif",
+           "command_lines": "all runs", "npm_lock_sentences": "runs with --format text", "npm_lock_reports": "all runs"}
 
 # A function, and the call that makes it.
 THROUGH = {
@@ -34,6 +36,7 @@ THROUGH = {
     "HasKey::add_prerelease_key": "semver_keys::version_key",
     "Version::add_prerelease_key": "semver_keys::version_key",
     "VersionRef::add_prerelease_key": "semver_keys::add_version_key",
+    "CommonSpan::narrow": "Range::parse",
     "Sets::read": "Range::parse",
     "Sets::copy": "Range::clone",
     "Sets::union": "Range::union",
@@ -47,7 +50,12 @@ THROUGH = {
     "npm_texts::range_of": "npm_lock::check",
     "npm_texts::copied": "npm_lock::check",
     "npm_texts::put_text": "npm_lock::check",
-    "npm_lock::place_text": "npm_lock_version_one::check_any",
+    "npm_packages::lock_of": "npm_lock::check",
+    "Index::of_lock": "npm_lock::check",
+    "Lock::find": "npm_lock::check",
+    "npm_packages::asked_of": "npm_lock::check",
+    "npm_packages::rules_of": "npm_lock::check",
+    "npm_packages::place_text": "npm_lock_version_one::check_any",
     "Mismatch::to_json": "npm_manifests::mismatches_of",
     "Problem::to_json": "npm_lock::check",
     "Unchecked::to_json": "npm_lock::check",

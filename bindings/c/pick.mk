@@ -4,15 +4,16 @@
 #
 #     make pick                                build/libnpm_pick.a and build/libnpm_pick.so.1.0.0
 #     make check-pick                          builds and runs its tests against a copy installed in build/stage-pick
-#     make install-pick PREFIX= DESTDIR=       installs the libraries, the header, npm_pick.pc and the licence
+#     make install-pick PREFIX= DESTDIR=       installs the libraries, the header, npm_pick.pc, the files of CMake and the licence
 #     make uninstall-pick PREFIX= DESTDIR=     removes them
 
 PICK_VERSION := $(shell sed -n 's/^\#define NPM_PICK_LIBRARY_VERSION "\(.*\)"/\1/p' include/npm_pick.h)
 PICK_STATIC := $(BUILD)/libnpm_pick.a
 PICK_SHARED := $(BUILD)/libnpm_pick.so.$(PICK_VERSION)
 PICK_SONAME := libnpm_pick.so.$(firstword $(subst ., ,$(PICK_VERSION)))
+PICK_CMAKEDIR ?= $(LIBDIR)/cmake/npm_pick
 PICK_DOCDIR ?= $(PREFIX)/share/doc/npm_pick
-export PICK_DOCDIR
+export PICK_CMAKEDIR PICK_DOCDIR
 PICK_CRATES := semver_cuts semver_texts semver_versions semver_sets node_semver npm_sets npm_semver npm_texts npm_pick npm_pick_c
 PICK_PROVED := $(ROOT)/crates/npm_pick_c/out/libnpm_pick_c.a
 PICK_SOURCES := $(ROOT)/crates.txt $(foreach name,$(PICK_CRATES),$(shell find $(ROOT)/crates/$(name) -path $(ROOT)/crates/$(name)/out -prune -o -type f -print))
@@ -55,7 +56,7 @@ $(BUILD)/$(PICK_SONAME) $(BUILD)/libnpm_pick.so: $(PICK_SHARED)
 	ln -sf $(notdir $(PICK_SHARED)) $@
 
 install-pick: absolute pick
-	$(INSTALL) -d "$$DESTDIR$$LIBDIR" "$$DESTDIR$$INCLUDEDIR" "$$DESTDIR$$PKGCONFIGDIR" "$$DESTDIR$$PICK_DOCDIR"
+	$(INSTALL) -d "$$DESTDIR$$LIBDIR" "$$DESTDIR$$INCLUDEDIR" "$$DESTDIR$$PKGCONFIGDIR" "$$DESTDIR$$PICK_CMAKEDIR" "$$DESTDIR$$PICK_DOCDIR"
 	$(INSTALL) -m 644 include/npm_pick.h "$$DESTDIR$$INCLUDEDIR/npm_pick.h"
 	$(INSTALL) -m 644 $(PICK_STATIC) "$$DESTDIR$$LIBDIR/libnpm_pick.a"
 	$(INSTALL) -m 755 $(PICK_SHARED) "$$DESTDIR$$LIBDIR/libnpm_pick.so.$(PICK_VERSION)"
@@ -65,16 +66,20 @@ install-pick: absolute pick
 	{ printf 'prefix=%s\nlibdir=%s\nincludedir=%s\n' "$$PREFIX" "$$LIBDIR" "$$INCLUDEDIR"; \
 	    sed 's/@VERSION@/$(PICK_VERSION)/' npm_pick.pc.in; } > "$$DESTDIR$$PKGCONFIGDIR/npm_pick.pc"
 	chmod 644 "$$DESTDIR$$PKGCONFIGDIR/npm_pick.pc"
+	name=npm_pick version=$(PICK_VERSION) folder="$$PICK_CMAKEDIR"; $(CMAKE_FILES)
 
 uninstall-pick: absolute
 	rm -f "$$DESTDIR$$INCLUDEDIR/npm_pick.h" "$$DESTDIR$$LIBDIR/libnpm_pick.a" "$$DESTDIR$$LIBDIR/libnpm_pick.so"
 	rm -f "$$DESTDIR$$LIBDIR/$(PICK_SONAME)" "$$DESTDIR$$LIBDIR/libnpm_pick.so.$(PICK_VERSION)"
 	rm -f "$$DESTDIR$$PKGCONFIGDIR/npm_pick.pc" "$$DESTDIR$$PICK_DOCDIR/LICENSE"
+	rm -f "$$DESTDIR$$PICK_CMAKEDIR/npm_pick-config.cmake" "$$DESTDIR$$PICK_CMAKEDIR/npm_pick-config-version.cmake"
+	if [ -d "$$DESTDIR$$PICK_CMAKEDIR" ]; then rmdir --ignore-fail-on-non-empty "$$DESTDIR$$PICK_CMAKEDIR"; fi
 	if [ -d "$$DESTDIR$$PICK_DOCDIR" ]; then rmdir --ignore-fail-on-non-empty "$$DESTDIR$$PICK_DOCDIR"; fi
 
 # Installs into build/stage-pick, and builds and runs the tests against that copy.
 check-pick: pick
 	rm -rf $(BUILD)/stage-pick
 	stage="$$PWD/$(BUILD)/stage-pick"; $(MAKE) install-pick PREFIX="$$stage" DESTDIR= LIBDIR="$$stage/lib" \
-	    INCLUDEDIR="$$stage/include" PKGCONFIGDIR="$$stage/lib/pkgconfig" PICK_DOCDIR="$$stage/share/doc/npm_pick" > /dev/null
+	    INCLUDEDIR="$$stage/include" PKGCONFIGDIR="$$stage/lib/pkgconfig" PICK_CMAKEDIR="$$stage/lib/cmake/npm_pick" \
+	    PICK_DOCDIR="$$stage/share/doc/npm_pick" > /dev/null
 	CC="$(CC)" PKG_CONFIG="$(PKG_CONFIG)" tests/pick/run $(BUILD)/stage-pick

@@ -1,109 +1,190 @@
 #!/usr/bin/env node
 // SPDX-License-Identifier: Apache-2.0
 // npm's command `semver`: writes the valid versions that satisfy all ranges, in order of precedence. Its arguments, its lines
-// and its status are npm's; the text of --help is its own.
+// and its status are npm's. The options that npm lacks, and what they write, are those of the proved program `semver`.
 'use strict';
 
 const semver = require('../index.js');
+const { readWords } = require('../internal/command/arguments.js');
+const { explained } = require('../internal/command/explain.js');
+const { HELP } = require('../internal/command/help.js');
+const { CommandError, Output, readLines, sayLine, writeAll } = require('../internal/command/streams.js');
 
-const HELP = `Writes the valid versions that satisfy all ranges, a line each, in ascending order: npm's command semver.
+const DASH = '-';
+const WRITTEN = 0;
+const NOTHING = 1;
+const STOPPED = 2;
 
-Usage: semver [OPTIONS] VERSION..
+// ---- what is read ----
 
-Options:
-  -r, --range RANGE           Leave out versions that do not satisfy RANGE. May be given several times.
-  -i, --inc, --increment [LEVEL]
-                              Write the version after an increment: major, minor, patch, premajor, preminor,
-                              prepatch or prerelease. The default is patch.
-  --preid IDENTIFIER          Begin a new prerelease with this identifier.
-  -n BASE                     The number of a new prerelease: 0 or 1, or false for none. The default is 0.
-  -c, --coerce                Take the version that is found in the text.
-  --rtl, --ltr                Look for it from the right, or from the left, which is the default.
-  -l, --loose                 Read ranges in loose form.
-  -p, --include-prerelease    A prerelease satisfies a range that it lies in.
-  -rv, --rev, --reverse       Write the versions in descending order.
-  -v, --version VERSION       A version, also if it looks like an option.
-  -h, -?, --help              Write this text.
+const decoder = new TextDecoder('utf-8', { fatal: true, ignoreBOM: true });
 
-The exit status is 0 if a version was written, and 1 if none is valid and satisfies all ranges.`;
-
-const LEVELS = ['major', 'minor', 'patch', 'prerelease', 'premajor', 'preminor', 'prepatch'];
-
-// What each option without a value sets.
-const FLAGS = new Map([
-    [['-rv', '-rev', '--rev', '--reverse'], { reverse: true }],
-    [['-l', '--loose'], { loose: true }],
-    [['-p', '--include-prerelease'], { includePrerelease: true }],
-    [['-c', '--coerce'], { coerce: true }],
-    [['--rtl'], { rtl: true }],
-    [['--ltr'], { rtl: false }],
-    [['-h', '--help', '-?'], { help: true }],
-].flatMap(([names, set]) => names.map((name) => [name, set])));
-
-// What the words ask for.
-function readWords(words) {
-    const asked = { versions: [], ranges: [], loose: false, includePrerelease: false, rtl: false };
-    const left = [...words];
-    while (left.length > 0 && !asked.help) {
-        const word = left.shift();
-        const equals = word.indexOf('=');
-        const name = equals < 0 ? word : word.slice(0, equals);
-        if (equals >= 0) {
-            left.unshift(word.slice(equals + 1));
-        }
-        switch (name) {
-            case '-r': case '--range': asked.ranges.push(left.shift()); break;
-            case '-v': case '--version': asked.versions.push(left.shift()); break;
-            case '-i': case '--inc': case '--increment':
-                asked.increment = LEVELS.includes(left[0]) ? left.shift() : 'patch';
-                break;
-            case '--preid': asked.identifier = left.shift(); break;
-            case '-n': asked.base = left.shift(); break;
-            default:
-                if (FLAGS.has(name)) {
-                    Object.assign(asked, FLAGS.get(name));
-                } else {
-                    asked.versions.push(name);
-                }
-        }
+// The text of a line; `undefined` if it is not in UTF-8.
+function textOf(line) {
+    try {
+        return decoder.decode(line);
+    } catch {
+        return undefined;
     }
-    return asked;
 }
 
-// The lines for what is asked for, or `null` if no version is left. An increment is of one version, without a range.
-function linesOf(asked) {
-    const options = { loose: asked.loose, includePrerelease: asked.includePrerelease, rtl: asked.rtl };
-    const found = (text) => (asked.coerce && semver.coerce(text, options)?.version) || text;
-    const versions = asked.versions.map(found).filter((text) => semver.valid(text));
-    if (asked.increment && versions.length > 0 && (versions.length > 1 || asked.ranges.length > 0)) {
-        console.error('--inc can only be used on a single version with no range');
+// The words that may be versions, with the lines of standard input in the place of the first `-`, or if there are no words.
+function* textsOf(words, output) {
+    const first = words.indexOf(DASH);
+    yield* words.slice(0, Math.max(first, 0));
+    if (words.length === 0 || first >= 0) {
+        for (const line of readLines(output)) {
+            yield textOf(line);
+        }
+    }
+    yield* words.slice(first + 1).filter((word) => word !== DASH);
+}
+
+const optionsOf = ({ loose, includePrerelease, rtl }) => ({ loose, includePrerelease, rtl });
+
+// The version that a text is read as, or null.
+function versionOf(text, asked) {
+    if (text === undefined) {
         return null;
     }
-    const left = versions.filter((text) => asked.ranges.every((range) => semver.satisfies(text, range, options)));
-    if (left.length === 0) {
-        return null;
+    const found = (asked.coerce && semver.coerce(text, optionsOf(asked))?.version) || text;
+    return semver.parse(found);
+}
+
+// The range of a text; `undefined` if there is none, and then no version satisfies it.
+function rangeOf(text, asked) {
+    return text === undefined || semver.validRange(text, optionsOf(asked)) === null ? undefined
+        : new semver.Range(text, optionsOf(asked));
+}
+
+// The versions that satisfy all ranges, in the order of their texts.
+function* versionsOf(asked, ranges, output) {
+    for (const text of textsOf(asked.versions, output)) {
+        const version = versionOf(text, asked);
+        if (version !== null && ranges.every((range) => range?.test(version))) {
+            yield version;
+        }
     }
-    const ordered = left.sort((one, other) => (asked.reverse ? semver.rcompare : semver.compare)(one, other, options))
-        .map((text) => semver.clean(text, options));
+}
+
+// ---- what is written ----
+
+// Of the versions those that are listed, in their order.
+function listed(versions, { listing, reverse }) {
+    switch (listing) {
+        case 'unsorted': return versions;
+        case 'least': return best(versions, (one, other) => semver.compare(one, other));
+        case 'greatest': return best(versions, (one, other) => semver.rcompare(one, other));
+        default: return [...versions].sort(reverse ? semver.rcompare : semver.compare);
+    }
+}
+
+// The first of the versions in this order, in a list; the empty list if there are none.
+function best(versions, order) {
+    let first;
+    for (const version of versions) {
+        if (first === undefined || order(version, first) < 0) {
+            first = version;
+        }
+    }
+    return first === undefined ? [] : [first];
+}
+
+// Writes the versions, a line each or as an array of JSON.
+function writeList(versions, { json }, output) {
+    let count = 0;
+    for (const { version } of versions) {
+        output.write(json ? `${count === 0 ? '[' : ','}"${version}"` : `${version}\n`);
+        count++;
+    }
+    if (json) {
+        output.write(count === 0 ? '[]\n' : ']\n');
+    }
+    return count === 0 ? NOTHING : WRITTEN;
+}
+
+// Writes the version after an increment. It is of one version, without a range.
+function writeIncrement(asked, output) {
+    const versions = [...versionsOf(asked, [], output)];
+    if (versions.length === 0) {
+        return writeList([], asked, output);
+    }
+    if (versions.length > 1 || asked.ranges.length > 0) {
+        sayLine('--inc can only be used on a single version with no range');
+        return NOTHING;
+    }
     const base = asked.base === 'false' ? false : asked.base;
-    return asked.increment
-        ? ordered.map((version) => semver.inc(version, asked.increment, options, asked.identifier, base)) : ordered;
+    const version = semver.inc(versions[0].version, asked.increment, optionsOf(asked), asked.identifier, base);
+    if (version === null) {
+        output.write(asked.json ? '[null]\n' : 'null\n');
+        return WRITTEN;
+    }
+    return writeList([{ version }], asked, output);
+}
+
+// Writes the sets of the ranges. The first one that is refused, or missing, decides what is said at the end.
+function writeExplained(asked, output) {
+    const isOther = asked.versions.length > 0 || asked.increment !== undefined || asked.ranges.length === 0;
+    const texts = isOther ? [undefined] : asked.ranges;
+    let isRefused = false;
+    let isMissing = false;
+    for (const text of texts) {
+        if (text === undefined) {
+            isMissing ||= !isRefused;
+            continue;
+        }
+        const { written = '', said = '' } = explained(text, optionsOf(asked));
+        output.write(written);
+        writeAll(2, Buffer.from(said));
+        isRefused ||= said !== '';
+    }
+    if (isMissing) {
+        sayLine('--explain can only be used on ranges, with no version');
+    }
+    return isMissing || isRefused ? NOTHING : WRITTEN;
+}
+
+function reply(words, output) {
+    const asked = readWords(words);
+    if (words.length === 0 || asked.help) {
+        output.write(HELP);
+        return WRITTEN;
+    }
+    if (asked.explain) {
+        return writeExplained(asked, output);
+    }
+    if (asked.increment !== undefined) {
+        return writeIncrement(asked, output);
+    }
+    const ranges = asked.ranges.map((text) => rangeOf(text, asked));
+    return writeList(listed(versionsOf(asked, ranges, output), asked), asked, output);
+}
+
+// What is said of an error.
+function sentenceOf(error) {
+    if (error instanceof CommandError) {
+        return error.message;
+    }
+    if (error.code === 'ERR_MEMORY_ALLOCATION_FAILED') {
+        return 'out of memory';
+    }
+    throw error;
 }
 
 function main(words) {
-    const asked = readWords(words);
-    if (words.length === 0 || asked.help) {
-        console.log(HELP);
-        return;
-    }
-    const lines = linesOf(asked);
-    if (lines === null) {
-        process.exitCode = 1;
-        return;
-    }
-    for (const line of lines) {
-        console.log(line);
+    const output = new Output();
+    try {
+        const status = reply(words, output);
+        output.flush();
+        return status;
+    } catch (error) {
+        try {
+            sayLine(`semver: ${sentenceOf(error)}`);
+        } catch (other) {
+            sentenceOf(other);
+        }
+        return STOPPED;
     }
 }
 
-main(process.argv.slice(2));
+process.exitCode = main(process.argv.slice(2));

@@ -6,7 +6,7 @@
 const {
     versionText, readVersion, triple, compare, compareBuild, diff, bump, coerce,
     rangeText, heldRange, makeTable, keep, satisfies, best, order,
-    intersect, difference, leastBeyond, leastCommon, sets, fromSets, sortKey, intervals,
+    intersect, difference, leastBeyond, leastCommon, sets, fromSets, sortKey, intervals, refusedAt,
 } = load();
 
 // Says what to do where there is no native part.
@@ -25,5 +25,5 @@ function load() {
 module.exports = {
     versionText, readVersion, triple, compare, compareBuild, diff, bump, coerce,
     rangeText, heldRange, makeTable, keep, satisfies, best, order,
-    intersect, difference, leastBeyond, leastCommon, sets, fromSets, sortKey, intervals,
+    intersect, difference, leastBeyond, leastCommon, sets, fromSets, sortKey, intervals, refusedAt,
 };

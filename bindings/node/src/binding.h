@@ -76,6 +76,9 @@ napi_value version_key(napi_env env, node_semver_version version);
 node_semver_status get_range(napi_env env, napi_value key, struct range *range);
 node_semver_status get_range_text(napi_env env, napi_value text, struct range *range);
 
+/* Reads the key of a range text: NODE_SEMVER_REFUSED with the fault of a text that is refused. */
+node_semver_status get_range_fault(napi_env env, napi_value text, node_semver_fault *fault);
+
 /* Reads a range with such options: NODE_SEMVER_OK, _REFUSED or _OUT_OF_MEMORY. */
 node_semver_status read_range(const char *text, size_t length, unsigned options, struct range *range);
 void let_range_go(struct range *range);

@@ -125,6 +125,21 @@ node_semver_status get_range_text(napi_env env, napi_value value, struct range *
     return status;
 }
 
+node_semver_status get_range_fault(napi_env env, napi_value value, node_semver_fault *fault) {
+    struct text text;
+    node_semver_range made = NODE_SEMVER_EMPTY;
+    node_semver_status status = get_text(env, value, &text);
+    if (status == NODE_SEMVER_OK) {
+        unsigned options = text.length == 0 ? 0 : (unsigned)text.bytes[0] - '0';
+        status = text.length == 0 || options > (INCLUDES_PRERELEASES | IS_LOOSE) ? NODE_SEMVER_REFUSED
+            : refused(node_semver_range_parse_npm(text.bytes + 1, text.length - 1, (options & IS_LOOSE) != 0,
+                                                  (options & INCLUDES_PRERELEASES) != 0, &made, fault));
+        node_semver_range_free(made);
+        free_text(&text);
+    }
+    return status;
+}
+
 static node_semver_status get_held_range(napi_env env, napi_value key, struct range *range) {
     const struct held *held = get_held(env, key, &range_tag);
     if (held == NULL) {

@@ -153,6 +153,21 @@ static napi_value held_text(napi_env env, napi_callback_info info) {
     return status == NODE_SEMVER_OK ? held_range(env, &range) : failed(env, status);
 }
 
+/* refusedAt(text): the byte offset at which a range text is refused; null where it is read. */
+static napi_value refused_at(napi_env env, napi_callback_info info) {
+    napi_value value, result = NULL;
+    node_semver_fault fault = {0};
+    if (!get_arguments(env, info, 1, &value)) {
+        return NULL;
+    }
+    node_semver_status status = get_range_fault(env, value, &fault);
+    if (status == NODE_SEMVER_REFUSED) {
+        napi_create_double(env, (double)fault.offset, &result);
+        return result;
+    }
+    return status == NODE_SEMVER_OK ? of_null(env) : failed(env, status);
+}
+
 typedef napi_value of_versions(napi_env env, const node_semver_version *one, const node_semver_version *other);
 
 static napi_value with_versions(napi_env env, napi_callback_info info, of_versions *call) {
@@ -357,6 +372,7 @@ NAPI_MODULE_INIT() {
         FUNCTION("fromSets", from_sets),       FUNCTION("leastCommon", least_common),
         FUNCTION("coerce", coerce),            FUNCTION("makeTable", make_table),
         FUNCTION("sortKey", sort_key),         FUNCTION("intervals", intervals),
+        FUNCTION("refusedAt", refused_at),
     };
     if (!make_state(env, exports)) {
         return out_of_memory(env);

@@ -6,13 +6,22 @@ const assert = require('node:assert');
 const { spawnSync } = require('node:child_process');
 const path = require('node:path');
 const { test } = require('node:test');
+const { ROWS } = require('./command-rows.js');
 const { npmFolder } = require('./npm.js');
 
 const HERE = path.join(__dirname, '..', 'bin', 'semver.js');
 const NPMS = path.join(npmFolder(), 'node_modules', 'semver', 'bin', 'semver.js');
 
-function answerOf(file, words) {
-    const { status, stdout, stderr } = spawnSync(process.execPath, [file, ...words], { encoding: 'utf8', input: '' });
+// The proved program, if it is built: its output is compared too.
+const { SEMVER_COMMAND } = process.env;
+
+function answerOf(file, words, input = '') {
+    const { status, stdout, stderr } = spawnSync(process.execPath, [file, ...words], { encoding: 'utf8', input });
+    return { status, stdout, stderr };
+}
+
+function programsAnswer(words, input = '') {
+    const { status, stdout, stderr } = spawnSync(SEMVER_COMMAND, words, { encoding: 'utf8', input });
     return { status, stdout, stderr };
 }
 
@@ -48,10 +57,23 @@ for (const words of LINES) {
     });
 }
 
+// What npm's command has not.
+for (const [words, input, { status, output, error }] of ROWS) {
+    test(`semver ${JSON.stringify(words)} < ${JSON.stringify(String(input))}`, () => {
+        assert.deepStrictEqual(answerOf(HERE, words, input), { status, stdout: output, stderr: error });
+        if (SEMVER_COMMAND) {
+            assert.deepStrictEqual(answerOf(HERE, words, input), programsAnswer(words, input));
+        }
+    });
+}
+
 test('help', () => {
-    for (const words of [[], ['--help'], ['1.2.3', '-?', '-r'], ['-h=1.2.3']]) {
+    for (const words of [[], ['--help'], ['1.2.3', '-?', '-r'], ['-h=1.2.3'], ['--explain', '-h']]) {
         const { status, stdout } = answerOf(HERE, words);
         assert.strictEqual(status, 0);
         assert.match(stdout, /^Usage: semver /m);
+        if (SEMVER_COMMAND) {
+            assert.deepStrictEqual(answerOf(HERE, words), programsAnswer(words));
+        }
     }
 });

@@ -58,6 +58,8 @@ const calls = {
     gtr: () => semver.gtr('9.0.0', ranges[0]),
     simplifyRange: () => semver.simplifyRange(['1.2.3', '1.3.0', '2.0.0'], '^1.2.3-rc.1.a || ^1.3.0 || ^1.4'),
     sets: () => JSON.stringify(ranges[0].sets),
+    'refusedAt, refused': () => native.refusedAt(`0${long} foo`),
+    'refusedAt, read': () => native.refusedAt(`0${long}`),
     'sets, what no text writes': () => String(semver.Range.fromSets([{ lower: { kind: 'before', version: beyond },
         upper: { kind: 'end' } }])?.sets[0].lower.version ?? null),
     fromSets: () => String(semver.Range.fromSets(ranges[0].sets)),

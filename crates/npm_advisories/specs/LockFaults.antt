@@ -1,7 +1,7 @@
 -- Why there is no audit of a lock file.
 use Rattle.std.specs.Prelude.{◌≡◌, List, Option, Some}
 use Rattle.serde_json.specs.Data.{Data}
-use Rattle.npm_lock.specs.Faults.{lock_fault}
+use Rattle.npm_packages.specs.Faults.{lock_fault}
 use Rattle.npm_advisories.specs.Audit.{InstalledValue, names_of}
 use Rattle.npm_advisories.specs.Faults.{FaultValue, fault_value}
 use Rattle.npm_advisories.specs.Files.{IsFileFault}

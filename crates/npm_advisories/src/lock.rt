@@ -3,9 +3,9 @@ ghost use Rattle.std.specs.Prelude.{◌≡◌, ◌≢◌, ◌⊎◌, [], ℕ, Li
 ghost use Rattle.std.specs.Option.{MatchOption};
 ghost use Rattle.serde_json.specs.Data.{Data};
 ghost use Rattle.serde_json.specs.View.{members_view, view};
-ghost use Rattle.npm_lock.specs.Dependents.{texts_at};
-ghost use Rattle.npm_lock.specs.Faults.{lock_fault};
-ghost use Rattle.npm_lock.specs.Packages.{is_link};
+ghost use Rattle.npm_packages.specs.Dependents.{texts_at};
+ghost use Rattle.npm_packages.specs.Faults.{lock_fault};
+ghost use Rattle.npm_packages.specs.Packages.{is_link};
 ghost use Rattle.npm_advisories.specs.Audit.{InstalledValue, IsAudit, found_value, installed_value};
 ghost use Rattle.npm_advisories.specs.Files.{advisories_of};
 ghost use Rattle.npm_advisories.specs.FolderNames.{IsFolderName};
@@ -18,7 +18,7 @@ use crate::found::{Found, Installed, audit};
 use crate::member::text_at;
 use crate::name::folder_name;
 use crate::severity::Severity;
-use npm_lock::{CheckError, Dependents};
+use npm_packages::{CheckError, Dependents};
 use serde_json::{Map, Value};
 use std::alloc::Global;
 
@@ -26,7 +26,7 @@ use std::alloc::Global;
 #[derive(Debug, Drop, PartialEq, Eq)]
 pub enum LockError<'f> {
     /// The value is no lock file that is read.
-    Lock(npm_lock::Fault),
+    Lock(npm_packages::Fault),
     /// The value is no advisories that are read.
     Advisories(Fault<'f>),
     /// An allocation failed.

@@ -1,17 +1,5 @@
 pub mod Examples
-pub mod Fronts
-pub mod Groups
-pub mod Indexing
-pub mod LastPlaces
-pub mod LinkedLists
-pub mod MemberLookups
 pub mod MoreFindings
-pub mod NameLists
-pub mod Nearest
-pub mod OverrideNames
-pub mod OverrideRules
 pub mod PatternSets
 pub mod ProblemTexts
-pub mod Reaching
 pub mod Reports
-pub mod Requesting

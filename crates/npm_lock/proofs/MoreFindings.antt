@@ -11,7 +11,7 @@ use Rattle.npm_lock.specs.Findings.{AreFindings, IsChecked, IsReport}
 use Rattle.npm_texts.specs.ObjectKeys.{keys_of}
 use Rattle.npm_lock.specs.Findings.{IsNodeOutcome, of_package}
 use Rattle.npm_lock.specs.Outcomes.{ProblemValue}
-use Rattle.npm_lock.specs.Packages.{is_link}
+use Rattle.npm_packages.specs.Packages.{is_link}
 use Rattle.npm_lock.specs.Private.Adding.{Adds}
 use Rattle.npm_lock.specs.declared.problem.Problems.{Problems}
 use Rattle.npm_lock.proofs.Reports.{adds_both}

@@ -3,8 +3,8 @@ use Rattle.std.proofs.Common.{◌≡◌, ℕ, List, Bool, None, Option, Some, St
 use Rattle.std.proofs.Common.{string_bytes}
 use Rattle.serde_json.specs.View.{view}
 use Rattle.npm_lock.specs.Outcomes.{DependencyValue, ProblemValue, dependency_value, version_of}
-use Rattle.npm_lock.specs.Private.PackageValue.{package_value}
-use Rattle.npm_lock.specs.declared.place.Package.{Package}
+use Rattle.npm_packages.specs.PackageValue.{package_value}
+use Rattle.npm_packages.specs.declared.place.Package.{Package}
 use Rattle.npm_lock.specs.declared.problem.Kind.{Kind}
 
 abbrev of_texts : (from : List ℕ) (from_version : Option (List ℕ)) (name spec : List ℕ) (to version : Option (List ℕ))

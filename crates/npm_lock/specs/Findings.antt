@@ -1,23 +1,23 @@
 -- Which problems a lock file has, in which order, and what is counted: npm's "npm ls" and "package-lock.json",
 -- "packages".
 use Rattle.std.specs.Prelude.{◌≡◌, ◌↔◌, ◌-◌, ◌^◌, ℕ, List, [], ◌∷◌, ◌++◌, Bool, true, false, IsTrue, min, Option, Some}
-use Rattle.std.specs.Prelude.{None, IsSome, codes, map, count_by}
+use Rattle.std.specs.Prelude.{None, codes, map, count_by}
 use Rattle.std.specs.Bool.{MatchBool}
 use Rattle.std.specs.Cmp.Lexicographic.{slice_cmp}
-use Rattle.std.specs.List.{AllZip, Contains, filter_map}
+use Rattle.std.specs.List.{AllZip, filter_map}
 use Rattle.std.specs.List.Sorted.{IsStrictlySortedBy}
 use Rattle.std.specs.Ordering.{nat_cmp}
 use Rattle.serde_json.specs.Data.{Data, Members, member, no_members, object}
 use Rattle.serde_json.specs.Find.{get}
 use Rattle.node_semver.specs.Versions.{VersionValue}
 use Rattle.npm_texts.specs.ObjectKeys.{keys_of}
-use Rattle.npm_lock.specs.Asked.{AskedValue, asked_of}
-use Rattle.npm_lock.specs.Folders.{IsInstalled}
+use Rattle.npm_packages.specs.Asked.{AreNames, AskedValue, asked_of}
+use Rattle.npm_packages.specs.Folders.{IsInstalled}
 use Rattle.npm_lock.specs.Outcomes.{IsEngineOutcome, IsOutcome, JudgementValue, ProblemValue, UncheckedValue}
 use Rattle.npm_lock.specs.Outcomes.{dependency_of}
 use Rattle.npm_lock.specs.Outcomes.{fine, problem_value, unchecked_value, unknown, wrong}
-use Rattle.npm_lock.specs.Overrides.{overridden}
-use Rattle.npm_lock.specs.Packages.{is_link}
+use Rattle.npm_packages.specs.Overrides.{overridden}
+use Rattle.npm_packages.specs.Packages.{is_link}
 use Rattle.npm_lock.specs.declared.problem.Problems.{Problems}
 
 -- what is found out about a package, its problem with the version of Node, and about a dependency
@@ -42,11 +42,6 @@ pub data IsDependencyFinding (packages : Data) (folder : List ℕ) (asker : Data
       → IsOutcome packages folder asker is_installed name (overridden packages folder name asked) judgement
       → IsDependencyFinding packages folder asker is_installed name
       (finding_of folder asker name (overridden packages folder name asked) judgement)
-
--- the names that a package depends on: each once, in the order of their bytes
-pub record AreNames (asker : Data) (is_installed : Bool) (names : List (List ℕ)) : Type 0 where
-  pub ascending : IsStrictlySortedBy (slice_cmp nat_cmp) names
-  pub all : (name : List ℕ) → Contains names name ↔ IsSome (asked_of asker is_installed name)
 
 -- what is found out about the dependencies of the package in this folder: one finding for each name, in their order
 pub record AreDependencyFindings (packages : Data) (folder : List ℕ) (asker : Data) (found : List Finding)

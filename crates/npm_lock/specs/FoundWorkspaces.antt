@@ -5,10 +5,10 @@ use Rattle.std.specs.Prelude.{option_map, bytes_eq, codes}
 use Rattle.std.specs.Option.{option_map_or}
 use Rattle.serde_json.specs.Data.{Data, object}
 use Rattle.serde_json.specs.Find.{as_object, get}
-use Rattle.npm_lock.specs.Asked.{AskedValue, asked_of}
-use Rattle.npm_lock.specs.Folders.{place_in}
+use Rattle.npm_packages.specs.Asked.{AskedValue, asked_of}
+use Rattle.npm_packages.specs.Folders.{place_in}
 use Rattle.npm_lock.specs.Outcomes.{ProblemValue, dependency_of}
-use Rattle.npm_lock.specs.Packages.{Package, package_at}
+use Rattle.npm_packages.specs.Packages.{Package, package_at}
 use Rattle.npm_lock.specs.declared.problem.Kind.{Kind}
 use Rattle.npm_lock.specs.declared.problem.Kind.TheVariants.{Invalid, Missing}
 

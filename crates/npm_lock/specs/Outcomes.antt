@@ -15,9 +15,9 @@ use Rattle.npm_lock.specs.declared.problem.Reason.{Reason}
 use Rattle.npm_lock.specs.declared.problem.Reason.TheVariants as Reasons
 use Rattle.npm_lock.specs.declared.verdict.Verdict.{Verdict}
 use Rattle.npm_lock.specs.declared.verdict.Verdict.TheVariants as Verdicts
-use Rattle.npm_lock.specs.Asked.{AskedValue, accepted_of}
+use Rattle.npm_packages.specs.Asked.{AskedValue, accepted_of}
 use Rattle.npm_texts.specs.Truth.{has_true}
-use Rattle.npm_lock.specs.Packages.{IsFound, IsFoundIn, Package}
+use Rattle.npm_packages.specs.Packages.{IsFound, IsFoundIn, Package}
 use Rattle.npm_lock.specs.Verdict.{IsContained, IsVerdictOfBoth}
 use Rattle.npm_lock.specs.Workspaces.{IsWorkspace}
 use Rattle.npm_lock.specs.declared.workspace.Workspace.TheVariants as Workspaces

@@ -5,8 +5,8 @@ use Rattle.std.specs.List.{ends_with, list_any}
 use Rattle.std.specs.Option.{option_map_or, option_or}
 use Rattle.serde_json.specs.Data.{Data, Items, item, no_items}
 use Rattle.serde_json.specs.Find.{as_array, as_str, get}
-use Rattle.npm_lock.specs.Folders.{IsInstalled}
-use Rattle.npm_lock.specs.Packages.{linked_folder}
+use Rattle.npm_packages.specs.Folders.{IsInstalled}
+use Rattle.npm_packages.specs.Packages.{linked_folder}
 use Rattle.npm_texts.specs.Texts.{rest_after, without_end}
 use Rattle.npm_lock.specs.declared.workspace.Workspace.{Workspace}
 use Rattle.npm_lock.specs.declared.workspace.Workspace.TheVariants.{Is, IsNot, Unread}

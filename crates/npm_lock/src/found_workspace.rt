@@ -1,18 +1,16 @@
 //! A workspace that was found on disk.
 ghost use Rattle.std.specs.Prelude.{◌≡◌, ◌++◌, IfOk, codes, is_some, option_map, string_bytes};
 ghost use Rattle.serde_json.specs.View.{view};
-ghost use Rattle.npm_lock.specs.Asked.{spec_in};
+ghost use Rattle.npm_packages.specs.Asked.{spec_in};
 ghost use Rattle.npm_lock.specs.FoundWorkspaces as FoundWorkspaces;
 ghost use Rattle.npm_lock.specs.FoundWorkspaces.{problem_with, workspace_problem};
 ghost use Rattle.npm_lock.specs.Outcomes.{problem_value};
-ghost use Rattle.npm_lock.specs.Private.PackageValue.{package_value};
+ghost use Rattle.npm_packages.specs.PackageValue.{package_value};
 
 use crate::Result;
-use crate::asked::{Asked, is_optional_peer};
-use crate::linked::members_of;
 use crate::outcome::dependency_of;
-use crate::place::{Lock, Package, place_text};
 use crate::problem::{Kind, Problem};
+use npm_packages::{Asked, Lock, Package, is_optional_peer, members_of, place_text};
 use serde_json::Value;
 use std::alloc::Global;
 
@@ -37,11 +35,7 @@ pub fn workspace_problem(
     let Some(members) = members_of(lock) else {
         return Ok(None);
     };
-    let lock = Lock {
-        alloc,
-        members,
-        node: None,
-    };
+    let lock = Lock { alloc, members };
     let Some(root) = lock.package_in("") else {
         return Ok(None);
     };

@@ -4,27 +4,24 @@ ghost use Rattle.std.specs.Cmp.Lexicographic.{slice_cmp};
 ghost use Rattle.std.specs.List.Sorted.{IsStrictlySortedBy};
 ghost use Rattle.std.specs.Ordering.{nat_cmp};
 ghost use Rattle.serde_json.specs.View.{members_view, view};
-ghost use Rattle.npm_lock.specs.Faults as Faults;
+ghost use Rattle.npm_packages.specs.Faults as Faults;
 ghost use Rattle.npm_lock.specs.Findings.{AreFindings, AreMemberFindings, Finding, IsChecked, IsReport};
 ghost use Rattle.npm_texts.specs.ObjectKeys.{keys_of};
-ghost use Rattle.npm_lock.specs.declared.fault.Fault.{Fault};
+ghost use Rattle.npm_packages.specs.declared.fault.Fault.{Fault};
 ghost use Rattle.npm_lock.specs.Private.Adding.{Adds};
-ghost use Rattle.npm_lock.specs.Private.Index.{IsIndexOf};
-ghost use Rattle.npm_lock.specs.Private.PackageValue.{packages_data};
-ghost use Rattle.npm_lock.specs.Private.Rules.{AreRules};
+ghost use Rattle.npm_packages.specs.Index.{IsIndexOf};
+ghost use Rattle.npm_packages.specs.PackageValue.{packages_data};
+ghost use Rattle.npm_packages.specs.Rules.{AreRules};
 
 use crate::Result;
-use crate::asked::asked_of;
-use crate::fault::{CheckError, lock_of};
-use crate::folder::is_installed;
-use crate::index::Index;
 use crate::outcome::{add_judgement, engine_problem, judgement_of};
-use crate::overrides::{Rules, overridden, rules_of};
-use crate::place::{Lock, Package, is_link};
 use crate::problem::Problems;
-use crate::search::outermost_of;
 use crate::workspace::Patterns;
 use node_semver::Version;
+use npm_packages::{
+    CheckError, Index, Lock, Package, Rules, asked_of, is_installed, is_link, lock_of,
+    outermost_of, overridden, rules_of,
+};
 use serde_json::Value;
 use std::alloc::Global;
 
@@ -41,16 +38,16 @@ pub fn check(alloc: Global, lock: &Value, node: Option<&Version>) -> Result<Prob
     ensures refused { (fault : Fault) → IsErrOf result (CheckError.Refused fault)
         ↔ (Faults.lock_fault (view lock.now) ≡ Some fault) }
 {
-    let lock = lock_of(alloc, lock, node).map_err(CheckError::Refused)?;
-    problems_of(lock).map_err(|_| CheckError::Memory)
+    let lock = lock_of(alloc, lock).map_err(CheckError::Refused)?;
+    problems_of(lock, node).map_err(|_| CheckError::Memory)
 }
 
 /// The problems of the members of `packages`.
-pub(crate) fn problems_of(lock: Lock<'_>) -> Result<Problems>
+fn problems_of(lock: Lock<'_>, node: Option<&Version>) -> Result<Problems>
     ensures ascending { IfOk result (λ problems.
         IsStrictlySortedBy (slice_cmp nat_cmp) (keys_of (members_view lock.entry.members.now.entries))) }
     ensures found { IfOk result (λ problems. (found : List Finding)
-        × AreFindings (packages_data lock.entry) (option_map (λ version. version.now) lock.entry.node)
+        × AreFindings (packages_data lock.entry) (option_map (λ version. version.now) node.entry)
         (members_view lock.entry.members.now.entries) found
         × IsReport found problems) }
 {
@@ -59,13 +56,8 @@ pub(crate) fn problems_of(lock: Lock<'_>) -> Result<Problems>
     let mut problems = Problems::new(lock.alloc);
     for (folder, member) in lock.members.iter() {
         let folder = folder.as_str();
-        check_package(
-            lock,
-            &index,
-            &rules,
-            Package { folder, member },
-            &mut problems,
-        )?;
+        let asker = Package { folder, member };
+        check_package(lock, node, &index, &rules, asker, &mut problems)?;
     }
     Ok(problems)
 }
@@ -73,6 +65,7 @@ pub(crate) fn problems_of(lock: Lock<'_>) -> Result<Problems>
 /// Adds the problems of one member of `packages`: that with the version of Node, and then those of its dependencies.
 fn check_package<'v>(
     lock: Lock<'v>,
+    node: Option<&Version>,
     index: &Index<'v>,
     rules: &Rules<'v>,
     asker: Package<'v>,
@@ -81,14 +74,14 @@ fn check_package<'v>(
     requires index { IsIndexOf (packages_data lock) index.now }
     requires rules { AreRules (packages_data lock) rules.now }
     ensures { OnOk result ((found : List Finding)
-        × AreMemberFindings (packages_data lock.entry) (option_map (λ version. version.now) lock.entry.node) asker.entry.folder.now
+        × AreMemberFindings (packages_data lock.entry) (option_map (λ version. version.now) node.entry) asker.entry.folder.now
         (view asker.entry.member.now) found
         × Adds problems.old problems.new found) }
 {
     if is_link(asker.member) {
         return Ok(());
     }
-    problems.add_package(engine_problem(lock, asker)?)?;
+    problems.add_package(engine_problem(lock.alloc, node, asker)?)?;
     let is_installed = is_installed(asker.folder);
     let outermost = outermost_of(asker.folder);
     let patterns = Patterns::of_asker(lock.alloc, asker)?;

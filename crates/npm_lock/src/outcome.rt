@@ -5,19 +5,18 @@ ghost use Rattle.npm_lock.specs.Findings.{IsNodeOutcome, finding_of};
 ghost use Rattle.npm_lock.specs.Outcomes as Outcomes;
 ghost use Rattle.npm_lock.specs.Outcomes.{IsOutcome, IsVerdictOn, dependency_value, problem_value};
 ghost use Rattle.npm_lock.specs.Private.Adding.{Adds};
-ghost use Rattle.npm_lock.specs.Private.PackageValue.{asked_value, judgement_value, package_value, packages_data};
-ghost use Rattle.npm_lock.specs.Private.Index.{IsIndexOf};
+ghost use Rattle.npm_lock.specs.Private.JudgementValue.{judgement_value};
+ghost use Rattle.npm_packages.specs.PackageValue.{asked_value, package_value, packages_data};
+ghost use Rattle.npm_packages.specs.Index.{IsIndexOf};
 ghost use Rattle.npm_lock.specs.Private.Patterns.{ArePatternsOf};
-ghost use Rattle.npm_lock.specs.Private.Search.{IsOutermostFrom};
+ghost use Rattle.npm_packages.specs.Lookups.{IsOutermostFrom};
 
 use crate::Result;
-use crate::asked::Asked;
-use crate::index::Index;
-use crate::place::{Lock, Package};
 use crate::problem::{Dependency, Kind, Problem, Problems, Reason, Unchecked};
 use crate::verdict::{Verdict, is_contained, verdict_of_both};
 use crate::workspace::{Patterns, Workspace, workspace_of};
 use node_semver::Version;
+use npm_packages::{Asked, Index, Lock, Package};
 use npm_texts::{copied, has_true};
 use serde_json::Value;
 use std::alloc::Global;
@@ -152,12 +151,15 @@ fn verdict_on<'v>(
 }
 
 /// The problem of a package whose `engines.node` does not admit the version of Node, if one is given.
-pub(crate) fn engine_problem(lock: Lock<'_>, asker: Package<'_>) -> Result<Option<Problem>>
-    ensures { IfOk result (λ problem. IsNodeOutcome (option_map (λ version. version.now) lock.entry.node)
+pub(crate) fn engine_problem(
+    alloc: Global,
+    node: Option<&Version>,
+    asker: Package<'_>,
+) -> Result<Option<Problem>>
+    ensures { IfOk result (λ problem. IsNodeOutcome (option_map (λ version. version.now) node.entry)
         asker.entry.folder.now (view asker.entry.member.now) (option_map problem_value problem)) }
 {
-    let alloc = lock.alloc;
-    let (Some(node), Some(spec)) = (lock.node, engine_of(asker.member)) else {
+    let (Some(node), Some(spec)) = (node, engine_of(asker.member)) else {
         return Ok(None);
     };
     if is_contained(alloc, spec, node)? {

@@ -3,15 +3,15 @@ ghost use Rattle.std.specs.Prelude.{◌≡◌, ◌↔◌, List, ℕ, IfOk, IsTru
 ghost use Rattle.node_semver.specs.Ranges.{RangeAdmits};
 ghost use Rattle.node_semver.specs.Versions.{VersionValue};
 ghost use Rattle.serde_json.specs.View.{view};
-ghost use Rattle.npm_lock.specs.Asked.{accepted_of};
+ghost use Rattle.npm_packages.specs.Asked.{accepted_of};
 ghost use Rattle.npm_lock.specs.Verdict as Verdicts;
 ghost use Rattle.npm_lock.specs.Verdict.{IsContained, IsVerdict, IsVerdictOfBoth, IsVerdictOfText};
 ghost use Rattle.npm_texts.specs.Admission.{Admits, IsNoRange, of_dependencies};
 
 use crate::Result;
-use crate::asked::accepted_of;
 use crate::problem::Reason;
 use node_semver::{Range, Version};
+use npm_packages::accepted_of;
 use npm_texts::{OF_DEPENDENCIES, OF_ENGINES, Spec, installed_version, is_tag, range_of, spec_of};
 use serde_json::Value;
 use std::alloc::Global;

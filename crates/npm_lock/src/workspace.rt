@@ -7,8 +7,7 @@ ghost use Rattle.npm_lock.specs.Workspaces.{IsWorkspace};
 ghost use Rattle.npm_lock.specs.Private.Patterns.{ArePatternsOf, by_index, has_matched, has_star};
 
 use crate::Result;
-use crate::folder::is_installed;
-use crate::place::{Package, linked_folder};
+use npm_packages::{Package, is_installed, linked_folder};
 use npm_texts::{ends_with, rest_after, without_end};
 use serde_json::Value;
 use std::alloc::Global;

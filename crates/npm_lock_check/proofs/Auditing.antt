@@ -4,7 +4,7 @@ use Rattle.std.proofs.lemmas.List.{length-map}
 use Rattle.serde_json.specs.Data.{Data}
 use Rattle.npm_advisories.specs.Faults.{FaultValue}
 use Rattle.npm_advisories.specs.LockFaults.{IsFileFaultBeside}
-use Rattle.npm_lock.specs.Faults.{lock_fault}
+use Rattle.npm_packages.specs.Faults.{lock_fault}
 use Rattle.npm_lock_version_one.specs.VersionOne.{any_fault, converted}
 use Rattle.npm_lock_check.specs.Linked.{LinkedValue}
 use Rattle.npm_lock_check.specs.Private.Refusals.{AreRefusedAs, IsAuditRefused, IsCheckRefused, IsLockRefused}

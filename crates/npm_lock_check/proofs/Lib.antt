@@ -2,9 +2,6 @@ pub mod Auditing
 pub mod Examples
 pub mod FileFolders
 pub mod FoundOnDisk
-pub mod LastNames
 pub mod LinkedManifests
-pub mod OutputLines
-pub mod Parts
 pub mod PathParts
 pub mod Stopping

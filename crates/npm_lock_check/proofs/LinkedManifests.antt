@@ -3,14 +3,14 @@ use Rattle.std.proofs.Common.{◌≡◌, ◌↔◌, ◌∙◌, ◌++◌, ℕ, �
 use Rattle.std.proofs.Common.{Bool, append_assoc, drop, get_or, if◌then◌else◌, inl, inr, length, map, refl, sym, true}
 use Rattle.std.proofs.Common.{IfErr, IfOk}
 use denote.Ref.{Bor}
-use Rattle.std.proofs.lemmas.List.{drop_more, map-append}
+use Rattle.std.proofs.lemmas.List.{drop_more}
 use Rattle.serde_json.specs.Data.{Data}
 use Rattle.serde_json.specs.View.{view}
 use Rattle.serde_json.specs.declared.value.Value.{Value}
 use Rattle.npm_manifests.specs.Mismatches.{AreMismatches, manifest_fault}
-use Rattle.npm_lock.specs.declared.fault.CheckError.{CheckError}
-use Rattle.npm_lock.specs.declared.fault.CheckError.TheVariants.{Refused}
-use Rattle.npm_lock.specs.declared.fault.Fault.{Fault}
+use Rattle.npm_packages.specs.declared.fault.CheckError.{CheckError}
+use Rattle.npm_packages.specs.declared.fault.CheckError.TheVariants.{Refused}
+use Rattle.npm_packages.specs.declared.fault.Fault.{Fault}
 use Rattle.npm_manifests.specs.declared.mismatch.Mismatch.{Mismatch}
 use Rattle.npm_lock_check.specs.Linked.{AreRead, AreReadAfter, LinkedValue, LoadedValue, linked_value, loaded_value}
 use Rattle.npm_lock_check.specs.Linked.{one_more, with_found}

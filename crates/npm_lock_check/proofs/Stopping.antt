@@ -1,15 +1,16 @@
 -- Why a lock file was not checked.
-use Rattle.std.proofs.Common.{◌≡◌, ◌∙◌, ℕ, List, [], Option, Some, Result, Ok, Err, inl, inr, refl, sym}
+use Rattle.std.proofs.Common.{◌≡◌, ℕ, List, [], Option, Some, Result, Ok, Err, inl, inr}
 use Rattle.std.proofs.Common.{IfErr}
-use Rattle.std.specs.Result.{IsErrAnd, MatchResult}
+use Rattle.std.specs.Result.{IsErrAnd}
 use Rattle.serde_json.proofs.OnLiterals.{serde_json_on_literals}
 use Rattle.serde_json.specs.Data.{Data}
 use Rattle.serde_json.specs.Read.{read}
 use Rattle.serde_json.specs.View.{view}
 use Rattle.serde_json.specs.declared.value.Value.{Value}
 use Rattle.npm_lock_check.specs.Linked.{LinkedValue, LoadedValue}
-use Rattle.npm_lock_check.specs.WatchedValue.{WatchedValue}
-use Rattle.npm_lock_check.specs.Output.{IsInput, IsRefusedAs, IsStopped, IsUnread}
+use Rattle.command_lines.specs.WatchedValue.{WatchedValue}
+use Rattle.command_lines.specs.Inputs.{IsInput, IsInputText}
+use Rattle.npm_lock_check.specs.Output.{IsRefusedAs, IsStopped, IsUnread}
 use Rattle.npm_lock_check.specs.Private.Refusals.{IsRefused}
 use Rattle.npm_lock_check.specs.Report.{AreLoaded, WantedValue, manifests_of, placed}
 use Rattle.npm_lock_check.specs.declared.linked.Loaded.{Loaded}
@@ -23,16 +24,27 @@ no_value : (lock : Data) → read [] ≡ Some lock → ⊥
 unfolding serde_json_on_literals
 no_value lock is = cc is
 
+-- the value of a text that was read
+pub input_of : {R : Type 0} (remaining : R → Option (List ℕ)) (old new : WatchedValue R) (text : List ℕ) (lock : Data)
+    → IsInputText remaining old new text lock → IsInput remaining old new lock
+input_of remaining old new text lock input = record {
+  bytes = input.bytes;
+  taken = input.taken;
+  ended = input.ended;
+  unfailed = input.unfailed;
+  such = input.such.0;
+}
+
 -- memory ran out after the input was read
 pub later : {R : Type 0} (remaining : R → Option (List ℕ)) (old new : WatchedValue R) (lock : Data)
     → IsInput remaining old new lock → IsUnread remaining old new Memory
-later remaining old new lock input = inr (record {
+later remaining old new lock input = record {
   bytes = input.bytes;
   taken = input.taken;
   ended = input.ended;
   unfailed = input.unfailed;
   such = (input.such.0, λ empty. no_value lock (rw empty at input.such.1));
-})
+}
 
 module _ {R : Type 0} (remaining : R → Option (List ℕ)) (old new : WatchedValue R)
     (Gives : Value → Result Loaded LoadError → Type 0) (wanted : WantedValue) (lock : Value)
@@ -74,14 +86,6 @@ unwritten lock placed linked wanted (inl (inr (inr is))) = cc is
 unwritten lock placed linked wanted (inr (inl told)) = cc told.3
 unwritten lock placed linked wanted (inr (inr (inl told))) = cc told.1
 unwritten lock placed linked wanted (inr (inr (inr is))) = cc is
-
-module _ {T E F : Type 0} (Q : E → F → Type 0) where
-  -- the error before its type changed
-  pub was_err : (before : Result T E) (after : Result T F) (f : F)
-      → MatchResult before (λ x. after ≡ Ok x) (λ e. IsErrAnd after (Q e)) → after ≡ Err f
-      → (e : E) × (before ≡ Err e)
-  was_err (Ok x) after f cases is = let no : Ok x ≡ Err f = sym cases ∙ is in cc no
-  was_err (Err e) after f cases is = (e, refl)
 
 -- what holds of an error holds where the error is passed on
 pub passed_on : {T E : Type 0} (result : Result T E) (P Q : E → Type 0) → IsErrAnd result P

@@ -1,22 +1,24 @@
 -- What the arguments of the program ask for.
-use Rattle.std.specs.Prelude.{◌&&◌, ◌||◌, ◌==◌, ℕ, List, [], ◌∷◌, Bool, true, false, not, if◌then◌else◌, length, nat_eq}
+use Rattle.std.specs.Prelude.{◌&&◌, ◌||◌, ℕ, List, [], ◌∷◌, Bool, true, false, not, if◌then◌else◌, length, nat_eq}
 use Rattle.std.specs.Prelude.{nat_lt}
 use Rattle.std.specs.Prelude.{Option, Some, None, is_some, option_map, Result, Ok, Err, codes}
-use Rattle.std.specs.List.{after_first, before_first, position_or_len, starts_with}
+use Rattle.std.specs.List.{starts_with}
 use Rattle.std.specs.Result.{result_map_both}
 use Rattle.std.specs.Str.{bytes_eq}
-use denote.Ref.{Bor}
 use Rattle.npm_advisories.specs.Severities.{severity_of_text}
 use Rattle.npm_advisories.specs.declared.severity.Severity.{Severity}
 use Rattle.npm_advisories.specs.declared.severity.Severity.TheVariants.{Critical, High, Info, Low, Moderate, Unknown}
+use Rattle.command_lines.specs.Arguments as Words
+use Rattle.command_lines.specs.Arguments.{ArgumentValue}
+use Rattle.command_lines.specs.declared.argument.TheConstants.{MAX_WORDS}
+use Rattle.npm_lock_annotations.specs.declared.format.AnnotationFormat.TheVariants.{Github, Sarif}
+use Rattle.npm_lock_reports.specs.declared.format.ReportFormat.TheVariants.{Json, Text}
+use Rattle.npm_lock_check.specs.declared.format.Format.{Format}
+use Rattle.npm_lock_check.specs.declared.format.Format.TheVariants as Formats
 use Rattle.npm_lock_check.specs.Kinds.{named_by, no_kinds, with_named}
-use Rattle.npm_lock_check.specs.declared.arguments.TheConstants.{MAX_WORDS}
 use Rattle.npm_lock_check.specs.declared.argument_error.ArgumentError.{ArgumentError}
 use Rattle.npm_lock_check.specs.declared.argument_error.ArgumentError.TheVariants as Errors
-use Rattle.npm_lock_check.specs.declared.arguments.Argument.{Argument}
 use Rattle.npm_lock_check.specs.declared.arguments.Arguments.{Arguments}
-use Rattle.npm_lock_check.specs.declared.arguments.Format.{Format}
-use Rattle.npm_lock_check.specs.declared.arguments.Format.TheVariants as Formats
 use Rattle.npm_lock_check.specs.declared.arguments.Name.{Name}
 use Rattle.npm_lock_check.specs.declared.arguments.Name.TheVariants as Names
 use Rattle.npm_lock_check.specs.declared.arguments.Setting.{Setting}
@@ -26,12 +28,7 @@ use Rattle.npm_lock_check.specs.declared.arguments.Shown.TheVariants as Shows
 use Rattle.npm_lock_check.specs.declared.kinds.Ignorable.{Ignorable}
 use Rattle.npm_lock_check.specs.declared.kinds.Kinds.{Kinds}
 
--- ---- the arguments of a list of words
-
--- an argument: a word, and its value if it has one
-pub record ArgumentValue : Type 0 where
-  pub word : List ℕ
-  pub value : Option (List ℕ)
+-- ---- the options
 
 -- the option that a word names, of those that add to a check
 abbrev pub input_name_of : (word : List ℕ) → Option Name
@@ -65,38 +62,9 @@ has_value (Some (Names.Valued setting)) = true
 abbrev pub takes_value : (word : List ℕ) → Bool
 takes_value word = has_value (name_of word)
 
--- what stands before the first `=` of a word, and after it
-pub record Parts : Type 0 where
-  pub name : List ℕ
-  pub text : List ℕ
-
--- the parts of a word that has a `=`: `a` and `b=c` of `a=b=c`
-abbrev pub is_equals : (byte : ℕ) → Bool
-is_equals byte = byte == 61
-
-abbrev pub parts_of : (word : List ℕ) → Option Parts
-parts_of word = if nat_lt (position_or_len is_equals word) (length word)
-    then Some (record { name = before_first is_equals word; text = after_first is_equals word })
-    else None
-
--- the argument of a word with these parts: they are an option that has a value and that value, or else nothing
-abbrev pub parts_argument : (word : List ℕ) → Option Parts → ArgumentValue
-parts_argument word None = record { word = word; value = None }
-parts_argument word (Some parts) = if takes_value parts.name
-    then record { word = parts.name; value = Some parts.text }
-    else record { word = word; value = None }
-
--- the argument that one word is: `--node=20` has its value in the word
-abbrev pub one_word : (word : List ℕ) → ArgumentValue
-one_word word = parts_argument word (parts_of word)
-
--- the arguments of the words: an option that has a value takes the word after it, whatever that is
+-- the arguments of the words
 abbrev pub arguments_of : (words : List (List ℕ)) → List ArgumentValue
-arguments_of [] = []
-arguments_of (word ∷ []) = one_word word ∷ []
-arguments_of (word ∷ text ∷ rest) = if takes_value word
-    then record { word = word; value = Some text } ∷ arguments_of rest
-    else one_word word ∷ arguments_of (text ∷ rest)
+arguments_of words = Words.arguments_of takes_value words
 
 -- ---- what is wrong with them
 
@@ -109,6 +77,8 @@ pub data ArgumentErrorValue : Type 0 where
   no_format : (text : List ℕ) → ArgumentErrorValue
   no_kind : (text : List ℕ) → ArgumentErrorValue
   no_severity : (text : List ℕ) → ArgumentErrorValue
+  -- something is asked for that the format has no place for
+  no_place : ArgumentErrorValue
   -- that a text is no version of Node is said by `NodeVersion`, and not here
   no_node_version : (text : List ℕ) → ArgumentErrorValue
 
@@ -149,8 +119,10 @@ nothing_asked = record {
 
 -- the format that a text names
 abbrev pub format_of : (text : List ℕ) → Option Format
-format_of text = if bytes_eq text (codes "text") then Some Formats.Text
-    else if bytes_eq text (codes "json") then Some Formats.Json
+format_of text = if bytes_eq text (codes "text") then Some (Formats.Report Text)
+    else if bytes_eq text (codes "json") then Some (Formats.Report Json)
+    else if bytes_eq text (codes "github") then Some (Formats.Annotations Github)
+    else if bytes_eq text (codes "sarif") then Some (Formats.Annotations Sarif)
     else None
 
 -- with one more format, with one more kind that is left out, and with another least severity, each by its text
@@ -218,15 +190,31 @@ asked_by asked [] = asked
 asked_by (Err error) (argument ∷ rest) = Err error
 asked_by (Ok asked) (argument ∷ rest) = asked_by (asked_with asked argument) rest
 
+-- ---- what fits together
+
+-- the format is `github` or `sarif`
+abbrev pub has_annotations : Option Format → Bool
+has_annotations None = false
+has_annotations (Some (Formats.Report format)) = false
+has_annotations (Some (Formats.Annotations format)) = true
+
+-- These arguments, if the format has a place for all that they ask for: `github` and `sarif` have none for what an
+-- advisory hits and for what is not checked.
+abbrev pub if_fitting : ArgumentsValue → Result ArgumentsValue ArgumentErrorValue
+if_fitting asked = if has_annotations asked.format && (is_some asked.advisories || asked.unchecked) then Err no_place
+    else Ok asked
+
+-- the same, unless something was wrong before
+abbrev pub all_fitting : Result ArgumentsValue ArgumentErrorValue → Result ArgumentsValue ArgumentErrorValue
+all_fitting (Err error) = Err error
+all_fitting (Ok asked) = if_fitting asked
+
 -- what the words after the program's name ask for, of which there are at most 1,000
 abbrev pub read_arguments : (words : List (List ℕ)) → Result ArgumentsValue ArgumentErrorValue
 read_arguments words = if nat_lt MAX_WORDS (length words) then Err too_many
-    else asked_by (Ok nothing_asked) (arguments_of words)
+    else all_fitting (asked_by (Ok nothing_asked) (arguments_of words))
 
 -- ---- what contracts see
-
-abbrev pub argument_value : Argument → ArgumentValue
-argument_value argument = record { word = argument.word.now; value = option_map (λ text. text.now) argument.value }
 
 abbrev pub arguments_value : Arguments → ArgumentsValue
 arguments_value asked = record {
@@ -243,10 +231,6 @@ arguments_value asked = record {
   file = option_map (λ word. word.now) asked.file;
 }
 
--- the parts of a word
-abbrev pub part_values : Bor (List ℕ) × Bor (List ℕ) → Parts
-part_values parts = record { name = parts.0.now; text = parts.1.now }
-
 abbrev pub argument_error_value : ArgumentError → ArgumentErrorValue
 argument_error_value Errors.TooMany = too_many
 argument_error_value (Errors.UnknownOption quoted) = unknown_option quoted.text.now
@@ -255,6 +239,7 @@ argument_error_value (Errors.NoValue quoted) = no_value quoted.text.now
 argument_error_value (Errors.Format quoted) = no_format quoted.text.now
 argument_error_value (Errors.Kind quoted) = no_kind quoted.text.now
 argument_error_value (Errors.Severity quoted) = no_severity quoted.text.now
+argument_error_value Errors.NoPlace = no_place
 argument_error_value (Errors.NodeVersion quoted) = no_node_version quoted.text.now
 
 abbrev pub arguments_result : Result Arguments ArgumentError → Result ArgumentsValue ArgumentErrorValue

@@ -1,9 +1,9 @@
 -- The manifests of workspaces, and of other packages that links of a lock file name: npm's "workspaces".
-use Rattle.std.specs.Prelude.{◌≡◌, ℕ, List, [], ◌∷◌, ◌++◌, Result, Ok, codes, map, string_bytes}
+use Rattle.std.specs.Prelude.{ℕ, List, [], ◌∷◌, ◌++◌, Result, Ok, codes, map, string_bytes}
 use Rattle.serde_json.specs.Data.{Data}
 use Rattle.serde_json.specs.View.{view}
+use Rattle.npm_lock_reports.specs.Report.{folder_text}
 use Rattle.npm_lock_check.specs.WorkspaceName.{workspace_name}
-use Rattle.npm_lock_check.specs.declared.folder_name.FolderName.{FolderName}
 use Rattle.npm_lock_check.specs.declared.linked.Found.{Found}
 use Rattle.npm_lock_check.specs.declared.linked.Found.TheVariants.{Manifest, Nothing, Unread}
 use Rattle.npm_lock_check.specs.declared.linked.Linked.{Linked}
@@ -39,10 +39,6 @@ pub record LoadedValue : Type 0 where
   pub linked : List LinkedValue
   pub unread : List (List ℕ)
   pub workspaces : List WorkspaceValue
-
--- the text of a folder
-abbrev pub folder_text : FolderName → List ℕ
-folder_text name = string_bytes name.text
 
 -- what a contract sees of what was loaded
 abbrev pub loaded_value : Loaded → LoadedValue

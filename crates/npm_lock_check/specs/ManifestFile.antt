@@ -2,7 +2,7 @@
 use Rattle.std.specs.Prelude.{◌≡◌, ◌≢◌, ◌⊎◌, ◌++◌, ℕ, List, Result, Ok, Err, codes, string_bytes}
 use Rattle.std.specs.declared.io.ErrorKind.{ErrorKind}
 use Rattle.std.specs.declared.io.ErrorKind.TheVariants.{NotFound}
-use Rattle.npm_lock_check.specs.declared.folder_name.FolderName.{FolderName}
+use Rattle.npm_lock_reports.specs.declared.folder_name.FolderName.{FolderName}
 use Rattle.npm_lock_check.specs.declared.linked.Found.{Found}
 use Rattle.npm_lock_check.specs.declared.linked.Found.TheVariants.{Nothing}
 use Rattle.npm_lock_check.specs.declared.run_error.LoadError.{LoadError}

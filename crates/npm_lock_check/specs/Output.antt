@@ -1,66 +1,48 @@
 -- What the program reads, and what it writes for it.
-use Rattle.std.specs.Prelude.{◌≡◌, ◌≢◌, ◌⊎◌, ℕ, List, [], ◌∷◌, Bool, true, false, IsSome, IsUtf8, Option, None, Some}
-use Rattle.std.specs.Prelude.{Result, nat_eq, option_and_then, option_map, string_bytes}
-use Rattle.std.specs.List.{starts_with}
+use Rattle.std.specs.Prelude.{◌≡◌, ◌≢◌, ◌⊎◌, ℕ, List, [], ◌∷◌, true, IsUtf8, Option, None, Some}
+use Rattle.std.specs.Prelude.{Result, option_and_then, option_map, string_bytes}
 use Rattle.std.specs.Option.{option_or}
-use Rattle.std.specs.Io.KnownBytes.{Consumes, IsAtEnd}
-use Rattle.std.specs.declared.io.ErrorKind.TheVariants.{OutOfMemory}
 use Rattle.serde_json.specs.Data.{Data}
-use Rattle.serde_json.specs.Read.{read}
 use Rattle.serde_json.specs.View.{view}
 use Rattle.serde_json.specs.declared.value.Value.{Value}
 use Rattle.npm_manifests.specs.Mismatches.{manifest_fault}
 use Rattle.npm_lock_version_one.specs.VersionOne.{any_fault}
-use Rattle.npm_lock.specs.declared.fault.Fault.{Fault}
+use Rattle.npm_packages.specs.declared.fault.Fault.{Fault}
 use Rattle.npm_advisories.specs.Audit.{FoundValue}
 use Rattle.npm_advisories.specs.LockFaults.{IsFileFaultBeside}
 use Rattle.npm_advisories.specs.declared.fault.FaultKind.{FaultKind}
 use Rattle.npm_lock_check.specs.Linked.{LinkedValue, LoadedValue}
-use Rattle.npm_lock_check.specs.WatchedValue.{WatchedValue}
+use Rattle.command_lines.specs.Inputs as Inputs
+use Rattle.command_lines.specs.Inputs.{IsInput, IsInputText, IsWholeInput}
+use Rattle.command_lines.specs.WatchedValue.{WatchedValue}
 use Rattle.npm_lock_check.specs.Report.{AreLoaded, IsNotLoaded, IsReportOf, WantedValue, has_packages, manifests_of}
 use Rattle.npm_lock_check.specs.Report.{checked_lock, placed}
-use Rattle.npm_lock_check.specs.declared.folder_name.FolderName.{FolderName}
+use Rattle.npm_lock_reports.specs.declared.folder_name.FolderName.{FolderName}
+use Rattle.npm_lock_check.specs.Written.{IsWritten, has_places}
 use Rattle.npm_lock_check.specs.declared.linked.Loaded.{Loaded}
 use Rattle.npm_lock_check.specs.declared.list_name.ListName.{ListName}
-use Rattle.npm_lock_check.specs.declared.report.Report.{Report}
+use Rattle.npm_lock_reports.specs.declared.report.Report.{Report}
 use Rattle.npm_lock_check.specs.declared.run_error.LoadError.{LoadError}
 use Rattle.npm_lock_check.specs.declared.run_error.RunError.{RunError}
-use Rattle.npm_lock_check.specs.declared.run_error.RunError.TheVariants.{ByteOrderMark, Memory, NoAdvisories, NoJson}
-use Rattle.npm_lock_check.specs.declared.run_error.RunError.TheVariants.{NoLinked, NoLockFile, NoManifest, NoUtf8, Read}
+use Rattle.npm_lock_check.specs.declared.run_error.RunError.TheVariants.{Input, Memory, NoAdvisories}
+use Rattle.npm_lock_check.specs.declared.run_error.RunError.TheVariants.{NoLinked, NoLockFile, NoManifest}
 use Rattle.npm_lock_check.specs.declared.run_error.StopError.{StopError}
 use Rattle.npm_lock_check.specs.declared.run_error.StopError.TheVariants.{Advisories, Check, Load, Manifest}
 
--- the JSON text of this value, in UTF-8
-abbrev pub IsTextOf : (bytes : List ℕ) → (value : Data) → Type 0
-IsTextOf bytes value = IsUtf8 bytes × (read bytes ≡ Some value)
-
--- the byte order mark in UTF-8, with which npm lets a file begin
-abbrev pub has_mark : (bytes : List ℕ) → Bool
-has_mark bytes = starts_with nat_eq bytes (239 ∷ 187 ∷ 191 ∷ [])
-
--- all that the reader had left was read, no call of it failed, and what was read is such
-pub record IsWholeInput {R : Type 0} (remaining : R → Option (List ℕ)) (old new : WatchedValue R)
-    (IsSuch : List ℕ → Type 0)
-    : Type 0 where
-  pub bytes : List ℕ
-  pub taken : Consumes (remaining old.inner) (remaining new.inner) bytes
-  pub ended : IsAtEnd (remaining new.inner)
-  pub unfailed : new.failure ≡ None
-  pub such : IsSuch bytes
-
--- the JSON value that was read
-abbrev pub IsInput : {R : Type 0} → (remaining : R → Option (List ℕ)) → (old new : WatchedValue R) → Data → Type 0
-IsInput remaining old new value = IsWholeInput remaining old new (λ bytes. IsTextOf bytes value)
-
--- a lock file was read, and the manifests of linked folders were loaded, and this is the report of all
+-- a lock file was read, and the manifests of linked folders were loaded, and this is the report of all, and what is
+-- written of it; the text of the lock file counts for a format with places alone
 pub record IsReported {R : Type 0} (remaining : R → Option (List ℕ)) (old new : WatchedValue R)
     (Gives : Value → Result Loaded LoadError → Type 0) (wanted : WantedValue) (report : Report)
-    (found : List FoundValue) : Type 0 where
+    (found : List FoundValue) (text : List ℕ) : Type 0 where
   pub lock : Value
+  pub lock_text : List ℕ
+  pub kept : List ℕ
   pub loaded : LoadedValue
-  pub input : IsInput remaining old new (view lock)
+  pub input : IsInputText remaining old new lock_text (view lock)
   pub given : AreLoaded Gives lock wanted.manifest loaded
   pub report_of : IsReportOf (view lock) loaded wanted report found
+  pub is_kept : has_places wanted.format ≡ true → kept ≡ lock_text
+  pub written : IsWritten wanted kept report found text
 
 -- ---- why nothing was written
 
@@ -95,18 +77,10 @@ abbrev pub AreNoAdvisories : (checked : Data) → (advisories : Option Data) →
 AreNoAdvisories checked advisories kind name place = (file : Data) × (advisories ≡ Some file)
     × IsFileFaultBeside checked file (Some (record { kind = kind; name = string_bytes name.text; place = place }))
 
--- Why no value was read: what was read begins with a byte order mark, or is not in UTF-8, or is no JSON text, or a read
--- failed, or memory ran out. It ran out in a read whose error says so, or later: then all was read, and it is in UTF-8
--- and not empty.
+-- Why no value was read, or memory ran out later: then all was read, and it is in UTF-8 and not empty.
 abbrev pub IsUnread : {R : Type 0} → (remaining : R → Option (List ℕ)) → (old new : WatchedValue R) → RunError → Type 0
-IsUnread remaining old new NoUtf8 =
-    IsWholeInput remaining old new (λ bytes. (has_mark bytes ≡ false) × ¬ IsUtf8 bytes)
-IsUnread remaining old new (NoJson line column) = IsWholeInput remaining old new
-    (λ bytes. (has_mark bytes ≡ false) × IsUtf8 bytes × ((lock : Data) → ¬ IsTextOf bytes lock))
-IsUnread remaining old new ByteOrderMark = IsWholeInput remaining old new (λ bytes. has_mark bytes ≡ true)
-IsUnread remaining old new Read = IsSome new.failure × (new.failure ≢ Some OutOfMemory)
-IsUnread remaining old new Memory = (new.failure ≡ Some OutOfMemory)
-    ⊎ IsWholeInput remaining old new (λ bytes. IsUtf8 bytes × (bytes ≢ []))
+IsUnread remaining old new (Input error) = Inputs.IsUnread remaining old new error
+IsUnread remaining old new Memory = IsWholeInput remaining old new (λ bytes. IsUtf8 bytes × (bytes ≢ []))
 IsUnread remaining old new _ = ⊥
 
 -- Why a lock file that was read is not checked: its value, a manifest or the advisories have a fault.

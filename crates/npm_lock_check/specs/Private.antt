@@ -1,4 +1,3 @@
 -- What private functions are said to compute.
 
 pub mod Refusals  -- why values are refused
-pub mod ShownBytes  -- what is written for one byte

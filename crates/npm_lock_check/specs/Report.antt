@@ -1,49 +1,41 @@
--- What is found out about a lock file, and what is written about it.
-use Rattle.std.specs.Prelude.{◌≡◌, ◌≤◌, ◌&&◌, ℕ, List, [], ◌∷◌, ◌++◌, Bool, false, Option, Some, None, filter}
+-- What is found out about a lock file.
+use Rattle.std.specs.Prelude.{◌≡◌, ◌&&◌, ℕ, List, [], ◌∷◌, ◌++◌, Bool, Option, Some, None, filter}
 use Rattle.std.specs.Prelude.{if◌then◌else◌}
 use Rattle.std.specs.Prelude.{codes, is_some, length, map, not, option_map}
 use Rattle.std.specs.Prelude.{true, Result, Ok, Err}
 use Rattle.std.specs.Bool.{MatchBool}
 use Rattle.std.specs.List.{filter_map}
-use Rattle.serde_json.specs.Data.{Data, depth}
+use Rattle.serde_json.specs.Data.{Data}
 use Rattle.serde_json.specs.Find.{get}
-use Rattle.serde_json.specs.Read.{max_depth, read}
 use Rattle.serde_json.specs.View.{view}
-use Rattle.serde_json.specs.Written.{compact_text, has_float}
 use Rattle.serde_json.specs.declared.value.Value.{Value}
 use Rattle.node_semver.specs.Versions.{VersionValue}
 use Rattle.npm_lock.specs.Findings as Findings
 use Rattle.npm_lock.specs.FoundWorkspaces.{workspace_problem}
 use Rattle.npm_manifests.specs.ManifestPlace.{with_manifest}
-use Rattle.npm_manifests.specs.MismatchJson.{mismatch_data}
-use Rattle.npm_manifests.specs.Mismatches.{AreMismatches, MismatchValue, mismatch_value}
-use Rattle.npm_lock.specs.Outcomes.{ProblemValue, UncheckedValue, problem_value, unchecked_value}
-use Rattle.npm_lock.specs.ProblemJson.{problem_data, unchecked_data}
+use Rattle.npm_manifests.specs.Mismatches.{AreMismatches}
+use Rattle.npm_lock.specs.Outcomes.{ProblemValue, problem_value}
 use Rattle.npm_lock_version_one.specs.VersionOne.{converted}
 use Rattle.npm_manifests.specs.declared.mismatch.Mismatch.{Mismatch}
 use Rattle.npm_lock.specs.declared.problem.Problem.{Problem}
 use Rattle.npm_lock.specs.declared.problem.Problems.{Problems}
 use Rattle.npm_advisories.specs.Files.{advisories_of}
 use Rattle.npm_advisories.specs.Audit.{FoundValue, InstalledValue, IsAudit}
-use Rattle.npm_advisories.specs.FoundJson.{found_data}
 use Rattle.npm_advisories.specs.LockFile.{AreInstalledOf}
 use Rattle.npm_advisories.specs.declared.severity.Severity.{Severity}
-use Rattle.npm_lock_check.specs.HitSentence.{hit_sentence}
+use Rattle.npm_lock_reports.specs.Report.{folder_text}
+use Rattle.npm_lock_reports.specs.declared.report.Report.{Report}
 use Rattle.npm_lock_check.specs.Kinds.{has}
-use Rattle.npm_lock_check.specs.Linked.{LinkedValue, LoadedValue, WorkspaceValue, folder_text, loaded_value, nothing_loaded}
-use Rattle.npm_lock_check.specs.Sentence.{mismatch_sentence, sentence, unchecked_sentence}
-use Rattle.npm_lock_check.specs.Unread.{unread_data, unread_sentence}
-use Rattle.npm_lock_check.specs.declared.arguments.Format.{Format}
-use Rattle.npm_lock_check.specs.declared.arguments.Format.TheVariants.{Json, Text}
+use Rattle.npm_lock_check.specs.Linked.{LinkedValue, LoadedValue, WorkspaceValue, loaded_value, nothing_loaded}
+use Rattle.npm_lock_check.specs.declared.format.Format.{Format}
 use Rattle.npm_lock_check.specs.declared.kinds.Kinds.{Kinds}
 use Rattle.npm_lock_check.specs.declared.linked.Loaded.{Loaded}
-use Rattle.npm_lock_check.specs.declared.report.Report.{Report}
 use Rattle.npm_lock_check.specs.declared.run_error.LoadError.{LoadError}
 use Rattle.npm_lock_check.specs.declared.wanted.Wanted.{Wanted}
 
 -- what a check is asked for: the manifest of the root, whether mismatches count for the status, the advisories, and the
 -- least severity of those that count; the version of Node that each package is checked with, the kinds of problems that
--- are left out, whether dependencies that are not checked are listed, and the format
+-- are left out, whether dependencies that are not checked are listed, the format, and the path of the lock file
 pub record WantedValue : Type 0 where
   pub manifest : Option Data
   pub exact : Bool
@@ -53,6 +45,7 @@ pub record WantedValue : Type 0 where
   pub ignored : Kinds
   pub unchecked : Bool
   pub format : Format
+  pub file : List ℕ
 
 -- what a contract sees of it
 abbrev pub wanted_value : Wanted → WantedValue
@@ -65,6 +58,7 @@ wanted_value wanted = record {
   ignored = wanted.ignored;
   unchecked = wanted.unchecked;
   format = wanted.format;
+  file = wanted.file.now;
 }
 
 -- ---- the manifests
@@ -157,67 +151,3 @@ pub record IsReportOf (lock : Data) (loaded : LoadedValue) (wanted : WantedValue
   pub audited : report.audited ≡ is_some wanted.advisories
   pub hits : report.hits ≡ length found
   pub listed : report.listed ≡ wanted.unchecked
-
--- A report of nothing that counts for the status. `npm ci` installs a lock file that does not ask for the same as the
--- manifest, if it has what the manifest asks for. So mismatches count only if that is asked for.
-pub record IsClean (report : Report) : Type 0 where
-  pub mismatches : report.exact ≡ true → report.mismatches.items ≡ []
-  pub problems : report.problems.list.items ≡ []
-  pub hits : report.hits ≡ 0
-
--- ---- the lines
-
--- the line of a mismatch: its sentence, or its JSON object without spaces
-abbrev pub mismatch_text : Format → MismatchValue → List ℕ
-mismatch_text Text mismatch = mismatch_sentence mismatch
-mismatch_text Json mismatch = compact_text (mismatch_data mismatch)
-
--- the line of a problem
-abbrev pub line_text : Format → ProblemValue → List ℕ
-line_text Text problem = sentence problem
-line_text Json problem = compact_text (problem_data problem)
-
--- the line of a dependency that is not checked
-abbrev pub unchecked_text : Format → UncheckedValue → List ℕ
-unchecked_text Text unchecked = unchecked_sentence unchecked
-unchecked_text Json unchecked = compact_text (unchecked_data unchecked)
-
--- the line of a manifest that was not read
-abbrev pub unread_text : Format → (folder : List ℕ) → List ℕ
-unread_text Text folder = unread_sentence folder
-unread_text Json folder = compact_text (unread_data folder)
-
--- The line of a package that is hit. An advisory may have a number with a fraction as its `id`: then the JSON text is
--- not fixed here, but it reads back as the object.
-pub record IsJsonLine (value : Data) (line : List ℕ) : Type 0 where
-  pub compact : has_float value ≡ false → line ≡ compact_text value
-  pub reads : depth value ≤ max_depth → read line ≡ Some value
-
-abbrev pub IsHitLine : Format → FoundValue → (line : List ℕ) → Type 0
-IsHitLine Text found line = line ≡ hit_sentence found
-IsHitLine Json found line = IsJsonLine (found_data found) line
-
--- a line for each of these, and a newline byte after it
-abbrev pub lines : {V : Type 0} → (line : V → List ℕ) → List V → List ℕ
-lines line [] = []
-lines line (one ∷ others) = line one ++ (10 ∷ lines line others)
-
--- the same of lines that such a relation allows
-pub data AreLines {V : Type 0} (IsLine : V → List ℕ → Type 0) : List V → (text : List ℕ) → Type 0 where
-  none : AreLines IsLine [] []
-  one_more : (one : V) (line : List ℕ) (others : List V) (text : List ℕ) → IsLine one line → AreLines IsLine others text
-      → AreLines IsLine (one ∷ others) (line ++ (10 ∷ text))
-
--- All that is written: a line for each mismatch, for each problem, for each package that is hit and, if that is asked
--- for, for each dependency that is not checked, and for each manifest that was not read.
-abbrev pub report_text : WantedValue → Report → (hit_lines : List ℕ) → List ℕ
-report_text wanted report hit_lines = lines (mismatch_text wanted.format) (map mismatch_value report.mismatches.items)
-    ++ (lines (line_text wanted.format) (map problem_value report.problems.list.items)
-    ++ (hit_lines ++ (if wanted.unchecked
-    then lines (unchecked_text wanted.format) (map unchecked_value report.problems.unchecked.items)
-    ++ lines (unread_text wanted.format) (map folder_text report.unread.items) else [])))
-
--- the text of a report, with the lines of what is hit
-abbrev pub IsReportText : WantedValue → Report → List FoundValue → (text : List ℕ) → Type 0
-IsReportText wanted report found text = (hit_lines : List ℕ) × AreLines (IsHitLine wanted.format) found hit_lines
-    × (text ≡ report_text wanted report hit_lines)

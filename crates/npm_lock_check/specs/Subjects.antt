@@ -3,39 +3,36 @@ use Rattle.std.specs.Prelude.{ℕ, List, [], ◌∷◌, ◌++◌, Option, Some, 
 use Rattle.std.specs.Str.{bytes_eq}
 use Rattle.npm_advisories.specs.declared.fault.FaultKind.{FaultKind}
 use Rattle.npm_advisories.specs.declared.fault.FaultKind.TheVariants as FaultKinds
+use Rattle.command_lines.specs.declared.input_error.InputError.TheVariants as Inputs
 use Rattle.npm_lock_check.specs.Arguments.{ArgumentsValue}
-use Rattle.npm_lock_check.specs.Shown.{quoted}
+use Rattle.command_lines.specs.Shown.{quoted}
 use Rattle.npm_lock_check.specs.declared.run_error.RunError.{RunError}
 use Rattle.npm_lock_check.specs.declared.run_error.RunError.TheVariants as Errors
 use Rattle.npm_lock_check.specs.declared.run_error.StopError.{StopError}
 use Rattle.npm_lock_check.specs.declared.run_error.StopError.TheVariants as Stops
-use Rattle.npm_lock_check.specs.declared.subject.Input.{Input}
-use Rattle.npm_lock_check.specs.declared.subject.Input.TheVariants as Inputs
+use Rattle.npm_lock_check.specs.declared.subject.Source.{Source}
+use Rattle.npm_lock_check.specs.declared.subject.Source.TheVariants as Sources
 use Rattle.npm_lock_check.specs.declared.subject.Subject.{Subject}
 use Rattle.npm_lock_check.specs.declared.subject.Subject.TheVariants as Subjects
 
 -- ---- which input it is
 
 -- The input that an error of a check is about. A write and memory are no input, and `NoLinked` names its folder.
-abbrev pub checked_input : RunError → Option Input
-checked_input Errors.NoFile = Some Inputs.Lock
-checked_input Errors.Open = Some Inputs.Lock
-checked_input Errors.Read = Some Inputs.Lock
+abbrev pub checked_input : RunError → Option Source
 checked_input Errors.Write = None
 checked_input Errors.Memory = None
-checked_input Errors.NoUtf8 = Some Inputs.Lock
-checked_input (Errors.NoJson line column) = Some Inputs.Lock
-checked_input Errors.ByteOrderMark = Some Inputs.Lock
-checked_input (Errors.NoLockFile fault) = Some Inputs.Lock
-checked_input (Errors.NoManifest fault) = Some Inputs.Manifest
+checked_input (Errors.Input Inputs.Memory) = None
+checked_input (Errors.Input error) = Some Sources.Lock
+checked_input (Errors.NoLockFile fault) = Some Sources.Lock
+checked_input (Errors.NoManifest fault) = Some Sources.Manifest
 checked_input (Errors.NoLinked name fault) = None
-checked_input (Errors.NoAdvisories kind name place) = Some Inputs.Advisories
+checked_input (Errors.NoAdvisories kind name place) = Some Sources.Advisories
 
 -- the input that an error is about; `Load` names its folder
-abbrev pub input_of : StopError → Option Input
+abbrev pub input_of : StopError → Option Source
 input_of (Stops.Check error) = checked_input error
-input_of (Stops.Manifest error) = Some Inputs.Manifest
-input_of (Stops.Advisories error) = Some Inputs.Advisories
+input_of (Stops.Manifest error) = Some Sources.Manifest
+input_of (Stops.Advisories error) = Some Sources.Advisories
 input_of (Stops.Load error) = None
 
 -- ---- how it is named
@@ -51,11 +48,11 @@ option_words option None = []
 option_words option (Some file) = option ++ (quoted file ++ codes ": ")
 
 -- the input, as these arguments name it
-abbrev pub input_words : ArgumentsValue → Option Input → List ℕ
+abbrev pub input_words : ArgumentsValue → Option Source → List ℕ
 input_words asked None = []
-input_words asked (Some Inputs.Lock) = lock_words asked.file
-input_words asked (Some Inputs.Manifest) = option_words (codes "--manifest ") asked.manifest
-input_words asked (Some Inputs.Advisories) = option_words (codes "--advisories ") asked.advisories
+input_words asked (Some Sources.Lock) = lock_words asked.file
+input_words asked (Some Sources.Manifest) = option_words (codes "--manifest ") asked.manifest
+input_words asked (Some Sources.Advisories) = option_words (codes "--advisories ") asked.advisories
 
 -- what the line of an error begins with
 abbrev pub subject_of : ArgumentsValue → StopError → List ℕ

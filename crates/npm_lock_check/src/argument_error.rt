@@ -1,5 +1,5 @@
 //! What is wrong with the arguments.
-use crate::shown::Quoted;
+use command_lines::Quoted;
 use thiserror::Error;
 
 /// What is wrong with the arguments, with the word that it is about.
@@ -18,7 +18,7 @@ pub enum ArgumentError<'a> {
     #[error("{0} has no value; --help lists the options")]
     NoValue(Quoted<'a>),
     /// The value of `--format` is no format.
-    #[error("--format takes text or json, and not {0}; --help lists the options")]
+    #[error("--format takes text, json, github or sarif, and not {0}; --help lists the options")]
     Format(Quoted<'a>),
     /// The value of `--ignore` is no kind of problem.
     #[error("--ignore takes group, missing, invalid, peer-local or engine, and not {0}; --help lists the options")]
@@ -26,6 +26,9 @@ pub enum ArgumentError<'a> {
     /// The value of `--severity` is no severity.
     #[error("--severity takes info, low, moderate, high or critical, and not {0}; --help lists the options")]
     Severity(Quoted<'a>),
+    /// Something is asked for that the format has no place for.
+    #[error("--format github and --format sarif do not take --advisories or --unchecked; --help lists the options")]
+    NoPlace,
     /// The value of `--node` is no version.
     #[error("--node takes a version, as 20 or 20.11.1, and not {0}; --help lists the options")]
     NodeVersion(Quoted<'a>),

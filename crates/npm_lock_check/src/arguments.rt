@@ -1,24 +1,18 @@
 //! What the arguments of the program ask for.
 //!
 //! See docs/DECISIONS.md, "The arguments of `npm_lock_check` are read by hand".
-ghost use Rattle.std.specs.Prelude.{◌≡◌, ◌<◌, [], ◌∷◌, length, map, option_map, string_bytes, MatchOption};
+ghost use Rattle.std.specs.Prelude.{◌≡◌, length, map, string_bytes};
+ghost use Rattle.command_lines.specs.Arguments.{argument_value};
 ghost use Rattle.npm_lock_check.specs.Arguments as ArgumentRules;
-ghost use Rattle.npm_lock_check.specs.Arguments.{argument_value, arguments_of, asked_by, arguments_result, arguments_value};
-ghost use Rattle.npm_lock_check.specs.Arguments.{part_values};
+ghost use Rattle.npm_lock_check.specs.Arguments.{arguments_of, asked_by, arguments_result, arguments_value};
 
 use crate::argument_error::ArgumentError;
+use crate::format::Format;
 use crate::kinds::{Kinds, named_by};
-use crate::shown::Quoted;
+use command_lines::{Argument, MAX_WORDS, Options, Quoted, first_argument};
 use npm_advisories::Severity;
-
-/// How problems are written.
-#[derive(Clone, Copy, Drop)]
-pub enum Format {
-    /// A sentence a line.
-    Text,
-    /// A JSON object a line.
-    Json,
-}
+use npm_lock_annotations::AnnotationFormat;
+use npm_lock_reports::ReportFormat;
 
 /// What is shown in place of a check.
 #[derive(Clone, Copy, Drop)]
@@ -51,13 +45,6 @@ pub struct Arguments<'a> {
     pub file: Option<&'a str>,
 }
 
-/// One argument: a word, and its value if it has one.
-#[derive(Clone, Copy, Drop)]
-struct Argument<'a> {
-    word: &'a str,
-    value: Option<&'a str>,
-}
-
 /// The options that have a value.
 #[derive(Clone, Copy, Drop)]
 enum Setting {
@@ -79,9 +66,6 @@ enum Name {
     Valued(Setting),
 }
 
-/// The greatest number of words that are read: each takes room on the stack.
-const MAX_WORDS: usize = 1000;
-
 /// Returns what the words after the program's name ask for. Of two values of an option the last one counts.
 pub fn read_arguments<'a>(words: &'a [String]) -> Result<Arguments<'a>, ArgumentError<'a>>
     ensures { arguments_result result ≡ ArgumentRules.read_arguments (map string_bytes words.now) }
@@ -89,7 +73,19 @@ pub fn read_arguments<'a>(words: &'a [String]) -> Result<Arguments<'a>, Argument
     if MAX_WORDS < words.len() {
         return Err(ArgumentError::TooMany);
     }
-    asked_from(nothing_asked(), words)
+    if_fitting(asked_from(nothing_asked(), words)?)
+}
+
+/// These arguments, if the format has a place for all that they ask for.
+fn if_fitting<'a>(asked: Arguments<'a>) -> Result<Arguments<'a>, ArgumentError<'a>>
+    ensures { arguments_result result ≡ ArgumentRules.if_fitting (arguments_value asked.entry) }
+{
+    let annotated = matches!(asked.format, Some(Format::Annotations(_)));
+    if annotated && (asked.advisories.is_some() || asked.unchecked) {
+        Err(ArgumentError::NoPlace)
+    } else {
+        Ok(asked)
+    }
 }
 
 /// What these words ask for, after others.
@@ -100,7 +96,7 @@ fn asked_from<'a>(
     ensures { arguments_result result
         ≡ asked_by (Ok (arguments_value asked.entry)) (arguments_of (map string_bytes words.now)) }
 {
-    match first_argument(words) {
+    match first_argument::<LockOptions>(words) {
         Some((argument, rest)) => asked_from(asked_with(asked, argument)?, rest),
         None => Ok(asked),
     }
@@ -125,49 +121,15 @@ fn nothing_asked<'a>() -> Arguments<'a>
     }
 }
 
-/// The first argument of the words, and the words after it.
-fn first_argument<'a>(words: &'a [String]) -> Option<(Argument<'a>, &'a [String])>
-    ensures { MatchOption result (words.now ≡ []) (λ first. (length first.1.now < length words.now)
-        × (arguments_of (map string_bytes words.now)
-        ≡ argument_value first.0 ∷ arguments_of (map string_bytes first.1.now))) }
-{
-    let (first, rest) = words.split_first()?;
-    let word = first.as_str();
-    let Some((text, others)) = rest.split_first() else {
-        return Some((one_word(word), rest));
-    };
-    if takes_value(word) {
-        let value = Some(text.as_str());
-        return Some((Argument { word, value }, others));
+/// The options of this program.
+struct LockOptions;
+
+impl Options for LockOptions {
+    ghost takes_value = { ArgumentRules.takes_value };
+
+    fn takes_value(word: &str) -> bool {
+        matches!(name_of(word), Some(Name::Valued(_)))
     }
-    Some((one_word(word), rest))
-}
-
-/// The argument that one word is. `--node=20` has its value in the word.
-fn one_word<'a>(word: &'a str) -> Argument<'a>
-    ensures { argument_value result ≡ ArgumentRules.one_word word.now }
-{
-    match parts_of(word) {
-        Some((name, text)) if takes_value(name) => Argument {
-            word: name,
-            value: Some(text),
-        },
-        _ => Argument { word, value: None },
-    }
-}
-
-/// The word before its first `=`, and after it.
-fn parts_of(word: &str) -> Option<(&str, &str)>
-    ensures { option_map (λ parts. part_values parts) result ≡ ArgumentRules.parts_of word.now }
-{
-    word.split_once('=')
-}
-
-/// Returns `true` if the word is an option with a value.
-fn takes_value(word: &str) -> bool
-    ensures { result ≡ ArgumentRules.takes_value word.now }
-{
-    matches!(name_of(word), Some(Name::Valued(_)))
 }
 
 /// The option that the word names.
@@ -313,9 +275,13 @@ fn format_of(text: &str) -> Option<Format>
     ensures { result ≡ ArgumentRules.format_of text.now }
 {
     if text == "text" {
-        Some(Format::Text)
+        Some(Format::Report(ReportFormat::Text))
     } else if text == "json" {
-        Some(Format::Json)
+        Some(Format::Report(ReportFormat::Json))
+    } else if text == "github" {
+        Some(Format::Annotations(AnnotationFormat::Github))
+    } else if text == "sarif" {
+        Some(Format::Annotations(AnnotationFormat::Sarif))
     } else {
         None
     }

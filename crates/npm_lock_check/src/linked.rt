@@ -4,14 +4,14 @@
 ghost use Rattle.std.specs.Prelude.{◌≡◌, ◌⊎◌, ℕ, List, IfErr, IfOk, OnOk, Err, option_map};
 ghost use Rattle.std.specs.Fn.{FnOnceReturnsAt, FnReturnsAt};
 ghost use Rattle.serde_json.specs.View.{view};
-ghost use Rattle.npm_lock.specs.LinkedFolders.{AreLinkedFolders};
+ghost use Rattle.npm_packages.specs.LinkedFolders.{AreLinkedFolders};
 ghost use Rattle.npm_lock_check.specs.Linked.{AreRead, loaded_value, nothing_loaded, with_found};
 ghost use Rattle.npm_lock_check.specs.Report.{AreLoaded, IsNotLoaded};
 
-use crate::folder_name::FolderName;
 use crate::run_error::LoadError;
 use crate::sync::is_compared;
 use npm_lock::linked_folders;
+use npm_lock_reports::FolderName;
 use serde_json::Value;
 use std::alloc::{AllocError, Global};
 

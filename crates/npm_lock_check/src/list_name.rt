@@ -3,7 +3,7 @@ ghost use Rattle.std.specs.Prelude.{Some, string_bytes};
 ghost use Rattle.std.specs.Fmt.{WritesOnOk};
 ghost use Rattle.npm_lock_check.specs.Subjects as Subjects;
 
-use crate::shown::write_quoted;
+use command_lines::write_quoted;
 use npm_advisories::FaultKind;
 use std::fmt;
 

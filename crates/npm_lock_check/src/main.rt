@@ -7,56 +7,48 @@
 #![tactic(auto)]
 
 ghost use Rattle.std.specs.Prelude.{◌≡◌, ◌↔◌, IfErr, None, Some, false, true};
-ghost use Rattle.npm_lock_check.specs.Report.{IsClean};
+ghost use Rattle.npm_lock_reports.specs.Report.{IsClean};
 
 mod argument_error;
 mod arguments;
-mod folder_name;
+mod format;
 mod help;
-mod hit_sentence;
 mod hits;
 mod kinds;
-mod lines;
 mod linked;
 mod list_name;
 mod manifest_file;
 mod node;
 mod output;
 mod program_error;
-mod report;
 mod run_error;
-mod sentence;
-mod shown;
 mod subject;
 mod sync;
-mod unread;
 mod walk;
 mod wanted;
-mod watched;
-mod words;
 mod workspace_name;
 mod workspaces;
+mod written;
 
 use argument_error::ArgumentError;
-use arguments::{Arguments, Format, Shown, read_arguments};
+use arguments::{Arguments, Shown, read_arguments};
+use command_lines::{Quoted, Watched, open_error, read_json, words_of};
+use format::Format;
 use help::{HELP, VERSION};
 use linked::manifests_of;
 use manifest_file::{folder_of, manifest_in};
 use node::node_of;
 use node_semver::Version;
-use output::{read_json, run};
+use npm_lock_reports::{Report, ReportFormat};
+use output::run;
 use program_error::ProgramError;
-use report::Report;
-use run_error::{RunError, StopError, open_error};
+use run_error::{RunError, StopError};
 use serde_json::Value;
-use shown::Quoted;
 use std::fs::File;
 use std::io::{IsTerminal, Read};
 use std::process::ExitCode;
 use subject::subject_of;
 use wanted::Wanted;
-use watched::Watched;
-use words::words_of;
 use workspaces::with_workspaces;
 
 /// Ends with the status of `status_of`.
@@ -128,13 +120,15 @@ fn opened(
     match asked.file {
         None | Some("-") => checked(rt, rt.stdin(), asked, node),
         Some(path) => {
-            let file = File::open(rt, path).map_err(|error| StopError::Check(open_error(error)))?;
+            let file = File::open(rt, path).map_err(|error| StopError::Check(RunError::Input(
+                open_error(error),
+            )))?;
             checked(rt, file, asked, node)
         }
     }
 }
 
-/// Checks what is read.
+/// Reads the files that the arguments name beside the lock file, and checks what is read.
 fn checked<R: Read + Drop>(
     rt: &HostRuntime,
     reader: R,
@@ -143,30 +137,53 @@ fn checked<R: Read + Drop>(
 ) -> Result<Report, StopError> {
     let manifest = value_at(rt, asked.manifest).map_err(StopError::Manifest)?;
     let advisories = value_at(rt, asked.advisories).map_err(StopError::Advisories)?;
+    let file = asked.file.unwrap_or("-");
+    checked_beside(
+        rt,
+        reader,
+        asked,
+        file,
+        manifest.as_ref(),
+        advisories.as_ref(),
+        node,
+    )
+}
+
+/// Checks what is read, beside a manifest and advisories. `file` is the path of the lock file.
+fn checked_beside<'a, R: Read + Drop>(
+    rt: &HostRuntime,
+    reader: R,
+    asked: Arguments<'_>,
+    file: &'a str,
+    manifest: Option<&'a Value>,
+    advisories: Option<&'a Value>,
+    node: Option<&'a Version>,
+) -> Result<Report, StopError> {
     let stdout = rt.stdout();
     let format = match asked.format {
         Some(format) => format,
-        None if stdout.is_terminal() => Format::Text,
-        None => Format::Json,
+        None if stdout.is_terminal() => Format::Report(ReportFormat::Text),
+        None => Format::Report(ReportFormat::Json),
     };
     let mut reader = Watched::new(reader);
     let mut writer = Watched::new(stdout);
     let wanted = Wanted {
-        manifest: manifest.as_ref(),
+        manifest,
         exact: asked.exact,
-        advisories: advisories.as_ref(),
+        advisories,
         level: asked.level,
         node,
         ignored: asked.ignored,
         unchecked: asked.unchecked,
         format,
+        file,
     };
     let folder = asked.manifest.map_or(".", folder_of);
     run(rt.alloc(), &mut reader, &mut writer, wanted, |lock| {
         let loaded = manifests_of(rt.alloc(), lock, |linked| {
             manifest_in(rt, folder, linked, asked.outside)
         })?;
-        with_workspaces(rt, folder, wanted.manifest, asked.outside, loaded)
+        with_workspaces(rt, folder, manifest, asked.outside, loaded)
     })
 }
 
@@ -175,8 +192,11 @@ fn value_at(rt: &HostRuntime, path: Option<&str>) -> Result<Option<Value>, RunEr
     let Some(path) = path else {
         return Ok(None);
     };
-    let file = File::open(rt, path).map_err(open_error)?;
-    read_json(rt.alloc(), &mut Watched::new(file)).map(Some)
+    let file = File::open(rt, path).map_err(|error| RunError::Input(open_error(error)))?;
+    match read_json(rt.alloc(), &mut Watched::new(file)) {
+        Ok(value) => Ok(Some(value)),
+        Err(error) => Err(RunError::Input(error)),
+    }
 }
 
 /// Returns the exit status: 0 if nothing was found, 1 if something was, and 2 if the file was not checked, or if the line on

@@ -2,11 +2,10 @@
 ghost use Rattle.std.specs.Prelude.{◌≡◌, IfOk, string_bytes};
 ghost use Rattle.npm_lock_check.specs.ManifestFile.{IsFolderOf, IsNoFile, IsNotOpened, IsNotRead, path_of};
 
-use crate::folder_name::FolderName;
 use crate::linked::Found;
-use crate::output::read_json;
 use crate::run_error::{LoadError, RunError};
-use crate::watched::Watched;
+use command_lines::{Watched, read_json};
+use npm_lock_reports::FolderName;
 use std::alloc::{AllocError, Global};
 use std::fs::File;
 use std::io::ErrorKind;
@@ -37,7 +36,7 @@ pub fn manifest_in(
     };
     match read_json(rt.alloc(), &mut Watched::new(file)) {
         Ok(manifest) => Ok(Found::Manifest(manifest)),
-        Err(error) => Err(not_read(rt.alloc(), folder, error)),
+        Err(error) => Err(not_read(rt.alloc(), folder, RunError::Input(error))),
     }
 }
 

@@ -1,36 +1,37 @@
 //! What the program reads, and what it writes for it.
-ghost use Rattle.std.specs.Prelude.{◌≡◌, ◌≢◌, List, ℕ, IfErr, IfOk, IsErrOf, IsSome, OnOk, filter, map, not, option_map};
+ghost use Rattle.std.specs.Prelude.{◌≡◌, ◌≢◌, List, ℕ, IfErr, IfOk, IsErrOf, IsSome, OnOk, filter, map, not, option_map, true};
 ghost use Rattle.std.specs.Fn.{FnOnceReturnsAt};
 ghost use Rattle.std.specs.Io.KnownBytes.{Appends};
 ghost use Rattle.serde_json.specs.View.{view};
-ghost use Rattle.npm_lock.specs.Faults.{lock_fault};
+ghost use Rattle.npm_packages.specs.Faults.{lock_fault};
 ghost use Rattle.npm_lock.specs.Findings.{IsChecked};
 ghost use Rattle.npm_lock_version_one.specs.VersionOne.{any_fault, converted};
 ghost use Rattle.npm_advisories.specs.Audit.{FoundValue};
 ghost use Rattle.npm_lock_check.specs.Kinds.{has};
 ghost use Rattle.npm_lock_check.specs.Linked.{loaded_value, workspace_value};
-ghost use Rattle.npm_lock_check.specs.Output.{IsInput, IsReported, IsStopped, IsUnread};
+ghost use Rattle.npm_lock_reports.specs.declared.report.Report.{Report};
+ghost use Rattle.npm_lock_check.specs.Output.{IsReported, IsStopped};
+ghost use Rattle.npm_lock_check.specs.Written.{IsWritten, has_places};
 ghost use Rattle.npm_lock_check.specs.Private.Refusals.{IsCheckRefused, IsLockRefused, IsRefused};
-ghost use Rattle.npm_lock_check.specs.Report.{AreLeft, IsReportOf, IsReportText, manifests_of, placed};
+ghost use Rattle.npm_lock_check.specs.Report.{AreLeft, IsReportOf, manifests_of, placed};
 ghost use Rattle.npm_lock_check.specs.Report.{wanted_value};
-ghost use Rattle.npm_lock_check.specs.declared.report.Report.{Report};
 
+use crate::format::Format;
 use crate::hits::hits_of;
 use crate::kinds::Kinds;
-use crate::lines::lines_of;
 use crate::linked::{Loaded, Workspace, load_compared};
-use crate::report::Report;
-use crate::run_error::{LoadError, RunError, StopError, failure_error, json_error, read_error};
+use crate::run_error::{LoadError, RunError, StopError};
 use crate::sync::{compare, is_compared};
 use crate::wanted::Wanted;
-use crate::watched::Watched;
 use crate::workspaces::add_workspaces;
+use crate::written::written;
+use command_lines::{Watched, read_json_with_text};
 use npm_lock::{CheckError, Problem, Problems, check};
+use npm_lock_reports::Report;
 use npm_lock_version_one::convert;
 use serde_json::Value;
 use std::alloc::Global;
 use std::io::{Read, Write};
-use std::str;
 
 /// Reads a lock file to the end, and writes what is found out about it, a line each: the mismatches of the manifests, the
 /// problems but those of ignored kinds, the packages that an advisory hits, and the dependencies that are not checked if they
@@ -52,27 +53,27 @@ pub fn run<R: Read, W: Write, F: FnOnce(&Value) -> Result<Loaded, LoadError>>(
     requires { F.IsAlwaysCallable load }
     ensures written { IfOk result (λ report. (found : List FoundValue) × (text : List ℕ)
         × IsReported R.remaining reader.old reader.new (FnOnceReturnsAt F.FnOnce load) (wanted_value wanted.entry)
-        report found
-        × IsReportText (wanted_value wanted.entry) report found text
+        report found text
         × Appends (W.contents writer.old.inner) (W.contents writer.new.inner) text) }
     ensures refused { IfErr result (λ error. error ≢ StopError.Check RunError.Write
         → IsStopped R.remaining (FnOnceReturnsAt F.FnOnce load) (wanted_value wanted.entry) reader.old reader.new
         error) }
     ensures unwritten { IfErr result (λ error. error ≢ StopError.Check RunError.Write → writer.new ≡ writer.old) }
     ensures write { IsErrOf result (StopError.Check RunError.Write) → IsSome writer.new.failure
-        × ((report : Report) × (found : List FoundValue)
+        × ((report : Report) × (found : List FoundValue) × (text : List ℕ)
         × IsReported R.remaining reader.old reader.new (FnOnceReturnsAt F.FnOnce load) (wanted_value wanted.entry)
-        report found) }
+        report found text) }
 {
-    let lock = match read_json(alloc, reader) {
-        Ok(lock) => lock,
-        Err(error) => return Err(StopError::Check(error)),
+    let (lock, text) = match read_json_with_text(alloc, reader) {
+        Ok(read) => read,
+        Err(error) => return Err(StopError::Check(RunError::Input(error))),
     };
+    let text = kept(alloc, text, wanted.format);
     let loaded = match load_compared(alloc, &lock, wanted.manifest, load) {
         Ok(loaded) => loaded,
         Err(error) => return Err(StopError::Load(error)),
     };
-    let (report, lines) = match report_of(alloc, lock, loaded, wanted) {
+    let (report, lines) = match report_of(alloc, lock, text.as_str(), loaded, wanted) {
         Ok(made) => made,
         Err(error) => return Err(StopError::Check(error)),
     };
@@ -82,16 +83,27 @@ pub fn run<R: Read, W: Write, F: FnOnce(&Value) -> Result<Loaded, LoadError>>(
     }
 }
 
-/// The report of a lock file, and its lines.
+/// The text of a lock file, or no text if the format has no places.
+fn kept(alloc: Global, text: String, format: Format) -> String
+    ensures { has_places format ≡ true → result ≡ text }
+{
+    match format {
+        Format::Report(_) => String::new(alloc),
+        Format::Annotations(_) => text,
+    }
+}
+
+/// The report of a lock file, and what is written of it.
 fn report_of(
     alloc: Global,
     lock: Value,
+    text: &str,
     loaded: Loaded,
     wanted: Wanted<'_>,
 ) -> Result<(Report, Vec<u8>), RunError>
     ensures found { IfOk result (λ made. (found : List FoundValue)
         × IsReportOf (view lock) (loaded_value loaded) (wanted_value wanted.entry) made.0 found
-        × IsReportText (wanted_value wanted.entry) made.0 found made.1.items) }
+        × IsWritten (wanted_value wanted.entry) text.now made.0 found made.1.items) }
     ensures refused { IfErr result (IsRefused (view lock) (placed (view lock)
         (manifests_of (wanted_value wanted.entry).manifest (loaded_value loaded).linked))
         (loaded_value loaded).linked (wanted_value wanted.entry)) }
@@ -120,7 +132,7 @@ fn report_of(
         hits: found.len(),
         listed: wanted.unchecked,
     };
-    match lines_of(alloc, &report, &found, wanted) {
+    match written(alloc, text, &report, &found, wanted) {
         Ok(lines) => Ok((report, lines)),
         Err(_) => Err(RunError::Memory),
     }
@@ -189,28 +201,3 @@ fn leave_out(list: &mut Vec<Problem>, ignored: Kinds)
 {
     list.retain(|problem| !ignored.has(problem.kind));
 }
-
-/// Reads a JSON value to the end of the input.
-///
-/// # Errors
-///
-/// `ByteOrderMark`, `NoUtf8` and `NoJson` are true of all of the input. `Read` and `Memory`: a read failed, or an allocation.
-pub fn read_json<R: Read>(alloc: Global, reader: &mut Watched<R>) -> Result<Value, RunError>
-    ensures value { IfOk result (λ value. IsInput R.remaining reader.old reader.new (view value)) }
-    ensures refused { IfErr result (IsUnread R.remaining reader.old reader.new) }
-{
-    // A reader that had failed before is not read.
-    if let Some(kind) = reader.failure() {
-        return Err(failure_error(kind));
-    }
-    let mut bytes = Vec::new(alloc);
-    reader.read_to_end(&mut bytes).map_err(read_error)?;
-    if bytes.starts_with(MARK) {
-        return Err(RunError::ByteOrderMark);
-    }
-    let text = str::from_utf8(bytes.as_slice()).map_err(|_| RunError::NoUtf8)?;
-    Value::from_str(alloc, text).map_err(json_error)
-}
-
-/// The byte order mark in UTF-8.
-const MARK: &[u8] = &[239, 187, 191];

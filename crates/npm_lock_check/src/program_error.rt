@@ -2,7 +2,7 @@
 use crate::argument_error::ArgumentError;
 use crate::run_error::StopError;
 use crate::subject::Subject;
-use crate::words::WordsError;
+use command_lines::WordsError;
 use thiserror::Error;
 
 /// Why the program ends with status 2.

@@ -6,12 +6,12 @@ ghost use Rattle.npm_lock_check.specs.Subjects.{subject_words};
 
 use crate::arguments::Arguments;
 use crate::run_error::{RunError, StopError};
-use crate::shown::Quoted;
+use command_lines::{InputError, Quoted};
 use std::fmt;
 
 /// An input of the program.
 #[derive(Clone, Copy, Drop)]
-enum Input {
+enum Source {
     Lock,
     Manifest,
     Advisories,
@@ -51,12 +51,12 @@ pub fn subject_of<'a>(asked: Arguments<'a>, error: &StopError) -> Subject<'a>
 {
     match input_of(error) {
         None => Subject::Nothing,
-        Some(Input::Lock) => lock_file(asked.file),
-        Some(Input::Manifest) => match asked.manifest {
+        Some(Source::Lock) => lock_file(asked.file),
+        Some(Source::Manifest) => match asked.manifest {
             Some(text) => Subject::Manifest(Quoted { text }),
             None => Subject::Nothing,
         },
-        Some(Input::Advisories) => match asked.advisories {
+        Some(Source::Advisories) => match asked.advisories {
             Some(text) => Subject::Advisories(Quoted { text }),
             None => Subject::Nothing,
         },
@@ -74,25 +74,26 @@ fn lock_file<'a>(file: Option<&'a str>) -> Subject<'a>
 }
 
 /// The input that an error is about.
-fn input_of(error: &StopError) -> Option<Input>
+fn input_of(error: &StopError) -> Option<Source>
     ensures { result ≡ Subjects.input_of error.now }
 {
     match error {
         StopError::Check(error) => checked_input(error),
-        StopError::Manifest(_) => Some(Input::Manifest),
-        StopError::Advisories(_) => Some(Input::Advisories),
+        StopError::Manifest(_) => Some(Source::Manifest),
+        StopError::Advisories(_) => Some(Source::Advisories),
         StopError::Load(_) => None,
     }
 }
 
 /// The input that an error of a check is about.
-fn checked_input(error: &RunError) -> Option<Input>
+fn checked_input(error: &RunError) -> Option<Source>
     ensures { result ≡ Subjects.checked_input error.now }
 {
     match error {
         RunError::Write | RunError::Memory | RunError::NoLinked(_, _) => None,
-        RunError::NoManifest(_) => Some(Input::Manifest),
-        RunError::NoAdvisories(_, _, _) => Some(Input::Advisories),
-        _ => Some(Input::Lock),
+        RunError::Input(InputError::Memory) => None,
+        RunError::NoManifest(_) => Some(Source::Manifest),
+        RunError::NoAdvisories(_, _, _) => Some(Source::Advisories),
+        _ => Some(Source::Lock),
     }
 }

@@ -7,11 +7,11 @@ ghost use Rattle.npm_lock_check.specs.Private.Refusals.{AreLinkedRefused, IsComp
 ghost use Rattle.npm_lock_check.specs.Report.{AreAllMismatches, AreLeftMismatches, has_packages, is_compared, manifests_of};
 ghost use Rattle.npm_lock_check.specs.Report.{placed, wanted_value};
 
-use crate::folder_name::FolderName;
 use crate::linked::Linked;
 use crate::run_error::RunError;
 use crate::wanted::Wanted;
 use npm_lock::{CheckError, Fault};
+use npm_lock_reports::FolderName;
 use npm_manifests::{Mismatch, mismatches_of, put_manifest};
 use serde_json::Value;
 use std::alloc::Global;

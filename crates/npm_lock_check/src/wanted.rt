@@ -1,5 +1,5 @@
 //! What a check is asked for.
-use crate::arguments::Format;
+use crate::format::Format;
 use crate::kinds::Kinds;
 use node_semver::Version;
 use npm_advisories::Severity;
@@ -23,4 +23,6 @@ pub struct Wanted<'a> {
     /// Dependencies that are not checked are listed too.
     pub unchecked: bool,
     pub format: Format,
+    /// The path of the lock file, as findings name it.
+    pub file: &'a str,
 }

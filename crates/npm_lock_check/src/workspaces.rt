@@ -6,13 +6,13 @@ ghost use Rattle.npm_lock_check.specs.Linked.{workspace_in, workspace_value};
 ghost use Rattle.npm_lock_check.specs.Report.{workspace_problems};
 ghost use Rattle.npm_lock.specs.declared.problem.Problem.{Problem};
 
-use crate::folder_name::FolderName;
 use crate::linked::{Found, Linked, Loaded, Workspace};
 use crate::manifest_file::manifest_in;
 use crate::run_error::LoadError;
 use crate::walk::{folders_on_disk, joined, unless_failed};
 use crate::workspace_name::name_of;
 use npm_lock::{Problem, workspace_patterns, workspace_problem};
+use npm_lock_reports::FolderName;
 use serde_json::Value;
 use std::alloc::{AllocError, Global};
 use std::fs;

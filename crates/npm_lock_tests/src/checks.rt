@@ -1,6 +1,5 @@
 use node_semver::Version;
 use npm_lock::{CheckError, Problem, Problems, Unchecked, check};
-use npm_lock_version_one::check_any;
 use serde_json::Value;
 use std::alloc::{AllocError, Global};
 
@@ -8,7 +7,7 @@ use std::alloc::{AllocError, Global};
 // calls. So each is short to prove.
 
 // The text that was made is this one.
-pub(crate) fn is_text(made: Option<String>, wanted: &str) -> bool {
+pub fn is_text(made: Option<String>, wanted: &str) -> bool {
     match &made {
         Some(text) => text.as_str() == wanted,
         None => false,
@@ -16,7 +15,7 @@ pub(crate) fn is_text(made: Option<String>, wanted: &str) -> bool {
 }
 
 // The name of the fault for which a lock file was refused.
-pub(crate) fn fault_text(alloc: Global, error: &CheckError) -> Option<String> {
+pub fn fault_text(alloc: Global, error: &CheckError) -> Option<String> {
     match error {
         CheckError::Refused(fault) => format!(in alloc; "{fault:?}").ok(),
         CheckError::Memory => None,
@@ -36,7 +35,7 @@ fn push_problem(text: &mut String, problem: &Problem) -> Result<(), AllocError> 
     Ok(())
 }
 
-pub(crate) fn problems_text(alloc: Global, found: &[Problem]) -> Result<String, AllocError> {
+pub fn problems_text(alloc: Global, found: &[Problem]) -> Result<String, AllocError> {
     let mut text = String::new(alloc);
     for problem in found {
         push_problem(&mut text, problem)?;
@@ -45,7 +44,7 @@ pub(crate) fn problems_text(alloc: Global, found: &[Problem]) -> Result<String, 
 }
 
 // The problems that a check found, or the fault.
-fn answer_text(alloc: Global, answer: Result<Problems, CheckError>) -> Option<String> {
+pub fn answer_text(alloc: Global, answer: Result<Problems, CheckError>) -> Option<String> {
     match &answer {
         Ok(found) => problems_text(alloc, found.list.as_slice()).ok(),
         Err(error) => fault_text(alloc, error),
@@ -53,58 +52,27 @@ fn answer_text(alloc: Global, answer: Result<Problems, CheckError>) -> Option<St
 }
 
 // Returns `true` if the check of this text finds these problems, with this version of Node.
-pub(crate) fn finds(alloc: Global, text: &str, node: Option<&Version>, wanted: &str) -> bool {
+pub fn finds(alloc: Global, text: &str, node: Option<&Version>, wanted: &str) -> bool {
     match &Value::from_str(alloc, text) {
         Ok(lock) => finds_in(alloc, lock, node, wanted),
         Err(_) => false,
     }
 }
 
-pub(crate) fn finds_in(alloc: Global, lock: &Value, node: Option<&Version>, wanted: &str) -> bool {
+pub fn finds_in(alloc: Global, lock: &Value, node: Option<&Version>, wanted: &str) -> bool {
     is_text(answer_text(alloc, check(alloc, lock, node)), wanted)
-}
-
-// The same for lock files of every version, with this manifest.
-pub(crate) fn finds_beside(
-    alloc: Global,
-    text: &str,
-    manifest: &str,
-    node: Option<&Version>,
-    wanted: &str,
-) -> bool {
-    match &Value::from_str(alloc, manifest) {
-        Ok(manifest) => finds_in_any(alloc, text, Some(manifest), node, wanted),
-        Err(_) => false,
-    }
-}
-
-// The same with a manifest that was read, or with none.
-pub(crate) fn finds_in_any(
-    alloc: Global,
-    text: &str,
-    manifest: Option<&Value>,
-    node: Option<&Version>,
-    wanted: &str,
-) -> bool {
-    match &Value::from_str(alloc, text) {
-        Ok(lock) => is_text(
-            answer_text(alloc, check_any(alloc, lock, manifest, node)),
-            wanted,
-        ),
-        Err(_) => false,
-    }
 }
 
 // What a check counts and finds. Each problem, and each dependency that is not checked, has a line: a word and its JSON
 // text.
-pub(crate) struct Findings<'a> {
-    pub(crate) packages: usize,
-    pub(crate) dependencies: usize,
-    pub(crate) problems: &'a str,
-    pub(crate) unchecked: &'a str,
+pub struct Findings<'a> {
+    pub packages: usize,
+    pub dependencies: usize,
+    pub problems: &'a str,
+    pub unchecked: &'a str,
 }
 
-pub(crate) fn push_line(
+pub fn push_line(
     alloc: Global,
     text: &mut String,
     word: &str,
@@ -143,7 +111,7 @@ fn unchecked_lines(alloc: Global, found: &[Unchecked]) -> Result<String, AllocEr
 }
 
 // Returns `true` if the check of this lock file finds and counts this.
-pub(crate) fn tells(alloc: Global, lock: &Value, wanted: &Findings) -> bool {
+pub fn tells(alloc: Global, lock: &Value, wanted: &Findings) -> bool {
     match &check(alloc, lock, None) {
         Ok(found) => are_found(alloc, found, wanted),
         Err(_) => false,
@@ -164,7 +132,7 @@ fn are_found(alloc: Global, found: &Problems, wanted: &Findings) -> bool {
 }
 
 // The same for its text.
-pub(crate) fn text_tells(alloc: Global, text: &str, wanted: &Findings) -> bool {
+pub fn text_tells(alloc: Global, text: &str, wanted: &Findings) -> bool {
     match &Value::from_str(alloc, text) {
         Ok(lock) => tells(alloc, lock, wanted),
         Err(_) => false,

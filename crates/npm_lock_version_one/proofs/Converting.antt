@@ -9,16 +9,16 @@ use Rattle.std.specs.Prelude.{◌||◌, not, option_and_then, option_map, unwrap
 use Rattle.serde_json.proofs.OnLiterals.{serde_json_on_literals}
 use Rattle.serde_json.specs.Data.{Data, Members, member, no_members, object, put, string}
 use Rattle.serde_json.specs.Find.{as_null, as_object, get}
-use Rattle.npm_lock.specs.Faults.{has_text_version, link_fault, lock_fault, member_fault, members_fault, package_fault}
-use Rattle.npm_lock.specs.Faults.{specs_fault}
-use Rattle.npm_lock.specs.Packages.{Package, is_link}
+use Rattle.npm_packages.specs.Faults.{has_text_version, link_fault, lock_fault, member_fault, members_fault, package_fault}
+use Rattle.npm_packages.specs.Faults.{specs_fault}
+use Rattle.npm_packages.specs.Packages.{Package, is_link}
 use Rattle.npm_lock_version_one.specs.VersionOne as VersionOne
 use Rattle.npm_lock_version_one.specs.VersionOne.{any_fault, converted, entry_fault, file_of, has_named, is_version_one}
 use Rattle.npm_lock_version_one.specs.VersionOne.{manifest_fault, member_of, packages_below, packages_of, required_of}
 use Rattle.npm_lock_version_one.specs.VersionOne.{requires_fault}
 use Rattle.npm_lock_version_one.specs.VersionOne.{name_in, version_in, version_one_fault, with_packages, with_some}
-use Rattle.npm_lock.specs.declared.fault.Fault.{Fault}
-use Rattle.npm_lock.specs.declared.fault.Fault.TheVariants as Faults
+use Rattle.npm_packages.specs.declared.fault.Fault.{Fault}
+use Rattle.npm_packages.specs.declared.fault.Fault.TheVariants as Faults
 
 -- ---- one package
 

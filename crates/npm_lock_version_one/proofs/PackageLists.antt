@@ -7,12 +7,12 @@ use Rattle.serde_json.proofs.Views.{view-Object}
 use Rattle.serde_json.specs.Data.{Data, Members, member, object, put}
 use Rattle.serde_json.specs.View.{members_view, view}
 use Rattle.serde_json.specs.declared.value.Value.{Value, Object}
-use Rattle.npm_lock.specs.Folders.{place_in}
-use Rattle.npm_lock.specs.Packages.{Package}
+use Rattle.npm_packages.specs.Folders.{place_in}
+use Rattle.npm_packages.specs.Packages.{Package}
 use Rattle.npm_lock_version_one.specs.VersionOne.{entry_fault, member_of, packages_below, packages_fault}
 use Rattle.npm_lock_version_one.specs.VersionOne.{packages_named}
 use Rattle.npm_lock_version_one.specs.VersionOne.{packages_of_entries, packages_of_members, with_packages}
-use Rattle.npm_lock.specs.declared.fault.Fault.{Fault}
+use Rattle.npm_packages.specs.declared.fault.Fault.{Fault}
 
 -- the members with the packages of two lists
 pub with_both : (first others : List Package) (base : Members)

@@ -6,12 +6,12 @@ use Rattle.std.specs.Float.Ieee.{Float, binary64, eq, of_int}
 use Rattle.std.specs.Option.{option_map_or, option_or}
 use Rattle.serde_json.specs.Data.{Data, Members, member, no_members, number, object, put, string, unsigned}
 use Rattle.serde_json.specs.Find.{as_bool, as_null, as_number, as_object, as_str, get, to_float}
-use Rattle.npm_lock.specs.Faults.{has_text_version, lock_fault, package_fault, specs_fault}
-use Rattle.npm_lock.specs.Folders.{place_in}
-use Rattle.npm_lock.specs.Packages.{Package, is_link}
+use Rattle.npm_packages.specs.Faults.{has_text_version, lock_fault, package_fault, specs_fault}
+use Rattle.npm_packages.specs.Folders.{place_in}
+use Rattle.npm_packages.specs.Packages.{Package, is_link}
 use Rattle.npm_texts.specs.RangeText.{SpecValue, aliased_name, in_registry, location, refused, spec_of}
-use Rattle.npm_lock.specs.declared.fault.Fault.{Fault}
-use Rattle.npm_lock.specs.declared.fault.Fault.TheVariants as Faults
+use Rattle.npm_packages.specs.declared.fault.Fault.{Fault}
+use Rattle.npm_packages.specs.declared.fault.Fault.TheVariants as Faults
 
 -- ---- which lock files these are
 

@@ -3,11 +3,11 @@
 //! See docs/DECISIONS.md, "A lock file of version 1 is converted first".
 ghost use Rattle.std.specs.Prelude.{◌≡◌, ◌↔◌, IfOk, IsErrOf, OnOk, Some, option_map, true};
 ghost use Rattle.serde_json.specs.View.{view};
-ghost use Rattle.npm_lock.specs.Faults as Faults;
+ghost use Rattle.npm_packages.specs.Faults as Faults;
 ghost use Rattle.npm_lock.specs.Findings.{IsChecked};
 ghost use Rattle.npm_lock_version_one.specs.VersionOne as VersionOne;
 ghost use Rattle.npm_lock_version_one.specs.VersionOne.{any_fault, converted};
-ghost use Rattle.npm_lock.specs.declared.fault.Fault.{Fault};
+ghost use Rattle.npm_packages.specs.declared.fault.Fault.{Fault};
 
 use crate::Result;
 use crate::version_one::{is_version_one, packages_of};

@@ -11,10 +11,10 @@ use Rattle.std.specs.Option.{IsSome}
 use Rattle.std.specs.Ordering.{nat_cmp}
 use Rattle.serde_json.specs.Data.{Data, null}
 use Rattle.serde_json.specs.Find.{as_object, get}
-use Rattle.npm_lock.specs.Asked.{spec_in}
-use Rattle.npm_lock.specs.Faults.{package_fault}
-use Rattle.npm_lock.specs.declared.fault.Fault.{Fault}
-use Rattle.npm_lock.specs.declared.fault.Fault.TheVariants as Faults
+use Rattle.npm_packages.specs.Asked.{spec_in}
+use Rattle.npm_packages.specs.Faults.{package_fault}
+use Rattle.npm_packages.specs.declared.fault.Fault.{Fault}
+use Rattle.npm_packages.specs.declared.fault.Fault.TheVariants as Faults
 use Rattle.npm_manifests.specs.declared.group.Group.{Group}
 use Rattle.npm_manifests.specs.declared.group.Group.TheVariants.{Dependencies, DevDependencies, OptionalDependencies}
 use Rattle.npm_manifests.specs.declared.group.Group.TheVariants.{PeerDependencies}

@@ -8,7 +8,7 @@ ghost use Rattle.npm_manifests.specs.Mismatches as Mismatches;
 ghost use Rattle.npm_manifests.specs.Mismatches.{AreGroupMismatches, AreMismatches, AreMismatchesOf, MismatchValue};
 ghost use Rattle.npm_manifests.specs.Mismatches.{mismatch_value};
 ghost use Rattle.npm_manifests.specs.Private.GroupSpecs.{HasNone, IsFirstOf, left_of};
-ghost use Rattle.npm_lock.specs.declared.fault.Fault.{Fault};
+ghost use Rattle.npm_packages.specs.declared.fault.Fault.{Fault};
 
 use crate::Result;
 use crate::group::{Group, GroupSpecs};

@@ -110,11 +110,11 @@ fn name_of(name: &str) -> Option<Name> {
         "npm_lock_version_one::convert" => Name::Convert,
         "npm_manifests::mismatches_of" => Name::Mismatches,
         "npm_manifests::put_manifest" => Name::Put,
-        "npm_lock::linked_folders" => Name::Folders,
+        "npm_packages::linked_folders" => Name::Folders,
         "npm_lock::workspace_patterns" => Name::Patterns,
         "npm_lock::workspace_problem" => Name::Workspace,
         "Dependents::of_lock" => Name::Dependents,
-        "npm_lock::edges_of" => Name::Edges,
+        "npm_packages::edges_of" => Name::Edges,
         "npm_advisories::audit_lock" => Name::Audit,
         "npm_pick::pick" => Name::Pick,
         "npm_pick::keep" => Name::Keep,
@@ -215,7 +215,7 @@ fn with_manifest(
 }
 
 fn folders(alloc: Global, lock: &Value) -> Answer {
-    match npm_lock::linked_folders(alloc, lock) {
+    match npm_packages::linked_folders(alloc, lock) {
         Ok(folders) => {
             if folders.is_empty() {
                 return Answer::Nothing;
@@ -256,7 +256,7 @@ fn dependents(alloc: Global, lock: &Value, folder: &str) -> Answer {
 }
 
 fn edges(alloc: Global, lock: &Value) -> Answer {
-    match npm_lock::edges_of(alloc, lock) {
+    match npm_packages::edges_of(alloc, lock) {
         Ok(edges) => answer::list(text_of_edges(alloc, &edges)),
         Err(error) => answer::refused(error),
     }

@@ -5,8 +5,8 @@ use Rattle.std.proofs.Common.{codes, drop, get_or, inl, inr, length, map, refl, 
 use Rattle.std.proofs.lemmas.List.{drop_all, drop_more, map-append}
 use Rattle.std.specs.List.{AllZip, fold, list_any}
 use Rattle.std.specs.Prelude.{count_by, cond, ◌≤◌}
-use Rattle.npm_lock.specs.Edges.{EdgeValue, edge_value}
-use Rattle.npm_lock.specs.declared.edges.Edge.{Edge}
+use Rattle.npm_packages.specs.Edges.{EdgeValue, edge_value}
+use Rattle.npm_packages.specs.declared.edges.Edge.{Edge}
 use Rattle.npm_pick.specs.Pick.{IsAnswer, IsPicked, PickedValue}
 use Rattle.npm_pick.specs.declared.error.PickError.{PickError}
 use Rattle.npm_pick.specs.declared.error.PickError.TheVariants as Errors
@@ -25,6 +25,7 @@ use Rattle.npm_pick_command.specs.Reply as Replies
 use Rattle.npm_pick_command.specs.Reply.{IsPickedReply}
 use Rattle.npm_pick_command.specs.declared.arguments.Format.{Format}
 use Rattle.npm_pick_command.specs.declared.outdated.Outcome.{Outcome}
+use Rattle.npm_pick_command.specs.declared.reply.Ending.{Ending}
 use Rattle.npm_pick_command.specs.declared.reply.Ending.TheVariants.{Compared, Nothing, Picked}
 use Rattle.npm_pick_command.specs.declared.run_error.RunError.{RunError}
 use Rattle.npm_pick_command.specs.declared.run_error.RunError.TheVariants.{Memory}
@@ -160,15 +161,17 @@ is_unpicked Holds error other (inr holds) = holds
 
 module _ (packument : Data) (options : Options) (wanted : List ℕ) (format : Format) where
   -- the line of the version that is picked
-  pub picked_reply : (version : PickedValue) (lines : List ℕ)
+  pub picked_reply : (version : PickedValue) (lines notes : List ℕ) (ending : Ending)
       → IsAnswer (IsPicked packument options (filled wanted)) (Ok version) → lines ≡ picked_line format version
-      → IsPickedReply packument options wanted format (record { lines = lines; ending = Picked })
-  picked_reply version lines answer same =
-      rw same (Replies.picked version (is_picked (IsPicked packument options (filled wanted)) version answer))
+      → notes ≡ [] → ending ≡ Picked
+      → IsPickedReply packument options wanted format (record { lines = lines; notes = notes; ending = ending })
+  picked_reply version lines notes ending answer same none is =
+      rw (same, none, is) (Replies.picked version (is_picked (IsPicked packument options (filled wanted)) version answer))
 
   -- nothing, and the reason
-  pub nothing_reply : (error : PickError) (lines : List ℕ) → error ≢ Errors.Memory
-      → IsAnswer (IsPicked packument options (filled wanted)) (Err error) → lines ≡ []
-      → IsPickedReply packument options wanted format (record { lines = lines; ending = Nothing error })
-  nothing_reply error lines other answer same =
-      rw same (Replies.nothing error (is_unpicked (IsPicked packument options (filled wanted)) error other answer))
+  pub nothing_reply : (error : PickError) (lines notes : List ℕ) (ending : Ending) → error ≢ Errors.Memory
+      → IsAnswer (IsPicked packument options (filled wanted)) (Err error) → lines ≡ [] → notes ≡ []
+      → ending ≡ Nothing error
+      → IsPickedReply packument options wanted format (record { lines = lines; notes = notes; ending = ending })
+  nothing_reply error lines notes ending other answer same none is =
+      rw (same, none, is) (Replies.nothing error (is_unpicked (IsPicked packument options (filled wanted)) error other answer))

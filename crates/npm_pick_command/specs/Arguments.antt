@@ -1,5 +1,5 @@
 -- What the arguments of the program ask for.
-use Rattle.std.specs.Prelude.{◌==◌, ℕ, List, [], ◌∷◌, Bool, true, false, if◌then◌else◌, length, nat_eq}
+use Rattle.std.specs.Prelude.{◌==◌, ℕ, List, [], ◌∷◌, ◌++◌, Bool, true, false, if◌then◌else◌, length, nat_eq}
 use Rattle.std.specs.Prelude.{nat_lt}
 use Rattle.std.specs.Prelude.{Option, Some, None, is_some, option_map, Result, Ok, Err, codes}
 use Rattle.std.specs.List.{after_first, before_first, position_or_len, starts_with}
@@ -82,9 +82,13 @@ pub data ArgumentErrorValue : Type 0 where
   no_value : (word : List ℕ) → ArgumentErrorValue
   no_format : (text : List ℕ) → ArgumentErrorValue
   no_packument : ArgumentErrorValue
-  no_packuments : ArgumentErrorValue
+  -- with the option that asks for it
+  no_packuments : (option : List ℕ) → ArgumentErrorValue
   no_lock : ArgumentErrorValue
-  no_spec : (word : List ℕ) → ArgumentErrorValue
+  no_manifest : ArgumentErrorValue
+  two_tasks : ArgumentErrorValue
+  -- with the option that takes none
+  no_spec : (option word : List ℕ) → ArgumentErrorValue
   -- that a text is no time and no version is said by `Given`, and not here
   no_time : (text : List ℕ) → ArgumentErrorValue
   no_node_version : (text : List ℕ) → ArgumentErrorValue
@@ -100,7 +104,9 @@ pub record ArgumentsValue : Type 0 where
   pub packument : Option (List ℕ)
   pub packuments : Option (List ℕ)
   pub lock : Option (List ℕ)
+  pub manifest : Option (List ℕ)
   pub outdated : Bool
+  pub keep : Bool
   pub all : Bool
   pub tag : Option (List ℕ)
   pub before : Option (List ℕ)
@@ -119,7 +125,9 @@ nothing_asked = record {
   packument = None;
   packuments = None;
   lock = None;
+  manifest = None;
   outdated = false;
+  keep = false;
   all = false;
   tag = None;
   before = None;
@@ -151,6 +159,7 @@ abbrev pub with_text : ArgumentsValue → Setting → (text : List ℕ) → Argu
 with_text asked Settings.Packument text = record asked { packument = Some text }
 with_text asked Settings.Packuments text = record asked { packuments = Some text }
 with_text asked Settings.Lock text = record asked { lock = Some text }
+with_text asked Settings.Manifest text = record asked { manifest = Some text }
 with_text asked Settings.Tag text = record asked { tag = Some text }
 with_text asked Settings.Before text = record asked { before = Some text }
 with_text asked Settings.Avoid text = record asked { avoid = Some text }
@@ -164,6 +173,7 @@ with_value asked Settings.Format text = with_format asked text
 with_value asked Settings.Packument text = Ok (with_text asked Settings.Packument text)
 with_value asked Settings.Packuments text = Ok (with_text asked Settings.Packuments text)
 with_value asked Settings.Lock text = Ok (with_text asked Settings.Lock text)
+with_value asked Settings.Manifest text = Ok (with_text asked Settings.Manifest text)
 with_value asked Settings.Tag text = Ok (with_text asked Settings.Tag text)
 with_value asked Settings.Before text = Ok (with_text asked Settings.Before text)
 with_value asked Settings.Avoid text = Ok (with_text asked Settings.Avoid text)
@@ -176,6 +186,7 @@ with_flag asked (Flags.Show shown) = record asked { shown = Some shown }
 with_flag asked Flags.AvoidStrict = record asked { avoid_strict = true }
 with_flag asked Flags.IncludeStaged = record asked { include_staged = true }
 with_flag asked Flags.Outdated = record asked { outdated = true }
+with_flag asked Flags.Keep = record asked { keep = true }
 with_flag asked Flags.All = record asked { all = true }
 
 -- with one more word that is no option, which is the version, the tag or the range
@@ -208,6 +219,25 @@ abbrev pub read_arguments : (words : List (List ℕ)) → Result ArgumentsValue 
 read_arguments words = if nat_lt MAX_WORDS (length words) then Err too_many
     else asked_by (Ok nothing_asked) (arguments_of words)
 
+-- ---- the manifests
+
+-- the file of a manifest that an argument names, if it is `--manifest FILE`
+abbrev pub manifest_named : Option Name → (value : Option (List ℕ)) → List (List ℕ)
+manifest_named (Some (Kinds.Valued Settings.Manifest)) (Some text) = text ∷ []
+manifest_named name value = []
+
+abbrev pub manifest_in : ArgumentValue → List (List ℕ)
+manifest_in argument = manifest_named (name_of argument.word) argument.value
+
+-- the files of all manifests that the arguments name
+abbrev pub manifest_files : List ArgumentValue → List (List ℕ)
+manifest_files [] = []
+manifest_files (argument ∷ rest) = manifest_in argument ++ manifest_files rest
+
+-- the files of all manifests that the words after the program's name name
+abbrev pub manifests_of : (words : List (List ℕ)) → List (List ℕ)
+manifests_of words = manifest_files (arguments_of words)
+
 -- ---- what contracts see
 
 abbrev pub text_value : Option (Bor (List ℕ)) → Option (List ℕ)
@@ -223,7 +253,9 @@ arguments_value asked = record {
   packument = option_map (λ text. text.now) asked.packument;
   packuments = option_map (λ text. text.now) asked.packuments;
   lock = option_map (λ text. text.now) asked.lock;
+  manifest = option_map (λ text. text.now) asked.manifest;
   outdated = asked.outdated;
+  keep = asked.keep;
   all = asked.all;
   tag = option_map (λ text. text.now) asked.tag;
   before = option_map (λ text. text.now) asked.before;
@@ -246,9 +278,11 @@ argument_error_value (Errors.SecondSpec quoted) = second_spec quoted.text.now
 argument_error_value (Errors.NoValue quoted) = no_value quoted.text.now
 argument_error_value (Errors.Format quoted) = no_format quoted.text.now
 argument_error_value Errors.NoPackument = no_packument
-argument_error_value Errors.NoPackuments = no_packuments
+argument_error_value (Errors.NoPackuments option) = no_packuments option.now
 argument_error_value Errors.NoLock = no_lock
-argument_error_value (Errors.NoSpec quoted) = no_spec quoted.text.now
+argument_error_value Errors.NoManifest = no_manifest
+argument_error_value Errors.TwoTasks = two_tasks
+argument_error_value (Errors.NoSpec option quoted) = no_spec option.now quoted.text.now
 argument_error_value (Errors.Time quoted) = no_time quoted.text.now
 argument_error_value (Errors.NodeVersion quoted) = no_node_version quoted.text.now
 argument_error_value (Errors.NpmVersion quoted) = no_npm_version quoted.text.now

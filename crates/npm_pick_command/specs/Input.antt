@@ -6,7 +6,7 @@ use Rattle.serde_json.specs.Data.{Data}
 use Rattle.serde_json.specs.Read.{read}
 use Rattle.npm_pick_command.specs.declared.input_error.InputError.{InputError}
 use Rattle.npm_pick_command.specs.declared.input_error.InputError.TheVariants.{ByteOrderMark, Memory, NoFile, NoJson}
-use Rattle.npm_pick_command.specs.declared.input_error.InputError.TheVariants.{NoUtf8, Open, Read}
+use Rattle.npm_pick_command.specs.declared.input_error.InputError.TheVariants.{NoManifest, NoUtf8, Open, Read}
 
 -- the JSON text of this value, in UTF-8
 abbrev pub IsTextOf : (bytes : List ℕ) → (value : Data) → Type 0
@@ -40,3 +40,4 @@ IsUnread remaining old new Read = Unit {0}
 IsUnread remaining old new Memory = Unit {0}
 IsUnread remaining old new NoFile = ⊥
 IsUnread remaining old new Open = ⊥
+IsUnread remaining old new (NoManifest fault) = ⊥

@@ -17,6 +17,7 @@ flag_of word = if bytes_eq word (codes "--help") || bytes_eq word (codes "-h") t
     else if bytes_eq word (codes "--avoid-strict") then Some Flags.AvoidStrict
     else if bytes_eq word (codes "--include-staged") then Some Flags.IncludeStaged
     else if bytes_eq word (codes "--outdated") then Some Flags.Outdated
+    else if bytes_eq word (codes "--keep") then Some Flags.Keep
     else if bytes_eq word (codes "--all") then Some Flags.All
     else None
 
@@ -34,6 +35,7 @@ abbrev pub setting_of : (word : List ℕ) → Option Setting
 setting_of word = if bytes_eq word (codes "--packument") then Some Settings.Packument
     else if bytes_eq word (codes "--packuments") then Some Settings.Packuments
     else if bytes_eq word (codes "--lock") then Some Settings.Lock
+    else if bytes_eq word (codes "--manifest") then Some Settings.Manifest
     else if bytes_eq word (codes "--format") then Some Settings.Format
     else picking_of word
 

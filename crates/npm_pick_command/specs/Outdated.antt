@@ -4,7 +4,7 @@ use Rattle.std.specs.Prelude.{Ok, Err, bytes_eq, codes, is_none, length, not, st
 use Rattle.serde_json.specs.Data.{Data}
 use Rattle.serde_json.specs.View.{view}
 use Rattle.serde_json.specs.declared.value.Value.{Value}
-use Rattle.npm_lock.specs.Edges.{EdgeValue, edge_value}
+use Rattle.npm_packages.specs.Edges.{EdgeValue, edge_value}
 use Rattle.npm_texts.specs.RangeText.{filled}
 use Rattle.npm_texts.specs.RegistrySpec.{RegistrySpecValue, registry_spec}
 use Rattle.npm_pick.specs.Pick.{IsPicked, PickedValue}

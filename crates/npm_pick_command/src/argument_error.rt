@@ -24,14 +24,20 @@ pub enum ArgumentError<'a> {
     #[error("--packument FILE is missing; --help lists the options")]
     NoPackument,
     /// No folder of packuments is named.
-    #[error("--packuments FOLDER is missing, which --outdated takes; --help lists the options")]
-    NoPackuments,
+    #[error("--packuments FOLDER is missing, which {0} takes; --help lists the options")]
+    NoPackuments(&'static str),
     /// No lock file is named.
     #[error("--lock FILE is missing, which --outdated takes; --help lists the options")]
     NoLock,
+    /// Neither a manifest nor a lock file is named.
+    #[error("--manifest FILE or --lock FILE is missing, which --keep takes; --help lists the options")]
+    NoManifest,
+    /// `--outdated` and `--keep`.
+    #[error("--outdated and --keep are not done at once; --help shows what is read")]
+    TwoTasks,
     /// A version, a tag or a range where none is asked for.
-    #[error("--outdated takes no SPEC, and not {0}; --help shows what is read")]
-    NoSpec(Quoted<'a>),
+    #[error("{0} takes no SPEC, and not {1}; --help shows what is read")]
+    NoSpec(&'static str, Quoted<'a>),
     /// The value of `--before` is no time.
     #[error("--before takes a time, as 2024-03-01 or 2024-03-01T12:00:00Z, and not {0}; --help lists the options")]
     Time(Quoted<'a>),

@@ -26,7 +26,10 @@ pub struct Arguments<'a> {
     pub packuments: Option<&'a str>,
     /// A lock file.
     pub lock: Option<&'a str>,
+    /// A manifest. `manifests_of` lists all of them.
+    pub manifest: Option<&'a str>,
     pub outdated: bool,
+    pub keep: bool,
     /// All packages of the lock file count, and not only the root.
     pub all: bool,
     pub tag: Option<&'a str>,
@@ -41,9 +44,9 @@ pub struct Arguments<'a> {
 
 /// One argument: a word, and its value if it has one.
 #[derive(Clone, Copy, Drop)]
-struct Argument<'a> {
-    word: &'a str,
-    value: Option<&'a str>,
+pub struct Argument<'a> {
+    pub word: &'a str,
+    pub value: Option<&'a str>,
 }
 
 /// The greatest number of words that are read: each takes room on the stack.
@@ -83,7 +86,9 @@ fn nothing_asked<'a>() -> Arguments<'a>
         packument: None,
         packuments: None,
         lock: None,
+        manifest: None,
         outdated: false,
+        keep: false,
         all: false,
         tag: None,
         before: None,
@@ -97,7 +102,7 @@ fn nothing_asked<'a>() -> Arguments<'a>
 }
 
 /// The first argument of the words, and the words after it.
-fn first_argument<'a>(words: &'a [String]) -> Option<(Argument<'a>, &'a [String])>
+pub fn first_argument<'a>(words: &'a [String]) -> Option<(Argument<'a>, &'a [String])>
     ensures { MatchOption result (words.now ≡ []) (λ first. (length first.1.now < length words.now)
         × (arguments_of (map string_bytes words.now)
         ≡ argument_value first.0 ∷ arguments_of (map string_bytes first.1.now))) }
@@ -182,6 +187,10 @@ fn with_flag<'a>(asked: Arguments<'a>, flag: Flag) -> Arguments<'a>
             outdated: true,
             ..asked
         },
+        Flag::Keep => Arguments {
+            keep: true,
+            ..asked
+        },
         Flag::All => Arguments { all: true, ..asked },
     }
 }
@@ -216,6 +225,10 @@ fn with_text<'a>(asked: Arguments<'a>, setting: Setting, text: &'a str) -> Argum
         },
         Setting::Lock => Arguments {
             lock: text,
+            ..asked
+        },
+        Setting::Manifest => Arguments {
+            manifest: text,
             ..asked
         },
         Setting::Tag => Arguments { tag: text, ..asked },

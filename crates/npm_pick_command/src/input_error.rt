@@ -2,6 +2,7 @@
 ghost use Rattle.std.specs.Prelude.{◌≡◌, ◌⊎◌, ℕ};
 ghost use Rattle.serde_json.specs.Errors.{IsMemory};
 
+use npm_packages::Fault;
 use std::io;
 use std::io::ErrorKind;
 use thiserror::Error;
@@ -30,6 +31,9 @@ pub enum InputError {
     /// What was read is no JSON text, or nests too deep. The fault is in this line and column, which count from 1.
     #[error("the input is no JSON: line {0}, column {1}")]
     NoJson(usize, usize),
+    /// The JSON value is no manifest.
+    #[error("{0}")]
+    NoManifest(Fault),
 }
 
 /// Why a read failed: `Memory` if the buffer could not grow.

@@ -1,8 +1,10 @@
 //! Writes the version of a package that npm would install, from the document of a registry: npm's `npm-pick-manifest`. With
-//! `--outdated` the dependencies of a lock file that are outdated: npm's `npm outdated`.
+//! `--outdated` the dependencies of a lock file that are outdated: npm's `npm outdated`. With `--keep` the versions that a mirror
+//! keeps.
 //!
-//! The exit status is 0 if a version is picked or nothing is outdated, 1 if none is picked or something is outdated, and 2 if
-//! nothing was asked: a wrong argument, or a file that is not read. What is not picked or not asked has a line on standard error.
+//! The exit status is 0 if a version is picked, nothing is outdated or each package has a document, 1 if none is picked, something
+//! is outdated or a package that a mirror keeps has no document, and 2 if nothing was asked: a wrong argument, or a file that is not
+//! read. What is not picked or not asked has a line on standard error.
 #![tactic(auto)]
 
 ghost use Rattle.std.specs.Prelude.{◌≡◌, IfErr, None, Ok, Some, false, true};
@@ -11,13 +13,20 @@ ghost use Rattle.npm_pick_command.specs.declared.reply.Ending.{Ending};
 
 mod argument_error;
 mod arguments;
+mod asks;
 mod given;
 mod help;
+mod in_order;
 mod input;
 mod input_error;
 mod load_error;
+mod manifest;
+mod manifest_files;
 mod members;
+mod mirror;
+mod mirror_lines;
 mod name;
+mod notes;
 mod outdated;
 mod outdated_lines;
 mod packument_file;
@@ -25,6 +34,7 @@ mod picked_line;
 mod picking;
 mod program_error;
 mod reply;
+mod requests;
 mod run_error;
 mod shown;
 mod task;
@@ -34,16 +44,21 @@ use arguments::{Arguments, read_arguments};
 use help::{HELP, VERSION};
 use input::read_json;
 use input_error::{InputError, open_error};
+use manifest::checked_manifest;
+use manifest_files::manifests_of;
 use name::Shown;
 use npm_pick::Options;
 use packument_file::packument_in;
 use picking::Values;
 use program_error::ProgramError;
-use reply::{Ending, Question, run};
+use reply::{Done, Ending, Question, run};
 use run_error::RunError;
 use serde_json::Value;
 use shown::Quoted;
+use std::alloc::AllocError;
 use std::fs::File;
+use std::io;
+use std::io::Write;
 use std::process::ExitCode;
 use task::{Task, task_of};
 use words::words_of;
@@ -55,19 +70,37 @@ fn main(rt: HostRuntime) -> ExitCode {
         Ok(words) => answered(&rt, words),
         Err(error) => Err(ProgramError::Words(error)),
     };
-    let said = match &outcome {
-        Ok(None | Some(Ending::Picked | Ending::Compared(_, 0))) => Ok(()),
-        Ok(Some(Ending::Compared(_, absent))) => {
-            eprintln!(rt; "npm_pick: {absent} dependencies have no document in the folder")
+    let (outcome, said) = match outcome {
+        Ok(None) => (Ok(None), Ok(())),
+        Ok(Some(done)) => {
+            let said = say(&rt, &done);
+            (Ok(Some(done.ending)), said)
         }
-        Ok(Some(Ending::Nothing(error))) => eprintln!(rt; "npm_pick: {error}"),
-        Err(error) => eprintln!(rt; "npm_pick: {error}"),
+        Err(error) => {
+            let said = eprintln!(rt; "npm_pick: {error}");
+            (Err(error), said)
+        }
     };
     ExitCode::from(status_of(&outcome, said.is_ok()))
 }
 
+/// Writes the lines for standard error.
+fn say(rt: &HostRuntime, done: &Done) -> io::Result<()> {
+    match done.ending {
+        Ending::Picked | Ending::Compared(_, 0) => Ok(()),
+        Ending::Compared(_, 1) => {
+            eprintln!(rt; "npm_pick: 1 dependency has no document in the folder")
+        }
+        Ending::Compared(_, absent) => {
+            eprintln!(rt; "npm_pick: {absent} dependencies have no document in the folder")
+        }
+        Ending::Nothing(error) => eprintln!(rt; "npm_pick: {error}"),
+        Ending::Kept(_) => rt.stderr().write_all(done.notes.as_slice()),
+    }
+}
+
 /// Does what the arguments ask for. Returns how the program ends, or `None` if a text was shown in place of an answer.
-fn answered<'a>(rt: &HostRuntime, words: &'a [String]) -> Result<Option<Ending>, ProgramError<'a>> {
+fn answered<'a>(rt: &HostRuntime, words: &'a [String]) -> Result<Option<Done>, ProgramError<'a>> {
     let asked = read_arguments(words)?;
     if let Some(shown) = asked.shown {
         show(rt, shown)?;
@@ -75,8 +108,8 @@ fn answered<'a>(rt: &HostRuntime, words: &'a [String]) -> Result<Option<Ending>,
     }
     let task = task_of(&asked)?;
     let values = Values::of_arguments(rt.alloc(), asked)?;
-    let ending = done(rt, task, asked, &values.options(asked))?;
-    Ok(Some(ending))
+    let done = done(rt, words, task, asked, &values.options(asked))?;
+    Ok(Some(done))
 }
 
 /// Writes a text about the program.
@@ -91,10 +124,11 @@ fn show(rt: &HostRuntime, shown: Shown) -> Result<(), RunError> {
 /// Reads the files of a task, and answers it.
 fn done<'a>(
     rt: &HostRuntime,
+    words: &'a [String],
     task: Task<'a>,
     asked: Arguments<'a>,
     options: &Options<'_>,
-) -> Result<Ending, ProgramError<'a>> {
+) -> Result<Done, ProgramError<'a>> {
     match task {
         Task::Pick { packument, wanted } => {
             let value = value_at(rt, "--packument", packument)?;
@@ -110,6 +144,15 @@ fn done<'a>(
                 packuments,
             )
         }
+        Task::Keep { packuments, lock } => {
+            let manifests = manifests_at(rt, words)?;
+            let lock = match lock {
+                Some(lock) => Some(value_at(rt, "--lock", lock)?),
+                None => None,
+            };
+            let question = Question::Keep(&manifests, lock.as_ref(), asked.all);
+            replied(rt, question, asked, options, packuments)
+        }
     }
 }
 
@@ -120,9 +163,9 @@ fn replied<'a>(
     asked: Arguments<'a>,
     options: &Options<'_>,
     folder: &str,
-) -> Result<Ending, ProgramError<'a>> {
+) -> Result<Done, ProgramError<'a>> {
     let load = |name: &str| packument_in(rt, folder, name);
-    let ending = run(
+    let done = run(
         rt.alloc(),
         question,
         options,
@@ -130,7 +173,26 @@ fn replied<'a>(
         load,
         &mut rt.stdout(),
     )?;
-    Ok(ending)
+    Ok(done)
+}
+
+/// Reads the manifests that the words name.
+fn manifests_at<'a>(rt: &HostRuntime, words: &'a [String]) -> Result<Vec<Value>, ProgramError<'a>> {
+    let mut manifests = Vec::new(rt.alloc());
+    for path in manifests_of(rt.alloc(), words)? {
+        let manifest = manifest_at(rt, path)?;
+        manifests.push(manifest).map_err(|_| AllocError)?;
+    }
+    Ok(manifests)
+}
+
+/// Reads a manifest.
+fn manifest_at<'a>(rt: &HostRuntime, path: &'a str) -> Result<Value, ProgramError<'a>> {
+    let value = value_at(rt, "--manifest", path)?;
+    match checked_manifest(value) {
+        Ok(manifest) => Ok(manifest),
+        Err(error) => Err(ProgramError::File("--manifest", Quoted { text: path }, error)),
+    }
 }
 
 /// Reads the JSON value of the file after an option; `-` is standard input.
@@ -154,8 +216,9 @@ fn read_at(rt: &HostRuntime, path: &str) -> Result<Value, InputError> {
     read_json(rt.alloc(), &mut file)
 }
 
-/// Returns the exit status: 0 if a version is picked, nothing is outdated or a text was shown, 1 if no version is picked or
-/// something is outdated, and 2 after an error, or if the line on standard error was not written.
+/// Returns the exit status: 0 if a version is picked, nothing is outdated, each package that a mirror keeps has a document or a text
+/// was shown; 1 if no version is picked, something is outdated or such a package has no document; and 2 after an error, or if the
+/// lines on standard error were not written.
 fn status_of(outcome: &Result<Option<Ending>, ProgramError<'_>>, is_said: bool) -> u8
     ensures shown { outcome.now ≡ Ok None → is_said ≡ true → result ≡ 0 }
     ensures ended { (ending : Ending) → outcome.now ≡ Ok (Some ending) → is_said ≡ true
@@ -166,7 +229,7 @@ fn status_of(outcome: &Result<Option<Ending>, ProgramError<'_>>, is_said: bool) 
     match outcome {
         Err(_) => 2,
         Ok(_) if !is_said => 2,
-        Ok(Some(Ending::Nothing(_) | Ending::Compared(true, _))) => 1,
-        Ok(None | Some(Ending::Picked | Ending::Compared(false, _))) => 0,
+        Ok(Some(Ending::Nothing(_) | Ending::Compared(true, _) | Ending::Kept(false))) => 1,
+        Ok(None | Some(Ending::Picked | Ending::Compared(false, _) | Ending::Kept(true))) => 0,
     }
 }

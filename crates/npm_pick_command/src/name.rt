@@ -16,6 +16,7 @@ pub enum Flag {
     AvoidStrict,
     IncludeStaged,
     Outdated,
+    Keep,
     All,
 }
 
@@ -25,6 +26,7 @@ pub enum Setting {
     Packument,
     Packuments,
     Lock,
+    Manifest,
     Tag,
     Before,
     Avoid,
@@ -64,6 +66,8 @@ fn flag_of(word: &str) -> Option<Flag>
         Some(Flag::IncludeStaged)
     } else if word == "--outdated" {
         Some(Flag::Outdated)
+    } else if word == "--keep" {
+        Some(Flag::Keep)
     } else if word == "--all" {
         Some(Flag::All)
     } else {
@@ -81,6 +85,8 @@ fn setting_of(word: &str) -> Option<Setting>
         Some(Setting::Packuments)
     } else if word == "--lock" {
         Some(Setting::Lock)
+    } else if word == "--manifest" {
+        Some(Setting::Manifest)
     } else if word == "--format" {
         Some(Setting::Format)
     } else {

@@ -3,14 +3,14 @@ ghost use Rattle.std.specs.Prelude.{◌≡◌, ◌↔◌, ◌⊎◌, ◌++◌, L
 ghost use Rattle.std.specs.Fn.{FnReturnsAt};
 ghost use Rattle.std.specs.List.{AllZip};
 ghost use Rattle.serde_json.specs.View.{view};
-ghost use Rattle.npm_lock.specs.Edges.{edge_value};
+ghost use Rattle.npm_packages.specs.Edges.{edge_value};
 ghost use Rattle.npm_pick_command.specs.Outdated as Rows;
 ghost use Rattle.npm_pick_command.specs.Outdated.{IsOutcome, IsOutcomeOf, IsPickedAs, outcome_value};
 ghost use Rattle.npm_pick_command.specs.Loading.{IsLoadFailure};
 
 use crate::load_error::LoadError;
 use crate::run_error::RunError;
-use npm_lock::Edge;
+use npm_packages::Edge;
 use npm_pick::{Options, PickError, pick};
 use npm_texts::registry_spec;
 use serde_json::Value;

@@ -1,20 +1,25 @@
 //! What is written for a question, and how the program ends.
-ghost use Rattle.std.specs.Prelude.{◌≡◌, List, ℕ, IfOk, count_by, map};
+ghost use Rattle.std.specs.Prelude.{◌≡◌, List, [], ℕ, IfOk, count_by, map, option_map};
 ghost use Rattle.std.specs.Fn.{FnReturnsAt};
 ghost use Rattle.std.specs.Io.KnownBytes.{Appends};
 ghost use Rattle.std.specs.List.{list_any};
 ghost use Rattle.serde_json.specs.View.{view};
 ghost use Rattle.npm_pick_command.specs.Outdated as Rows;
 ghost use Rattle.npm_pick_command.specs.Outdated.{outcome_value};
-ghost use Rattle.npm_pick_command.specs.Reply.{IsComparedReply, IsPickedReply, IsReply, reply_value};
+ghost use Rattle.npm_pick_command.specs.Reply.{IsComparedReply, IsKeptReply, IsPickedReply, IsReply, done_value, reply_value};
 
 use crate::arguments::Format;
+use crate::asks::asks_of;
 use crate::load_error::LoadError;
+use crate::mirror::mirror_of;
+use crate::mirror_lines::{mirror_lines, note_lines};
+use crate::notes::notes_of;
 use crate::outdated::{Outcome, outcomes_of};
 use crate::outdated_lines::outdated_lines;
 use crate::picked_line::picked_line;
+use crate::requests::requests_of;
 use crate::run_error::RunError;
-use npm_lock::{CheckError, edges_of};
+use npm_packages::{CheckError, edges_of};
 use npm_pick::{Options, PickError, pick};
 use serde_json::Value;
 use std::alloc::Global;
@@ -27,6 +32,8 @@ pub enum Question<'a> {
     Pick(&'a Value, &'a str),
     /// The dependencies of this lock file that are outdated: of the root, or of all packages.
     Outdated(&'a Value, bool),
+    /// What a mirror keeps for these manifests and a lock file: the versions that are picked, or all that are admitted.
+    Keep(&'a [Value], Option<&'a Value>, bool),
 }
 
 /// How the program ends.
@@ -38,17 +45,26 @@ pub enum Ending {
     Nothing(PickError),
     /// A lock file was compared: whether something is outdated, and how many dependencies have no document.
     Compared(bool, usize),
+    /// What a mirror keeps was listed: whether each package has a document.
+    Kept(bool),
 }
 
-/// What is written, and how the program ends.
+/// How the program ends, and the lines for standard error.
+#[derive(Drop)]
+pub struct Done {
+    pub ending: Ending,
+    pub notes: Vec<u8>,
+}
+
+/// What is written to standard output and to standard error, and how the program ends.
 #[derive(Drop)]
 struct Reply {
     lines: Vec<u8>,
-    ending: Ending,
+    done: Done,
 }
 
 /// Answers a question, and writes the lines of the answer. `load` returns the document of a package, if there is one. Returns how
-/// the program ends.
+/// the program ends, and the lines for standard error.
 ///
 /// # Errors
 ///
@@ -59,7 +75,7 @@ struct Reply {
 ///
 /// # Memory
 ///
-/// Allocates what `pick` allocates, and all lines. One document is in memory at a time.
+/// Allocates what `pick` or `keep` allocates, and all lines. One document is in memory at a time.
 ///
 /// # Examples
 ///
@@ -71,10 +87,10 @@ pub fn run<W: Write, F: Fn(&str) -> Result<Option<Value>, LoadError>>(
     format: Format,
     load: F,
     writer: &mut W,
-) -> Result<Ending, RunError>
+) -> Result<Done, RunError>
     requires { F.IsAlwaysCallable load }
-    ensures written { IfOk result (λ ending. (text : List ℕ)
-        × IsReply (FnReturnsAt F.Fn load) question.entry options.now format (record { lines = text; ending = ending })
+    ensures written { IfOk result (λ done. (text : List ℕ)
+        × IsReply (FnReturnsAt F.Fn load) question.entry options.now format (done_value text done)
         × Appends (W.contents writer.old) (W.contents writer.new) text) }
 {
     let reply = match reply_of(alloc, question, options, format, load) {
@@ -82,7 +98,7 @@ pub fn run<W: Write, F: Fn(&str) -> Result<Option<Value>, LoadError>>(
         Err(error) => return Err(error),
     };
     match writer.write_all(reply.lines.as_slice()) {
-        Ok(()) => Ok(reply.ending),
+        Ok(()) => Ok(reply.done),
         Err(_) => Err(RunError::Write),
     }
 }
@@ -102,6 +118,9 @@ fn reply_of<F: Fn(&str) -> Result<Option<Value>, LoadError>>(
     match question {
         Question::Pick(packument, wanted) => pick_reply(alloc, packument, wanted, options, format),
         Question::Outdated(lock, all) => outdated_reply(alloc, lock, all, options, format, load),
+        Question::Keep(manifests, lock, all) => {
+            kept_reply(alloc, manifests, lock, all, options, format, load)
+        }
     }
 }
 
@@ -119,13 +138,13 @@ fn pick_reply(
     match pick(alloc, packument, wanted, options) {
         Ok(picked) => Ok(Reply {
             lines: picked_line(alloc, picked, format)?,
-            ending: Ending::Picked,
+            done: ended(alloc, Ending::Picked),
         }),
         Err(error) => match error {
             PickError::Memory => Err(RunError::Memory),
             _ => Ok(Reply {
                 lines: Vec::new(alloc),
-                ending: Ending::Nothing(error),
+                done: ended(alloc, Ending::Nothing(error)),
             }),
         },
     }
@@ -155,7 +174,48 @@ fn outdated_reply<F: Fn(&str) -> Result<Option<Value>, LoadError>>(
     };
     Ok(Reply {
         lines: outdated_lines(alloc, &outcomes, format)?,
-        ending: Ending::Compared(has_outdated(&outcomes), absent_count(&outcomes)),
+        done: ended(
+            alloc,
+            Ending::Compared(has_outdated(&outcomes), absent_count(&outcomes)),
+        ),
+    })
+}
+
+/// An ending with no lines for standard error.
+fn ended(alloc: Global, ending: Ending) -> Done
+    ensures ending { result.ending ≡ ending }
+    ensures notes { result.notes.items ≡ [] }
+{
+    Done {
+        ending,
+        notes: Vec::new(alloc),
+    }
+}
+
+/// What is written for a mirror.
+fn kept_reply<F: Fn(&str) -> Result<Option<Value>, LoadError>>(
+    alloc: Global,
+    manifests: &[Value],
+    lock: Option<&Value>,
+    all: bool,
+    options: &Options<'_>,
+    format: Format,
+    load: F,
+) -> Result<Reply, RunError>
+    requires { F.IsAlwaysCallable load }
+    ensures { IfOk result (λ reply. IsKeptReply (FnReturnsAt F.Fn load) (map view manifests.now)
+        (option_map (λ lock. view lock.now) lock.entry) all options.now format (reply_value reply)) }
+{
+    let asks = asks_of(alloc, manifests, lock)?;
+    let requests = requests_of(alloc, &asks)?;
+    let mirror = mirror_of(alloc, &requests, all, options, load)?;
+    let notes = notes_of(alloc, &asks, &mirror.absent)?;
+    Ok(Reply {
+        lines: mirror_lines(alloc, &mirror.kept, format)?,
+        done: Done {
+            ending: Ending::Kept(mirror.absent.as_slice().is_empty()),
+            notes: note_lines(alloc, &notes)?,
+        },
     })
 }
 

@@ -3,7 +3,7 @@ ghost use Rattle.std.specs.Prelude.{◌≡◌};
 ghost use Rattle.npm_pick_command.specs.declared.run_error.RunError.TheVariants.{Memory};
 
 use crate::load_error::LoadError;
-use npm_lock::Fault;
+use npm_packages::Fault;
 use std::alloc::AllocError;
 use thiserror::Error;
 

@@ -2,7 +2,7 @@
 ghost use Rattle.std.specs.Prelude.{◌≡◌};
 ghost use Rattle.npm_pick_command.specs.Arguments.{arguments_value};
 ghost use Rattle.npm_pick_command.specs.Task as Tasks;
-ghost use Rattle.npm_pick_command.specs.Task.{task_result};
+ghost use Rattle.npm_pick_command.specs.Task.{folder_result, task_result};
 
 use crate::argument_error::ArgumentError;
 use crate::arguments::Arguments;
@@ -12,15 +12,29 @@ use crate::shown::Quoted;
 #[derive(Clone, Copy, Debug, PartialEq, Eq, Drop)]
 pub enum Task<'a> {
     /// Picks a version of the packument in a file.
-    Pick { packument: &'a str, wanted: &'a str },
+    Pick {
+        packument: &'a str,
+        wanted: &'a str,
+    },
     /// Compares a lock file with the packuments in a folder.
-    Outdated { packuments: &'a str, lock: &'a str },
+    Outdated {
+        packuments: &'a str,
+        lock: &'a str,
+    },
+    /// Lists what a mirror keeps of the packuments in a folder, for manifests and maybe a lock file.
+    Keep {
+        packuments: &'a str,
+        lock: Option<&'a str>,
+    },
 }
 
 /// Returns what the arguments ask for.
 pub fn task_of<'a>(asked: &Arguments<'a>) -> Result<Task<'a>, ArgumentError<'a>>
     ensures { task_result result ≡ Tasks.task_of (arguments_value asked.now) }
 {
+    if asked.keep {
+        return keep_task(asked);
+    }
     if asked.outdated {
         return outdated_task(asked);
     }
@@ -37,14 +51,39 @@ pub fn task_of<'a>(asked: &Arguments<'a>) -> Result<Task<'a>, ArgumentError<'a>>
 fn outdated_task<'a>(asked: &Arguments<'a>) -> Result<Task<'a>, ArgumentError<'a>>
     ensures { task_result result ≡ Tasks.outdated_task (arguments_value asked.now) }
 {
-    if let Some(text) = asked.spec {
-        return Err(ArgumentError::NoSpec(Quoted { text }));
-    }
-    let Some(packuments) = asked.packuments else {
-        return Err(ArgumentError::NoPackuments);
-    };
+    let packuments = folder_of(asked, "--outdated")?;
     match asked.lock {
         Some(lock) => Ok(Task::Outdated { packuments, lock }),
         None => Err(ArgumentError::NoLock),
+    }
+}
+
+/// What `--keep` asks for.
+fn keep_task<'a>(asked: &Arguments<'a>) -> Result<Task<'a>, ArgumentError<'a>>
+    ensures { task_result result ≡ Tasks.keep_task (arguments_value asked.now) }
+{
+    if asked.outdated {
+        return Err(ArgumentError::TwoTasks);
+    }
+    let packuments = folder_of(asked, "--keep")?;
+    if asked.manifest.is_none() && asked.lock.is_none() {
+        return Err(ArgumentError::NoManifest);
+    }
+    Ok(Task::Keep {
+        packuments,
+        lock: asked.lock,
+    })
+}
+
+/// The folder of packuments, for an option that takes one and no SPEC.
+fn folder_of<'a>(asked: &Arguments<'a>, option: &'static str) -> Result<&'a str, ArgumentError<'a>>
+    ensures { folder_result result ≡ Tasks.folder_of option.now (arguments_value asked.now) }
+{
+    if let Some(text) = asked.spec {
+        return Err(ArgumentError::NoSpec(option, Quoted { text }));
+    }
+    match asked.packuments {
+        Some(packuments) => Ok(packuments),
+        None => Err(ArgumentError::NoPackuments(option)),
     }
 }

@@ -10,7 +10,6 @@
 //! See docs/DECISIONS.md, "npm's reading is defined by functions over whole texts".
 #![tactic(auto)]
 
-mod ends;
 mod options;
 mod partial;
 mod piece;

@@ -2,24 +2,17 @@
 ghost use Rattle.std.specs.Prelude.{◌≡◌, ◌≤◌, [], IfOk, IfSome, None};
 ghost use Rattle.semver_texts.specs.Reading.{seen};
 ghost use Rattle.npm_sets.specs.PartialTexts as Texts;
-ghost use Rattle.npm_sets.specs.Private.ReadViews.{IsSound, partial_seen, read_partial_seen, result_seen, some_seen};
+ghost use Rattle.npm_sets.specs.Private.ReadViews.{read_partial_seen, result_seen, some_seen};
+ghost use Rattle.semver_sets.specs.WordEnds.{IsSound, partial_seen};
 
 use crate::words::after_marks;
+use semver_sets::partial::Partial;
 use semver_texts::parse::Fault;
 use semver_texts::parse::extras::skip_extras;
 use semver_texts::parse::identifiers::begins_identifier;
 use semver_texts::parse::number::{is_digit, read_number};
 use semver_texts::parse::skip::split;
 use semver_texts::{MAX_LENGTH, MAX_SAFE_INTEGER};
-
-// `1.2.x` of `v1.2.x-alpha`: its components, and the text that begins with its extras.
-#[derive(Clone, Copy)]
-pub(crate) struct Partial<'a> {
-    pub(crate) major: Option<u64>,
-    pub(crate) minor: Option<u64>,
-    pub(crate) patch: Option<u64>,
-    pub(crate) extras: &'a [u8],
-}
 
 // ---- strict form
 

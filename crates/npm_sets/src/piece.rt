@@ -1,22 +1,22 @@
 //! Reading one piece of a range text: nothing, a hyphen range, or words. Comparators are merged as they are read.
-ghost use Rattle.std.specs.Prelude.{◌≡◌, IfSome, None, OnOk};
+ghost use Rattle.std.specs.Prelude.{◌≡◌, IfSome, None};
 ghost use Rattle.semver_texts.specs.Characters.{BeginsWith, BeginsWithNo};
 ghost use Rattle.semver_texts.specs.Reading.{begins, is_hyphen};
 ghost use Rattle.npm_sets.specs.NpmMeaning as Meaning;
 ghost use Rattle.npm_sets.specs.WordTexts as Texts;
-ghost use Rattle.npm_sets.specs.Private.ReadViews.{AreSmallEnds, IsNarrowedTo, IsRead, IsWordRead};
-ghost use Rattle.npm_sets.specs.Private.ReadViews.{ends_seen, hyphen_seen, is_sign, sides_seen};
+ghost use Rattle.npm_sets.specs.Private.ReadViews.{AreSmallEnds, IsRead, IsWordRead};
+ghost use Rattle.npm_sets.specs.Private.ReadViews.{hyphen_seen, is_sign, sides_seen};
 
 use crate::NpmOptions;
-use crate::ends::WordEnds;
 use crate::partial::read_partial;
 use crate::rows::{hyphen_ends, lead_ends};
 use crate::words::{Lead, read_word, skip_space, split_chunk};
 use semver_cuts::Cut;
 use semver_sets::read::Unread;
 use semver_sets::read::alternative::CommonSpan;
+use semver_sets::word::ends::WordEnds;
 use semver_texts::parse::Fault;
-use std::alloc::{AllocError, Global};
+use std::alloc::Global;
 
 // Merges the comparators of a piece. Returns `true` if there are any.
 pub(crate) fn merge_piece(
@@ -35,21 +35,11 @@ pub(crate) fn merge_piece(
     }
     match read_hyphen(text, options) {
         Some(ends) => {
-            merge_ends(alloc, ends, common)?;
+            common.narrow(alloc, ends)?;
             Ok(true)
         }
         None => merge_words(alloc, text, options, common),
     }
-}
-
-// Merges one comparator.
-fn merge_ends(alloc: Global, ends: WordEnds, common: &mut CommonSpan) -> Result<(), AllocError>
-    ensures { OnOk result (IsNarrowedTo common.old (ends_seen ends.entry) common.new) }
-{
-    let lower = ends.lower.cut(alloc)?;
-    let upper = ends.upper.cut(alloc)?;
-    common.narrow_to(lower, upper);
-    Ok(())
 }
 
 // ---- hyphen ranges
@@ -153,11 +143,7 @@ fn merge_word(
 {
     match read_partial(options.loose, operand) {
         Ok(partial) => {
-            merge_ends(
-                alloc,
-                lead_ends(options.include_prerelease, lead, partial),
-                common,
-            )?;
+            common.narrow(alloc, lead_ends(options.include_prerelease, lead, partial))?;
             Ok(true)
         }
         Err(fault) => {

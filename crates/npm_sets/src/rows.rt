@@ -9,13 +9,13 @@ ghost use Rattle.semver_texts.specs.Version.{without_build};
 ghost use Rattle.semver_sets.specs.PartialText.{zeroed};
 ghost use Rattle.semver_texts.specs.Reading.{read_extras};
 ghost use Rattle.npm_sets.specs.Rows as Rows;
-ghost use Rattle.npm_sets.specs.Private.ReadViews.{AreSmall, AreSmallEnds, IsSmallCut, IsSmallVersion, IsSound};
-ghost use Rattle.npm_sets.specs.Private.ReadViews.{cut_seen, ends_seen, full_version, has_some};
-ghost use Rattle.npm_sets.specs.Private.ReadViews.{partial_seen, version_seen};
+ghost use Rattle.npm_sets.specs.Private.ReadViews.{AreSmall, AreSmallEnds, IsSmallCut, IsSmallVersion};
+ghost use Rattle.npm_sets.specs.Private.ReadViews.{full_version, has_some};
+ghost use Rattle.semver_sets.specs.WordEnds.{IsSound, cut_seen, ends_seen, partial_seen, version_seen};
 
-use crate::ends::{WordCut, WordEnds, WordVersion};
-use crate::partial::Partial;
 use crate::words::Lead;
+use semver_sets::partial::Partial;
+use semver_sets::word::ends::{WordCut, WordEnds, WordVersion};
 use semver_texts::MAX_SAFE_INTEGER;
 use semver_texts::identifier::borrowed::borrow_extras;
 
@@ -94,7 +94,7 @@ fn prerelease_or_first<'a>(
     ensures small { AreSmall major minor patch → IsSmallVersion result }
 {
     if has_prerelease(extras) {
-        WordVersion::Full(major, minor, patch, extras)
+        WordVersion::Bare(major, minor, patch, extras)
     } else {
         first_of(pre, major, minor, patch)
     }
@@ -110,7 +110,7 @@ fn right_full<'a>(pre: bool, major: u64, minor: u64, patch: u64, extras: &'a [u8
     if pre && !has_prerelease(extras) {
         WordCut::Before(WordVersion::Least(major, minor, patch + 1))
     } else {
-        WordCut::After(WordVersion::Full(major, minor, patch, extras))
+        WordCut::After(WordVersion::Bare(major, minor, patch, extras))
     }
 }
 
@@ -135,7 +135,7 @@ fn equal_ends(pre: bool, partial: Partial) -> WordEnds
             from_up_to(first_of(pre, major, minor, 0), major, minor + 1, 0)
         }
         (Some(major), Some(minor), Some(patch)) => {
-            let version = WordVersion::Full(major, minor, patch, partial.extras);
+            let version = WordVersion::Bare(major, minor, patch, partial.extras);
             WordEnds {
                 lower: WordCut::Before(version),
                 upper: WordCut::After(version),
@@ -156,7 +156,7 @@ fn at_least_ends(pre: bool, partial: Partial) -> WordEnds
         (Some(major), None, _) => at_least(first_of(pre, major, 0, 0)),
         (Some(major), Some(minor), None) => at_least(first_of(pre, major, minor, 0)),
         (Some(major), Some(minor), Some(patch)) => {
-            at_least(WordVersion::Full(major, minor, patch, partial.extras))
+            at_least(WordVersion::Bare(major, minor, patch, partial.extras))
         }
     }
 }
@@ -173,7 +173,7 @@ fn above_ends(pre: bool, partial: Partial) -> WordEnds
         (Some(major), None, _) => at_least(first_of(pre, major + 1, 0, 0)),
         (Some(major), Some(minor), None) => at_least(first_of(pre, major, minor + 1, 0)),
         (Some(major), Some(minor), Some(patch)) => WordEnds {
-            lower: WordCut::After(WordVersion::Full(major, minor, patch, partial.extras)),
+            lower: WordCut::After(WordVersion::Bare(major, minor, patch, partial.extras)),
             upper: WordCut::End,
         },
     }
@@ -192,7 +192,7 @@ fn below_ends(partial: Partial) -> WordEnds
         (Some(major), Some(minor), None) => below_least(major, minor),
         (Some(major), Some(minor), Some(patch)) => WordEnds {
             lower: WordCut::Start,
-            upper: WordCut::Before(WordVersion::Full(major, minor, patch, partial.extras)),
+            upper: WordCut::Before(WordVersion::Bare(major, minor, patch, partial.extras)),
         },
     }
 }
@@ -210,7 +210,7 @@ fn at_most_ends(partial: Partial) -> WordEnds
         (Some(major), Some(minor), None) => below_least(major, minor + 1),
         (Some(major), Some(minor), Some(patch)) => WordEnds {
             lower: WordCut::Start,
-            upper: WordCut::After(WordVersion::Full(major, minor, patch, partial.extras)),
+            upper: WordCut::After(WordVersion::Bare(major, minor, patch, partial.extras)),
         },
     }
 }
@@ -229,7 +229,7 @@ fn tilde_ends(partial: Partial) -> WordEnds
             from_up_to(WordVersion::Release(major, minor, 0), major, minor + 1, 0)
         }
         (Some(major), Some(minor), Some(patch)) => {
-            let version = WordVersion::Full(major, minor, patch, partial.extras);
+            let version = WordVersion::Bare(major, minor, patch, partial.extras);
             from_up_to(version, major, minor + 1, 0)
         }
     }
@@ -266,7 +266,7 @@ fn caret_ends(pre: bool, partial: Partial) -> WordEnds
             )
         }
         (Some(major), Some(minor), Some(patch)) => {
-            let version = WordVersion::Full(major, minor, patch, partial.extras);
+            let version = WordVersion::Bare(major, minor, patch, partial.extras);
             from_up_to(version, major + 1, 0, 0)
         }
     }

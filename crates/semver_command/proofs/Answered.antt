@@ -1,7 +1,7 @@
 -- What is written, from what is kept of the versions.
 use Rattle.std.proofs.Common.{◌≡◌, ◌≢◌, ◌↔◌, ◌⊎◌, List, [], ◌∷◌, ℕ, ◌++◌, Bool, true, false, Option, Some, None, Result, Ok}
 use Rattle.std.proofs.Common.{Err, IfOk, MatchOption, arith, ap, length, map, option_map, refl}
-use Rattle.std.proofs.KnownBytes.{Appends-trans, Consumes-nil}
+use Rattle.std.proofs.KnownBytes.{Appends-nil, Appends-trans, Consumes-nil}
 use Rattle.std.specs.Bool.{⊤}
 use Rattle.std.specs.Io.KnownBytes.{Appends}
 use Rattle.std.specs.Option.{option_copied}
@@ -10,12 +10,14 @@ use Rattle.npm_semver.specs.declared.bump.Bump.{Bump}
 use Rattle.node_semver.specs.Versions.{VersionValue}
 use Rattle.semver_command.specs.Answer.{ending_of, incremented, listed, no_version, not_alone, npm_options}
 use Rattle.semver_command.specs.Asked.{AskedValue, IsAsked}
+use Rattle.semver_command.specs.Explained.{IsExplanation}
 use Rattle.semver_command.specs.Increment.{IsIncremented, incremented_text}
 use Rattle.semver_command.specs.Lines.{listed_text}
 use Rattle.semver_command.specs.Listed.{AreListed, greatest, least, none}
+use Rattle.semver_command.specs.Private.Explaining.{Explains}
 use Rattle.semver_command.specs.Private.Gathering.{GathersTexts, HasGathered, HasVersions, IsAnswered, IsBest, IsKept, IsListed}
 use Rattle.semver_command.specs.Ranges.{IsAdmittedByAll}
-use Rattle.semver_command.specs.Reply.{IsReply, Replies, answered}
+use Rattle.semver_command.specs.Reply.{IsReply, Replies, answered, explained}
 use Rattle.semver_command.specs.declared.asked.Listing.{Listing}
 use Rattle.semver_command.specs.declared.asked.Listing.TheVariants as Listings
 use Rattle.semver_command.specs.declared.asked.Options.{Options}
@@ -179,21 +181,45 @@ pub some_mapped : {A B : Type 0} (f : A → B) (xs : List A) → xs ≢ [] → m
 some_mapped f [] some empty = some refl
 some_mapped f (one ∷ others) some empty = grind (arith, empty)
 
-pub help_ok : {E : Type 0} (words : List (List ℕ)) (r c d : Option (List ℕ)) (res : Result Ending E)
-    → IsReply words r [] HELP.now Endings.Written
-    → IfOk res (λ ending. (ending ≡ Endings.Written) × Appends c d HELP.now) → IfOk res (Replies words r r c d)
-help_ok words r c d (Err e) reply is = tt
-help_ok words r c d (Ok ending) reply is =
-    record { input = []; written = HELP.now; taken = Consumes-nil r; put = is.1; reply = rw is.0 reply }
+pub help_ok : {E : Type 0} (words : List (List ℕ)) (r c d e : Option (List ℕ)) (res : Result Ending E)
+    → IsReply words r [] HELP.now [] Endings.Written
+    → IfOk res (λ ending. (ending ≡ Endings.Written) × Appends c d HELP.now) → IfOk res (Replies words r r c d e e)
+help_ok words r c d e (Err x) reply is = tt
+help_ok words r c d e (Ok ending) reply is = record {
+  input = [];
+  written = HELP.now;
+  said = [];
+  taken = Consumes-nil r;
+  put = is.1;
+  told = Appends-nil e;
+  reply = rw is.0 reply;
+}
 
-pub answered_ok : {E : Type 0} (words : List (List ℕ)) (asked : AskedValue) (r s c d : Option (List ℕ))
+pub explained_ok : {E : Type 0} (words : List (List ℕ)) (asked : AskedValue) (r c d e f : Option (List ℕ))
     (res : Result Ending E) → words ≢ [] → IsAsked words asked → asked.options.help ≡ false
-    → IfOk res (IsAnswered asked r s c d) → IfOk res (Replies words r s c d)
-answered_ok words asked r s c d (Err e) some read shown is = tt
-answered_ok words asked r s c d (Ok ending) some read shown is = record {
+    → asked.options.explain ≡ true → IfOk res (Explains (IsExplanation asked) c d e f)
+    → IfOk res (Replies words r r c d e f)
+explained_ok words asked r c d e f (Err x) some read shown on is = tt
+explained_ok words asked r c d e f (Ok ending) some read shown on is = record {
+  input = [];
+  written = is.written;
+  said = is.said;
+  taken = Consumes-nil r;
+  put = is.put;
+  told = is.told;
+  reply = explained asked is.written is.said ending some read shown on is.such;
+}
+
+pub answered_ok : {E : Type 0} (words : List (List ℕ)) (asked : AskedValue) (r s c d e : Option (List ℕ))
+    (res : Result Ending E) → words ≢ [] → IsAsked words asked → asked.options.help ≡ false
+    → asked.options.explain ≡ false → IfOk res (IsAnswered asked r s c d) → IfOk res (Replies words r s c d e e)
+answered_ok words asked r s c d e (Err x) some read shown off is = tt
+answered_ok words asked r s c d e (Ok ending) some read shown off is = record {
   input = is.input;
   written = is.written;
+  said = [];
   taken = is.taken;
   put = is.put;
-  reply = answered asked is.input is.written ending is.texts some read shown is.placed is.answer;
+  told = Appends-nil e;
+  reply = answered asked is.input is.written ending is.texts some read shown off is.placed is.answer;
 }

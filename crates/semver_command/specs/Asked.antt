@@ -10,7 +10,7 @@ use Rattle.semver_command.specs.declared.asked.Listing.{Listing}
 use Rattle.semver_command.specs.declared.asked.Listing.TheVariants as Listings
 use Rattle.semver_command.specs.declared.asked.Options.{Options}
 use Rattle.semver_command.specs.declared.name.Flag.{Flag}
-use Rattle.semver_command.specs.declared.name.Flag.TheVariants.{Coerce, Greatest, Help, IncludePrerelease, Json, Least}
+use Rattle.semver_command.specs.declared.name.Flag.TheVariants.{Coerce, Explain, Greatest, Help, IncludePrerelease, Json, Least}
 use Rattle.semver_command.specs.declared.name.Flag.TheVariants.{Loose, Ltr, Reverse, Rtl, Unsorted}
 use Rattle.semver_command.specs.declared.name.Setting.{Setting}
 use Rattle.semver_command.specs.declared.name.Setting.TheVariants.{Base, Identifier, Range, Version}
@@ -36,6 +36,7 @@ no_options = record {
   include_prerelease = false;
   coerce = false;
   rtl = false;
+  explain = false;
 }
 
 -- what no argument asks for
@@ -66,6 +67,7 @@ with_flag options Unsorted = with_listing options Listings.Unsorted
 with_flag options Least = with_listing options Listings.Least
 with_flag options Greatest = with_listing options Listings.Greatest
 with_flag options Json = record options { json = true }
+with_flag options Explain = record options { explain = true }
 with_flag options Help = record options { help = true }
 
 -- `false` stands for no number, `1` for 1, and every other text for 0

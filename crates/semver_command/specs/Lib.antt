@@ -14,6 +14,12 @@ pub mod Listed  -- which versions are written, and in which order
 pub mod Lines  -- their text: a line each, or a JSON array
 pub mod Increment  -- the version after an increment
 pub mod Answer  -- all that is written, and how it ends
+-- What `--explain` writes.
+pub mod Opened  -- which prereleases satisfy a set
+pub mod Shown  -- a text in printable ASCII
+pub mod RefusedText  -- a text that is refused, with a mark at its fault
+pub mod Explained  -- the sets of ranges
+-- The program.
 pub mod Reply  -- the same for the words of the command line and for standard input
 pub mod Status  -- the exit status
 -- ---- not part of any public contract: what private functions compute

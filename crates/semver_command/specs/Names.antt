@@ -1,4 +1,4 @@
--- What a word of the command line is called: the help of npm's command `semver`, "Options", and four options more.
+-- What a word of the command line is called: the help of npm's command `semver`, "Options", and five options more.
 use Rattle.std.specs.Prelude.{ℕ, ◌||◌, List, if◌then◌else◌, Option, Some, None, codes}
 use Rattle.std.specs.Str.{bytes_eq}
 use Rattle.npm_semver.specs.declared.bump.Bump.{Bump}
@@ -15,6 +15,7 @@ listing_flag_of word = if bytes_eq word (codes "--unsorted") then Some Flags.Uns
     else if bytes_eq word (codes "--least") then Some Flags.Least
     else if bytes_eq word (codes "--greatest") then Some Flags.Greatest
     else if bytes_eq word (codes "--json") then Some Flags.Json
+    else if bytes_eq word (codes "--explain") then Some Flags.Explain
     else None
 
 -- the option without a value that the word names, of those that are not about reading

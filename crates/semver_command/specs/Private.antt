@@ -1,2 +1,4 @@
+pub mod Explaining
 pub mod Gathering
 pub mod Reading
+pub mod ShownBytes

@@ -22,7 +22,13 @@ use npm_semver::{Bump, NpmOptions};
 use std::alloc::Global;
 use std::io::{BufReader, Read, Write};
 
-/// Writes what the command line asks for.
+/// Writes what the command line asks for: the versions that are left, or the version after an increment.
+///
+/// # Errors
+///
+/// - `Identifier`: there is an increment of one version, and the text after `--preid` is no identifier.
+/// - `Read`, `Write`: reading from standard input or a write failed. What was written before stays written.
+/// - `Memory`: an allocation failed.
 pub fn answer<R: Read, W: Write>(
     alloc: Global,
     asked: &Asked<'_>,
@@ -38,8 +44,8 @@ pub fn answer<R: Read, W: Write>(
     }
 }
 
-/// How the ranges are read.
-fn npm_options(options: Options) -> NpmOptions
+/// Returns how the ranges are read.
+pub fn npm_options(options: Options) -> NpmOptions
     ensures { result ≡ npm_options options }
 {
     NpmOptions {

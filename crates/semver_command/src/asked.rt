@@ -39,6 +39,8 @@ pub struct Options {
     pub coerce: bool,
     /// It is looked for from the right.
     pub rtl: bool,
+    /// The sets of the ranges are written, and no version.
+    pub explain: bool,
 }
 
 impl Options {
@@ -69,6 +71,10 @@ impl Options {
             Flag::Least => self.with_listing(Listing::Least),
             Flag::Greatest => self.with_listing(Listing::Greatest),
             Flag::Json => Options { json: true, ..self },
+            Flag::Explain => Options {
+                explain: true,
+                ..self
+            },
             Flag::Help => Options { help: true, ..self },
         }
     }
@@ -110,6 +116,7 @@ impl<'a> Asked<'a> {
                 include_prerelease: false,
                 coerce: false,
                 rtl: false,
+                explain: false,
             },
             increment: None,
             identifier: None,

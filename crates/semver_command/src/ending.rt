@@ -9,4 +9,8 @@ pub enum Ending {
     Nothing,
     /// An increment with a range, or of more than one version.
     Misused,
+    /// A range that is to be explained is refused.
+    Refused,
+    /// There is nothing to explain: a version or an increment is given, or no range, or an option has no range after it.
+    Unexplained,
 }

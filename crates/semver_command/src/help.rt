@@ -43,10 +43,13 @@ Options:
                       Example: semver --greatest --range '^1.2' 1.4.2 1.10.0 2.0.0
   --json              Write a JSON array of strings on one line.
                       Example: semver --json 1.10.0 1.2.3
+  --explain           Write the sets of each RANGE, a line each, and which prereleases satisfy them. With no version.
+                      Example: semver --explain --range '^1.2.3-rc.4 || 2.x'
   -v, --version VERSION
                       A version, also if it looks like an option.
   -h, -?, --help      Write this text.
 
 The exit status is 0 if a version was written, 1 if none is valid and satisfies all ranges, and 2 if the program
-could not do what it was asked for, with a line on standard error.
+could not do what it was asked for, with a line on standard error. With --explain it is 1 if a RANGE is not valid;
+standard error then has a mark where it is wrong.
 ";

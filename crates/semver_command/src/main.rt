@@ -13,6 +13,7 @@ mod asked;
 mod chosen;
 mod command_error;
 mod ending;
+mod explained;
 mod gathered;
 mod help;
 mod increment;
@@ -20,8 +21,12 @@ mod input_line;
 mod kept;
 mod lines;
 mod name;
+mod opened;
 mod ranges;
+mod refused_text;
 mod reply;
+mod set_lines;
+mod shown;
 mod words;
 mod writing;
 mod written;
@@ -43,7 +48,10 @@ fn main(rt: HostRuntime) -> ExitCode {
         Ok(Ending::Misused) => {
             eprintln!(rt; "--inc can only be used on a single version with no range")
         }
-        Ok(Ending::Written | Ending::Nothing) => Ok(()),
+        Ok(Ending::Unexplained) => {
+            eprintln!(rt; "--explain can only be used on ranges, with no version")
+        }
+        Ok(Ending::Written | Ending::Nothing | Ending::Refused) => Ok(()),
         Err(error) => eprintln!(rt; "semver: {error}"),
     };
     ExitCode::from(status_of(&outcome, said.is_ok()))
@@ -55,13 +63,16 @@ fn replied(rt: &HostRuntime) -> Result<Ending, CommandError> {
     let reader = BufReader::with_capacity(rt.alloc(), ROOM, rt.stdin());
     let writer = BufWriter::with_capacity(rt.alloc(), ROOM, rt.stdout());
     match (reader, writer) {
-        (Ok(mut reader), Ok(mut writer)) => run(rt.alloc(), &words, &mut reader, &mut writer),
+        (Ok(mut reader), Ok(mut writer)) => {
+            let mut errors = rt.stderr();
+            run(rt.alloc(), &words, &mut reader, &mut writer, &mut errors)
+        },
         _ => Err(CommandError::Memory),
     }
 }
 
-/// Returns the exit status: 0 if a text was written, 1 if no version is left or an increment was misused, and 2 after an
-/// error, or if the line on standard error was not written.
+/// Returns the exit status: 0 if a text was written, 1 if no version is left, a range to be explained is refused, or an option
+/// was misused, and 2 after an error, or if the line on standard error was not written.
 fn status_of(outcome: &Result<Ending, CommandError>, is_said: bool) -> u8
     ensures ended { is_said ≡ true → IfOk outcome.now (λ ending. result ≡ status_of_ending ending) }
     ensures stopped { IfErr outcome.now (λ _. result ≡ 2) }
@@ -69,7 +80,7 @@ fn status_of(outcome: &Result<Ending, CommandError>, is_said: bool) -> u8
 {
     match outcome {
         Ok(Ending::Written) if is_said => 0,
-        Ok(Ending::Nothing | Ending::Misused) if is_said => 1,
+        Ok(_) if is_said => 1,
         _ => 2,
     }
 }

@@ -17,6 +17,7 @@ pub enum Flag {
     Least,
     Greatest,
     Json,
+    Explain,
     Help,
 }
 
@@ -94,7 +95,7 @@ fn other_flag_of(word: &str) -> Option<Flag>
     }
 }
 
-/// The same of those that npm's command lacks: which versions are written, and in which form.
+/// The same of those that npm's command lacks.
 fn listing_flag_of(word: &str) -> Option<Flag>
     ensures { result ≡ Names.listing_flag_of word.now }
 {
@@ -106,6 +107,8 @@ fn listing_flag_of(word: &str) -> Option<Flag>
         Some(Flag::Greatest)
     } else if word == "--json" {
         Some(Flag::Json)
+    } else if word == "--explain" {
+        Some(Flag::Explain)
     } else {
         None
     }

@@ -8,20 +8,21 @@ use crate::answer::{answer, is_nothing};
 use crate::asked::read_arguments;
 use crate::command_error::CommandError;
 use crate::ending::Ending;
+use crate::explained::explain;
 use crate::gathered::flush;
 use crate::help::HELP;
 use crate::writing::write_text;
 use std::alloc::Global;
 use std::io::{BufReader, Read, Write};
 
-/// Replies to the words after the program's name, and writes the versions.
+/// Replies to the words after the program's name: writes the versions, or with `--explain` the sets of the ranges.
 ///
-/// Standard input is read to its end if no word is a version, and if one is `-`. What was written before an error stays
-/// written.
+/// Standard input is read to its end if no word is a version, and if one is `-`; with `--explain` it is not read. What was
+/// written before an error stays written. `errors` is for ranges that are to be explained and are refused.
 ///
 /// # Errors
 ///
-/// - `Identifier`: the text after `--preid` is no identifier, and there is an increment.
+/// - `Identifier`: there is an increment of one version, and the text after `--preid` is no identifier.
 /// - `Read`: reading from standard input failed.
 /// - `Write`: a write failed. A beginning of the text may have been written.
 /// - `Memory`: an allocation failed.
@@ -38,33 +39,38 @@ use std::io::{BufReader, Read, Write};
 /// - `--unsorted -r ^1.2 1.10.0 -`, and these lines: `1.10.0`, `1.10.0` and `1.2.3`.
 /// - `-i minor 1.2.3`: the line `1.3.0`.
 /// - `-r ^1 2.0.0`: no line, and `Nothing`.
+/// - `--explain -r ^1.2.3-rc.4`: the line `>=1.2.3-rc.4 <2.0.0-0  prereleases of 1.2.3`.
 ///
 /// # Source
 ///
 /// npm's `semver` 7.6.2, `bin/semver.js`.
-pub fn run<R: Read, W: Write>(
+pub fn run<R: Read, W: Write, E: Write>(
     alloc: Global,
     words: &[String],
     reader: &mut BufReader<R>,
     writer: &mut W,
+    errors: &mut E,
 ) -> Result<Ending, CommandError>
     ensures { IfOk result (Replies (map string_bytes words.now) (reader_remaining R.remaining reader.old)
-        (reader_remaining R.remaining reader.new) (W.contents writer.old) (W.contents writer.new)) }
+        (reader_remaining R.remaining reader.new) (W.contents writer.old) (W.contents writer.new)
+        (E.contents errors.old) (E.contents errors.new)) }
 {
-    let ending = reply(alloc, words, reader, writer)?;
+    let ending = reply(alloc, words, reader, writer, errors)?;
     flush(writer)?;
     Ok(ending)
 }
 
 /// The same, with what may still be in the writer's buffer.
-fn reply<R: Read, W: Write>(
+fn reply<R: Read, W: Write, E: Write>(
     alloc: Global,
     words: &[String],
     reader: &mut BufReader<R>,
     writer: &mut W,
+    errors: &mut E,
 ) -> Result<Ending, CommandError>
     ensures { IfOk result (Replies (map string_bytes words.now) (reader_remaining R.remaining reader.old)
-        (reader_remaining R.remaining reader.new) (W.contents writer.old) (W.contents writer.new)) }
+        (reader_remaining R.remaining reader.new) (W.contents writer.old) (W.contents writer.new)
+        (E.contents errors.old) (E.contents errors.new)) }
 {
     if is_nothing(words) {
         return help(writer);
@@ -72,6 +78,9 @@ fn reply<R: Read, W: Write>(
     let asked = read_arguments(alloc, words)?;
     if asked.options.help {
         return help(writer);
+    }
+    if asked.options.explain {
+        return explain(alloc, &asked, writer, errors);
     }
     answer(alloc, &asked, reader, writer)
 }

@@ -4,11 +4,11 @@
 -- ---- words, and the comparators that they give
 pub mod Comparator
 pub mod PartialText
-pub mod Forms
 pub mod Operators
 pub mod TildeRanges
 pub mod CaretRanges
 pub mod HyphenRanges
+pub mod WordEnds
 -- ---- range texts: their alternatives, their meaning, the sets that they are merged to, and how two texts are joined
 pub mod Division
 pub mod Meaning

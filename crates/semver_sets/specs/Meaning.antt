@@ -66,7 +66,6 @@ abbrev pub RangeAdmits : List (Ends VersionValue) → VersionValue → Type 0
 RangeAdmits sets v = AnyByRecursion (λ set. SetAdmits set v) sets
 
 -- a range contains a version if the version lies inside one of the sets. A prerelease needs no end that opens its
--- triple:
--- `>=1.2.3-rc.4 <2.0.0` contains 1.2.4-rc.6
+-- triple: `>=1.2.3-rc.4 <2.0.0` contains 1.2.4-rc.6
 abbrev pub RangeContains : List (Ends VersionValue) → VersionValue → Type 0
 RangeContains sets v = AnyByRecursion (λ set. IsInside v set) sets

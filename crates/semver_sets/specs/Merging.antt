@@ -3,7 +3,7 @@
 --
 -- `>=1.2.3-rc.4 >=1.0.0 <2.0.0` gives the set from just before 1.2.3-rc.4 up to just before 2.0.0. The set of
 -- `>=1.0.0+a >=1.0.0+b` begins just before 1.0.0+b, and that of `<1.0.0+a <1.0.0+b` ends just before 1.0.0+a.
-use Rattle.std.specs.Prelude.{◌≡◌, ◌≢◌, ◌↔◌, ℕ, List, [], ◌∷◌, Option, Some, None, IfSome, IsSome}
+use Rattle.std.specs.Prelude.{◌≡◌, ◌≢◌, ◌↔◌, ℕ, List, [], ◌∷◌, ◌++◌, Option, Some, None, IfSome, IsSome}
 use Rattle.std.specs.List.{AllByRecursion}
 use Rattle.semver_cuts.specs.declared.cut.Cut.TheVariants.{Start, End}
 use Rattle.semver_cuts.specs.Ends.{Ends, HoldsCut}
@@ -23,6 +23,11 @@ pub record IsSetOf (comparators : List Comparator) (set : Ends VersionValue) : T
 abbrev pub IsCommonSpan : List Comparator → Option Comparator → Type 0
 IsCommonSpan comparators None = comparators ≡ []
 IsCommonSpan comparators (Some common) = IsSetOf comparators common
+
+-- the common span before and after one more comparator
+abbrev pub IsNarrowedTo : Option Comparator → Comparator → Option Comparator → Type 0
+IsNarrowedTo before c after = (comparators : List Comparator) → IsCommonSpan comparators before
+    → IsCommonSpan (comparators ++ c ∷ []) after
 
 -- that span if a cut lies in it; otherwise, or if there are no comparators, none
 abbrev pub IsSpanOf : Option Comparator → Option (Ends VersionValue) → Type 0

@@ -5,6 +5,7 @@ use Rattle.semver_texts.specs.IdentifierValue.{IdentifierValue}
 use Rattle.semver_texts.specs.NumberText.{IsNumberText}
 use Rattle.semver_texts.specs.Version.{VersionValue}
 use Rattle.semver_texts.specs.VersionText.{HasThreeParts, IsMarked}
+use Rattle.semver_sets.specs.Comparator.{Comparator}
 
 -- A version of which components can be absent. A component is absent if it is an x or is not written: `1`, `1.x`,
 -- `1.2.x-beta`
@@ -56,6 +57,12 @@ zeroed p = record {
   pre_release = p.pre_release;
   build = p.build;
 }
+
+-- The comparator that a row of npm's tables gives for a partial, if it gives one. A row has the components of the partial,
+-- and its version z, which has 0 for each absent component.
+abbrev pub by_row : ((major minor patch : Option ℕ) (z : VersionValue) → Option Comparator) → Partial
+    → Option Comparator
+by_row row p = row p.major p.minor p.patch (zeroed p)
 
 -- the operator of a word, optional blanks, and a partial: `>= v1.2`
 pub record IsLed (lead text : List ℕ) (p : Partial) : Type 0 where

@@ -1,4 +1,4 @@
-//! The words of a range text, and the comparator that each of them gives.
+//! The words of a range text, and the comparator that each of them gives. The module [`ends`] has its two ends.
 //!
 //! `#[inline(always)]`: see `partial.rt`.
 //!
@@ -9,39 +9,36 @@ ghost use Rattle.semver_sets.specs.Division.{IsAlternative};
 ghost use Rattle.semver_texts.specs.Characters.{BeginsWithNo, is_blank};
 ghost use Rattle.semver_texts.specs.Reading.{rest_of};
 ghost use Rattle.semver_sets.specs.Private.WordReading as Reading;
-ghost use Rattle.semver_sets.specs.Private.WordViews.{IsSound, ends_seen, lead_seen, partial_seen, word_seen};
+ghost use Rattle.semver_sets.specs.Private.WordViews.{lead_seen, some_ends, word_seen};
+ghost use Rattle.semver_sets.specs.WordEnds.{IsSound, partial_seen};
 
 mod caret;
-mod ends;
-pub mod form;
+pub mod ends;
 mod hyphen;
 mod operator;
 mod plain;
 mod tilde;
 
-use crate::partial::{Components, Partial, read_clean_partial};
-pub(crate) use caret::caret_form;
-use ends::nothing;
-pub(crate) use ends::{Sides, WordEnds, WrittenVersion};
-use form::{Form, row_ends};
+use crate::partial::{Partial, read_clean_partial};
+use caret::caret_ends;
+use ends::WordEnds;
 pub(crate) use hyphen::read_leading_hyphen;
 use hyphen::{hyphen_ends, read_right};
 use memchr::memchr2;
-use operator::{above_form, at_most_form, below_form, equal_form};
-pub(crate) use plain::plain_form;
+use operator::{above_ends, at_least_ends, at_most_ends, below_ends, equal_ends};
+use plain::plain_ends;
 use semver_texts::parse::{is_clean_end, skip_blanks};
-pub(crate) use tilde::tilde_form;
-use tilde::{read_tilde, tilde_greater_form};
+use tilde::{read_tilde, tilde_ends, tilde_greater_ends};
 
 // `>=1.2.3` of `>=1.2.3 <2`, or nothing for `foo`, and the rest
 #[inline(always)]
-pub(crate) fn read_word(text: &[u8]) -> (WordEnds, &[u8])
+pub(crate) fn read_word(text: &[u8]) -> (Option<WordEnds>, &[u8])
     requires { BeginsWithNo is_blank text.now }
     ensures { word_seen result ≡ Reading.read_word text.now }
 {
     let (lead, operand) = read_lead(text);
     let Some((partial, rest)) = read_clean_partial(operand) else {
-        return (nothing(), skip_to_blank(text));
+        return (None, skip_to_blank(text));
     };
     match (lead, rest) {
         (Lead::Plain, [_, ..]) => plain_or_hyphen(partial, rest),
@@ -133,43 +130,35 @@ fn read_lead(text: &[u8]) -> (Lead, &[u8])
     }
 }
 
-// The form of a partial after a lead: each lead has a row.
+// The ends of the comparator that a lead and a partial give, if they give one: each lead has a row.
 #[inline(always)]
-pub(crate) fn lead_form(lead: Lead, components: Components) -> Option<Form>
-    ensures { result ≡ Reading.lead_row (lead_seen lead) components.0 components.1 components.2 }
+fn lead_ends<'a>(lead: Lead, partial: Partial<'a>) -> Option<WordEnds<'a>>
+    requires { IsSound partial }
+    ensures { some_ends result ≡ Reading.lead_comparator (lead_seen lead) (partial_seen partial.entry) }
 {
     match lead {
-        Lead::Plain => plain_form(components),
-        Lead::AtLeast => Some(Form::AtLeast),
-        Lead::Above => above_form(components),
-        Lead::Equal => equal_form(components),
-        Lead::AtMost => at_most_form(components),
-        Lead::Below => below_form(components),
-        Lead::Tilde => tilde_form(components),
-        Lead::TildeGreater => tilde_greater_form(components),
-        Lead::Caret => caret_form(components),
+        Lead::Plain => plain_ends(partial),
+        Lead::AtLeast => at_least_ends(partial),
+        Lead::Above => above_ends(partial),
+        Lead::Equal => equal_ends(partial),
+        Lead::AtMost => at_most_ends(partial),
+        Lead::Below => below_ends(partial),
+        Lead::Tilde => tilde_ends(partial),
+        Lead::TildeGreater => tilde_greater_ends(partial),
+        Lead::Caret => caret_ends(partial),
     }
-}
-
-// The ends of the comparator that a lead and a partial give, if they give one.
-#[inline(always)]
-fn lead_ends(lead: Lead, partial: Partial) -> WordEnds
-    requires { IsSound partial }
-    ensures { ends_seen result ≡ Reading.lead_comparator (lead_seen lead) (partial_seen partial.entry) }
-{
-    row_ends(lead_form(lead, partial.components()), partial.version)
 }
 
 // A plain partial before a blank: alone, or as the left side of a hyphen range.
 #[inline(always)]
-fn plain_or_hyphen<'a>(partial: Partial<'a>, text: &'a [u8]) -> (WordEnds<'a>, &'a [u8])
+fn plain_or_hyphen<'a>(partial: Partial<'a>, text: &'a [u8]) -> (Option<WordEnds<'a>>, &'a [u8])
     requires { IsSound partial }
     ensures { Some (word_seen result) ≡ Reading.or_else
         (Reading.said_hyphen (Some (partial_seen partial.entry)) (Reading.read_right text.now))
         (Some (Reading.lead_comparator Reading.no_lead (partial_seen partial.entry), text.now)) }
 {
     match read_right(text) {
-        Some((right, rest)) => (hyphen_ends(partial, right), rest),
+        Some((right, rest)) => (Some(hyphen_ends(partial, right)), rest),
         None => (lead_ends(Lead::Plain, partial), text),
     }
 }

@@ -22,8 +22,7 @@ pub mod ReadingBack
 pub mod Identifier
 pub mod IdentifierRef
 pub mod EndViews
--- ---- not to be trusted: what private functions compute, and lemmas. The lemmas that the crates above cite are listed
--- in
--- ---- `Lemmas/Public`; `semver_versions` may cite all.
+-- ---- not to be trusted: what private functions compute, and lemmas
+-- `Lemmas/Public` lists the lemmas that the crates above cite; `semver_versions` may cite all.
 pub mod Private
 pub mod Lemmas

@@ -1,5 +1,5 @@
--- The order of versions in SemVer's words: SemVer 2.0.0, sections 10 and 11. `Comparison` defines the same as a
--- function.
+-- The order of versions in SemVer's words: SemVer 2.0.0, sections 10 and 11.
+-- `Comparison` defines the same as a function.
 -- See docs/DECISIONS.md, "The order of versions is defined twice".
 use Rattle.std.specs.Prelude.{◌≡◌, ◌<◌, ◌⊎◌, ◌↔◌, ⊤, ℕ, List, ◌∷◌, ◌++◌}
 use Rattle.std.specs.declared.cmp.Ordering.{Ordering}

@@ -1,8 +1,6 @@
 -- What a text begins with, read from left to right: a number, or a prerelease and a build. Each definition gives a
--- value
--- and the text that is left, or a fault. npm's own reading of range texts rests on them, and the readers of bytes
--- return
--- what they say.
+-- value and the text that is left, or a fault. npm's own reading of range texts rests on them, and the readers of
+-- bytes return what they say.
 use Rattle.std.specs.Prelude.{ℕ, ◌≡◌, ◌==◌, ◌<◌, nat_le, if◌then◌else◌, Bool, true, false}
 use Rattle.std.specs.Prelude.{List, [], ◌∷◌, length, map, Result, Ok, Err}
 use Rattle.std.specs.Borrow.{Bor}

@@ -18,8 +18,7 @@ pub mod ErrorEquality
 pub mod VersionFault
 -- ---- laws over texts alone
 pub mod VersionLaws
--- ---- not to be trusted: what private functions compute, and lemmas. The lemmas that the crates above cite are listed
--- in
--- ---- `Lemmas/Public`.
+-- ---- not to be trusted: what private functions compute, and lemmas
+-- `Lemmas/Public` lists the lemmas that the crates above cite.
 pub mod Private
 pub mod Lemmas

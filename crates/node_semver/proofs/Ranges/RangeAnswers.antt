@@ -14,7 +14,7 @@ use Rattle.semver_sets.specs.RangeLaws.{MeansItsSets}
 use Rattle.semver_sets.specs.RangePrint.{range_text}
 use Rattle.semver_sets.specs.RangeSets.{IsRangeValue}
 use Rattle.semver_sets.specs.ReadingBack.{IsPlainlyBounded, RangeReadsBack}
-use Rattle.semver_sets.specs.declared.word.form.Form.{Form}
+use Rattle.semver_sets.specs.declared.read.full.Form.{Form}
 use Rattle.node_semver.specs.RangeAnswer.{IsRangeAnswer, IsReadAsRange}
 
 -- what the laws of texts and of prints say

@@ -8,12 +8,12 @@ use Rattle.std.specs.List.{Contains, list_all}
 use Rattle.std.specs.List.Sorted.{IsStrictlySortedBy}
 use Rattle.std.specs.Option.{IsSome}
 use Rattle.serde_json.specs.Data.{Data, Members, boolean, member, no_members, object, string}
-use Rattle.npm_lock.specs.Asked.{AskedValue, asked_of}
-use Rattle.npm_lock.specs.Findings.{AreFindings, AreMemberFindings, AreNames, dependency, of_dependency, of_package}
+use Rattle.npm_packages.specs.Asked.{AreNames, AskedValue, asked_of}
+use Rattle.npm_lock.specs.Findings.{AreFindings, AreMemberFindings, dependency, of_dependency, of_package}
 use Rattle.npm_lock.specs.Findings.{ArePackageFindings}
 use Rattle.npm_lock.specs.Outcomes.{ProblemValue, dependency_of, missing, wrong}
 use Rattle.npm_lock.specs.declared.problem.Kind.TheVariants.{Missing}
-use Rattle.npm_lock.specs.Packages.{IsFound, above, nowhere}
+use Rattle.npm_packages.specs.Packages.{IsFound, above, nowhere}
 use Rattle.npm_texts.specs.Lemmas.Keys.{exact}
 
 abbrev pub asker : Data
@@ -57,7 +57,7 @@ both_true : (x y : Bool) → (x && y) ≡ true → y ≡ true
 both_true true y is = is
 both_true false y is = cc is
 
-pub no_slash : (text : List ℕ) → list_all (λ b. not (b == 47)) text ≡ true → (i : ℕ) → i < length text
+no_slash : (text : List ℕ) → list_all (λ b. not (b == 47)) text ≡ true → (i : ℕ) → i < length text
     → get_or text i 0 ≢ 47
 no_slash [] none i small is = absurd (omega (arith, small))
 no_slash (b ∷ text) none zero small is = let never = rw is at none in cc never

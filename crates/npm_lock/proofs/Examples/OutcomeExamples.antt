@@ -1,9 +1,10 @@
 -- What the definitions say of one dependency where nothing is installed, and of a version that lies in no set.
 use Rattle.std.proofs.Common.{◌≡◌, ℕ, List, true, false, Some, None, codes, refl}
 use Rattle.serde_json.specs.Data.{Data, boolean, member, no_members, object, string}
-use Rattle.npm_lock.specs.Asked.{AskedValue}
-use Rattle.npm_lock.specs.Outcomes.{IsOutcome, absent, dependency_of, fine, valid}
-use Rattle.npm_lock.specs.Packages.{IsFound, Package, above, here}
+use Rattle.npm_packages.specs.Asked.{AskedValue}
+use Rattle.npm_lock.specs.Outcomes.{IsOutcome, IsVerdictOn, absent, by_spec, dependency_of, engine_of, fine, valid}
+use Rattle.npm_packages.specs.Overrides.{changed_by, unread}
+use Rattle.npm_packages.specs.Packages.{IsFound, Package, above, here}
 use Rattle.npm_lock.specs.Verdict.{better}
 use Rattle.npm_lock.specs.declared.problem.Reason.TheVariants.{Location, Tag}
 use Rattle.npm_lock.specs.declared.verdict.Verdict.TheVariants.{Invalid, Unchecked, Valid}
@@ -56,3 +57,23 @@ what_need_not_be_found_is_optional = refl
 pub the_version_of_the_asker : (dependency_of (codes "node_modules/b") marked (codes "a") asked None).from_version
     ≡ Some (codes "1.0.0")
 the_version_of_the_asker = refl
+
+-- ---- a rule of `overrides` that is not read
+
+-- what is not known is no problem
+pub no_problem_where_the_rule_is_not_read : (found : Package)
+    → ¬ IsVerdictOn (codes "node_modules/z") nothing (codes "b") (changed_by (Some unread) (codes "node_modules/z") asked)
+    found Invalid
+no_problem_where_the_rule_is_not_read found (by_spec verdict outside known both) = cc known
+
+-- ---- engines: an optional package is not asked
+
+abbrev with_engine : Data → Data
+with_engine mark = object (member (codes "engines") (object (member (codes "node") (string (codes ">=18")) no_members))
+    (member (codes "optional") mark no_members))
+
+pub a_package_is_asked : engine_of (with_engine (boolean false)) ≡ Some (codes ">=18")
+a_package_is_asked = refl
+
+pub an_optional_one_is_not : engine_of (with_engine (boolean true)) ≡ None
+an_optional_one_is_not = refl

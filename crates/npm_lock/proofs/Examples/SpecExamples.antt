@@ -64,3 +64,40 @@ a_tag_with_white_space = refl
 pub no_tag : is_tag (codes "^1 ^2") ≡ false
 unfolding trim_start trim_end chars encode
 no_tag = refl
+
+pub a_range_stands_for_itself : spec_of (codes "^1.2") ≡ in_registry (codes "^1.2")
+a_range_stands_for_itself = refl
+
+pub an_alias_has_a_range : spec_of (codes "npm:a@^1") ≡ in_registry (codes "^1")
+an_alias_has_a_range = refl
+
+pub a_scope_is_no_range : spec_of (codes "npm:@s/a@^1") ≡ in_registry (codes "^1")
+a_scope_is_no_range = refl
+
+pub an_alias_alone_is_any : spec_of (codes "npm:@s/a") ≡ in_registry (codes "*")
+an_alias_alone_is_any = refl
+
+pub a_repository_is_no_range : spec_of (codes "github:a/b") ≡ location
+a_repository_is_no_range = refl
+
+pub a_word_is_a_tag : is_tag (codes "next-11") ≡ true
+unfolding trim_start trim_end chars encode
+a_word_is_a_tag = refl
+
+pub a_caret_is_in_no_tag : is_tag (codes "^1") ≡ false
+unfolding trim_start trim_end chars encode
+a_caret_is_in_no_tag = refl
+
+-- ---- aliases: `npm:` in letters of either case, and before a text that is no name
+
+pub in_capitals : spec_of (codes "NPM:a@^1") ≡ in_registry (codes "^1")
+in_capitals = refl
+
+pub a_range_is_no_name : spec_of (codes "npm:^2") ≡ in_registry (codes "^2")
+a_range_is_no_name = refl
+
+pub a_number_is_a_name : spec_of (codes "npm:2") ≡ in_registry (codes "*")
+a_number_is_a_name = refl
+
+pub another_scheme : spec_of (codes "npx:a@^1") ≡ location
+another_scheme = refl

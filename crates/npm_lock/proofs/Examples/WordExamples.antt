@@ -1,14 +1,11 @@
--- What the definitions say of the words of problems, of bytes of specs, of the order of faults, and of two verdicts.
-use Rattle.std.proofs.Common.{◌≡◌, List, [], ℕ, None, Some, codes, false, refl, true}
-use Rattle.std.specs.Float.Ieee.{eq, of_int}
+-- What the definitions say of the words of problems, of bytes of specs, and of two verdicts.
+use Rattle.std.proofs.Common.{◌≡◌, [], None, Some, codes, false, refl, true}
 use Rattle.std.specs.Str.{chars, trim_end, trim_start}
 use lib.Utf8.{encode}
-use Rattle.serde_json.specs.Data.{Data, array, boolean, member, no_items, no_members, number, object, string, unsigned}
-use Rattle.npm_lock.specs.Faults.{groups_fault, lock_fault, package_fault}
+use Rattle.serde_json.specs.Data.{boolean, member, no_members, object, string}
 use Rattle.npm_lock.specs.ProblemJson.{kind_text, reason_text, unchecked_data}
 use Rattle.npm_texts.specs.RangeText.{in_registry, is_tag, location, spec_of}
 use Rattle.npm_lock.specs.Verdict.{better}
-use Rattle.npm_lock.specs.declared.fault.Fault.TheVariants as Faults
 use Rattle.npm_lock.specs.declared.problem.Kind.TheVariants as Kinds
 use Rattle.npm_lock.specs.declared.problem.Reason.TheVariants as Reasons
 use Rattle.npm_lock.specs.declared.verdict.Verdict.TheVariants as Verdicts
@@ -107,43 +104,6 @@ no_backtick_in_a_tag = refl
 pub no_colon_in_a_tag : is_tag (codes "a:1") ≡ false
 unfolding trim_start trim_end chars encode
 no_colon_in_a_tag = refl
-
--- ---- the first fault counts
-
--- groups that are no objects, or have a spec that is no string
-abbrev both : (list specs : List ℕ) → Data
-both list specs = object (member list (array no_items)
-    (member specs (object (member (codes "a") (number (unsigned 1)) no_members)) no_members))
-
-pub peers_come_first : groups_fault (both (codes "dependencies") (codes "peerDependencies")) ≡ Some Faults.Spec
-peers_come_first = refl
-
-pub dependencies_come_second : groups_fault (both (codes "optionalDependencies") (codes "dependencies")) ≡ Some Faults.Spec
-dependencies_come_second = refl
-
-pub optional_ones_come_third : groups_fault (both (codes "devDependencies") (codes "optionalDependencies"))
-    ≡ Some Faults.Spec
-optional_ones_come_third = refl
-
-pub development_comes_last : groups_fault (both (codes "optionalDependencies") (codes "devDependencies"))
-    ≡ Some Faults.Dependencies
-development_comes_last = refl
-
-pub the_version_comes_before_the_groups : package_fault (object (member (codes "dependencies") (array no_items)
-    (member (codes "version") (number (unsigned 1)) no_members))) ≡ Some Faults.PackageVersion
-the_version_comes_before_the_groups = refl
-
-pub the_format_comes_before_the_packages : lock_fault (object (member (codes "lockfileVersion") (number (unsigned 4))
-    (member (codes "packages") (array no_items) no_members))) ≡ Some Faults.Version
-unfolding eq of_int
-the_format_comes_before_the_packages = refl
-
-pub the_first_package_comes_first : lock_fault (object (member (codes "lockfileVersion") (number (unsigned 3))
-    (member (codes "packages") (object (member (codes "a") (array no_items)
-    (member (codes "b") (object (member (codes "version") (array no_items) no_members)) no_members))) no_members)))
-    ≡ Some Faults.Package
-unfolding eq of_int
-the_first_package_comes_first = refl
 
 -- ---- two verdicts: the better counts, and of two reasons the first
 

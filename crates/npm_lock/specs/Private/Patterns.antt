@@ -5,7 +5,7 @@ use Rattle.std.specs.Cmp.Lexicographic.{slice_cmp}
 use Rattle.std.specs.List.{ends_with, list_any}
 use Rattle.std.specs.Ordering.{nat_cmp}
 use Rattle.serde_json.specs.Data.{Data}
-use Rattle.npm_lock.specs.Folders.{IsInstalled}
+use Rattle.npm_packages.specs.Folders.{IsInstalled}
 use Rattle.npm_lock.specs.Workspaces.{IsWorkspace, is_matched}
 use Rattle.npm_lock.specs.declared.workspace.Patterns.{Patterns}
 use Rattle.npm_lock.specs.declared.workspace.Workspace.{Workspace}

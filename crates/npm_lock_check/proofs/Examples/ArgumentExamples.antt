@@ -2,9 +2,11 @@
 use Rattle.std.proofs.Common.{◌≡◌, ◌∷◌, [], Err, Ok, Some, codes, false, map, refl, true}
 use Rattle.npm_advisories.specs.declared.severity.Severity.TheVariants.{High}
 use Rattle.npm_lock.specs.declared.problem.Kind.TheVariants.{Engine, Invalid, Missing, PeerLocal}
-use Rattle.npm_lock_check.specs.Arguments.{no_kind, no_severity, no_value, nothing_asked, read_arguments, second_file, unknown_option}
+use Rattle.npm_lock_check.specs.Arguments.{no_kind, no_place, no_severity, no_value, nothing_asked, read_arguments, second_file, unknown_option}
 use Rattle.npm_lock_check.specs.Kinds.{has, named_by, no_kinds, with_kind, with_named}
-use Rattle.npm_lock_check.specs.declared.arguments.Format.TheVariants.{Json}
+use Rattle.npm_lock_reports.specs.declared.format.ReportFormat.TheVariants.{Json}
+use Rattle.npm_lock_annotations.specs.declared.format.AnnotationFormat.TheVariants.{Github, Sarif}
+use Rattle.npm_lock_check.specs.declared.format.Format.TheVariants.{Annotations, Report}
 use Rattle.npm_lock_check.specs.declared.arguments.Shown.TheVariants.{Help, Version}
 use Rattle.npm_lock_check.specs.declared.kinds.Ignorable.TheVariants.{Group, Problem}
 
@@ -13,7 +15,7 @@ no_word = refl
 
 pub options_and_a_file : read_arguments (codes "--node" ∷ codes "20" ∷ codes "a.json" ∷ codes "--format" ∷ codes "json" ∷
     [])
-    ≡ Ok (record nothing_asked { node = Some (codes "20"); file = Some (codes "a.json"); format = Some Json })
+    ≡ Ok (record nothing_asked { node = Some (codes "20"); file = Some (codes "a.json"); format = Some (Report Json) })
 options_and_a_file = refl
 
 pub two_kinds : read_arguments (codes "--ignore" ∷ codes "missing" ∷ codes "--ignore" ∷ codes "peer-local" ∷ [])
@@ -86,7 +88,7 @@ pub a_value_in_the_word : read_arguments (codes "--node=20" ∷ codes "--manifes
     ≡ Ok (record nothing_asked {
       node = Some (codes "20");
       manifest = Some (codes "package.json");
-      format = Some Json;
+      format = Some (Report Json);
       ignored = with_kind no_kinds Missing;
       advisories = Some (codes "a=b.json");
       level = High;
@@ -114,8 +116,29 @@ a_word_with_a_value_is_a_value = refl
 -- ---- the last of two
 
 pub the_last_format_counts : read_arguments (codes "--format" ∷ codes "text" ∷ codes "--format=json" ∷ [])
-    ≡ Ok (record nothing_asked { format = Some Json })
+    ≡ Ok (record nothing_asked { format = Some (Report Json) })
 the_last_format_counts = refl
+
+pub annotations_of_github : read_arguments (codes "--format=github" ∷ [])
+    ≡ Ok (record nothing_asked { format = Some (Annotations Github) })
+annotations_of_github = refl
+
+pub a_log : read_arguments (codes "--format" ∷ codes "sarif" ∷ [])
+    ≡ Ok (record nothing_asked { format = Some (Annotations Sarif) })
+a_log = refl
+
+-- in either order, and nothing is left out in silence
+pub a_log_of_advisories : read_arguments (codes "--format=sarif" ∷ codes "--advisories=a.json" ∷ []) ≡ Err no_place
+a_log_of_advisories = refl
+
+pub annotations_of_what_is_not_checked : read_arguments (codes "--unchecked" ∷ codes "--format=github" ∷ [])
+    ≡ Err no_place
+annotations_of_what_is_not_checked = refl
+
+-- the last format counts here too
+pub advisories_as_json : read_arguments (codes "--format=sarif" ∷ codes "--unchecked" ∷ codes "--format=json" ∷ [])
+    ≡ Ok (record nothing_asked { format = Some (Report Json); unchecked = true })
+advisories_as_json = refl
 
 pub the_last_text_shown_counts : read_arguments (codes "--help" ∷ codes "--version" ∷ [])
     ≡ Ok (record nothing_asked { shown = Some Version })

@@ -3,12 +3,14 @@ use Rattle.std.proofs.Common.{◌≡◌, ◌∷◌, ℕ, List, [], Option, Resul
 use Rattle.std.specs.declared.io.ErrorKind.TheVariants.{Other, OutOfMemory}
 use Rattle.serde_json.specs.Data.{Data}
 use Rattle.serde_json.specs.declared.value.Value.{Value}
-use Rattle.npm_lock_check.specs.WatchedValue.{WatchedValue}
-use Rattle.npm_lock_check.specs.Output.{IsInput, IsStopped, IsUnread, has_mark}
+use Rattle.command_lines.specs.WatchedValue.{WatchedValue}
+use Rattle.command_lines.specs.Inputs.{IsInput, IsUnread, has_mark}
+use Rattle.command_lines.specs.declared.input_error.InputError.TheVariants.{NoJson, NoUtf8, Read}
+use Rattle.npm_lock_check.specs.Output.{IsStopped}
 use Rattle.npm_lock_check.specs.Report.{WantedValue}
 use Rattle.npm_lock_check.specs.declared.linked.Loaded.{Loaded}
 use Rattle.npm_lock_check.specs.declared.run_error.LoadError.{LoadError}
-use Rattle.npm_lock_check.specs.declared.run_error.RunError.TheVariants.{NoJson, NoUtf8, Read}
+use Rattle.npm_lock_check.specs.declared.run_error.RunError.TheVariants.{Input}
 use Rattle.npm_lock_check.specs.declared.run_error.StopError.TheVariants.{Check, Load}
 
 -- ---- what was read
@@ -30,12 +32,12 @@ module _ (remaining : List ℕ → Option (List ℕ)) (Gives : Value → Result 
     (wanted : WantedValue) (old : WatchedValue (List ℕ)) where
   pub after_a_failure_nothing_is_no_json : (line column : ℕ)
       → ¬ IsStopped remaining Gives wanted old (record { inner = []; failure = Some Other })
-      (Check (NoJson line column))
+      (Check (Input (NoJson line column)))
   after_a_failure_nothing_is_no_json line column (inl stopped) = cc stopped.unfailed
   after_a_failure_nothing_is_no_json line column (inr faulty) = faulty.refused
 
   pub after_a_failure_nothing_is_no_text : ¬ IsStopped remaining Gives wanted old
-      (record { inner = []; failure = Some Other }) (Check NoUtf8)
+      (record { inner = []; failure = Some Other }) (Check (Input NoUtf8))
   after_a_failure_nothing_is_no_text (inl stopped) = cc stopped.unfailed
   after_a_failure_nothing_is_no_text (inr faulty) = faulty.refused
 

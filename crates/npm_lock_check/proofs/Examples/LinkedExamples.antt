@@ -1,10 +1,10 @@
 -- What the definitions say of the manifests of linked folders.
-use Rattle.std.proofs.Common.{◌≡◌, ◌∷◌, ◌++◌, ℕ, List, [], None, Result, Ok, Some, codes, refl}
+use Rattle.std.proofs.Common.{◌≡◌, ◌∷◌, ℕ, List, [], None, Result, Ok, Some, codes, refl}
 use Rattle.serde_json.specs.Data.{Data, member, no_members, object, string}
 use Rattle.serde_json.specs.View.{view}
 use Rattle.serde_json.specs.declared.value.Value.{Value}
 use Rattle.npm_manifests.specs.ManifestPlace.{as_package}
-use Rattle.npm_lock.specs.declared.fault.Fault.TheVariants as Faults
+use Rattle.npm_packages.specs.declared.fault.Fault.TheVariants as Faults
 use Rattle.npm_lock_check.specs.Linked.{AreRead, LinkedValue, no_folder, one_more}
 use Rattle.npm_lock_check.specs.ManifestFile.{HasNoSlash, IsFolderOf, above, current, path_of}
 use Rattle.npm_lock_check.specs.Output.{linked_fault}

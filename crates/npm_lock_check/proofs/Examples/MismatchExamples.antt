@@ -7,7 +7,7 @@ use Rattle.npm_manifests.specs.ManifestPlace.{as_package}
 use Rattle.npm_manifests.specs.Mismatches.{AreMismatches, MismatchValue, mismatch_of}
 use Rattle.npm_manifests.specs.declared.group.Group.TheVariants.{Dependencies, DevDependencies}
 use Rattle.npm_lock_check.specs.Report.{is_compared, manifests_of, placed}
-use Rattle.npm_lock_check.specs.Sentence.{mismatch_sentence}
+use Rattle.npm_lock_sentences.specs.Sentence.{mismatch_sentence}
 
 -- an object with one member, a package that asks for `a`, and a lock file whose root asks for it
 abbrev one : (key : List ℕ) → Data → Data

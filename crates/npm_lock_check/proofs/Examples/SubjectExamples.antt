@@ -4,10 +4,11 @@ use Rattle.std.specs.Fmt.{digits}
 use Rattle.npm_advisories.specs.declared.fault.FaultKind.TheVariants as FaultKinds
 use Rattle.npm_advisories.specs.declared.fault.FaultKind.TheVariants.{File, Range}
 use Rattle.npm_lock_check.specs.Arguments.{ArgumentsValue, nothing_asked}
-use Rattle.npm_lock_check.specs.Shown.{quoted}
+use Rattle.command_lines.specs.Shown.{quoted}
+use Rattle.command_lines.specs.declared.input_error.InputError.TheVariants as Inputs
 use Rattle.npm_lock_check.specs.Subjects.{list_words, place_words, subject_of}
 use Rattle.npm_lock_check.specs.declared.run_error.LoadError.TheVariants as Loads
-use Rattle.npm_lock_check.specs.declared.run_error.RunError.TheVariants.{Memory, NoFile, NoUtf8, Read, Write}
+use Rattle.npm_lock_check.specs.declared.run_error.RunError.TheVariants.{Input, Memory, Write}
 use Rattle.npm_lock_check.specs.declared.run_error.StopError.TheVariants.{Advisories, Check, Load, Manifest}
 
 abbrev asked : ArgumentsValue
@@ -17,20 +18,20 @@ asked = record nothing_asked {
   advisories = Some (codes "v.json");
 }
 
-pub a_file : subject_of asked (Check NoFile) ≡ codes "\"a.json\": "
+pub a_file : subject_of asked (Check (Input Inputs.NoFile)) ≡ codes "\"a.json\": "
 a_file = refl
 
-pub no_file : subject_of nothing_asked (Check NoUtf8) ≡ codes "standard input: "
+pub no_file : subject_of nothing_asked (Check (Input Inputs.NoUtf8)) ≡ codes "standard input: "
 no_file = refl
 
-pub standard_input_by_its_name : subject_of (record asked { file = Some (codes "-") }) (Check Read)
+pub standard_input_by_its_name : subject_of (record asked { file = Some (codes "-") }) (Check (Input Inputs.Read))
     ≡ codes "standard input: "
 standard_input_by_its_name = refl
 
-pub a_manifest : subject_of asked (Manifest NoFile) ≡ codes "--manifest \"m.json\": "
+pub a_manifest : subject_of asked (Manifest (Input Inputs.NoFile)) ≡ codes "--manifest \"m.json\": "
 a_manifest = refl
 
-pub advisories : subject_of asked (Advisories Read) ≡ codes "--advisories \"v.json\": "
+pub advisories : subject_of asked (Advisories (Input Inputs.Read)) ≡ codes "--advisories \"v.json\": "
 advisories = refl
 
 -- a write and memory are about no file
@@ -39,6 +40,9 @@ a_write = refl
 
 pub memory : subject_of asked (Check Memory) ≡ []
 memory = refl
+
+pub memory_of_a_read : subject_of asked (Check (Input Inputs.Memory)) ≡ []
+memory_of_a_read = refl
 
 -- the manifest of a workspace is named by the rest of the line
 pub a_workspace : subject_of asked (Load Loads.Memory) ≡ []

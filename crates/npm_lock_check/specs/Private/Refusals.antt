@@ -2,16 +2,16 @@
 -- out.
 use Rattle.std.specs.Prelude.{◌≡◌, ◌⊎◌, ℕ, List, Option, Some, string_bytes}
 use Rattle.serde_json.specs.Data.{Data}
-use Rattle.npm_lock.specs.Faults.{lock_fault}
+use Rattle.npm_packages.specs.Faults.{lock_fault}
 use Rattle.npm_manifests.specs.Mismatches.{manifest_fault}
 use Rattle.npm_lock_version_one.specs.VersionOne.{converted}
-use Rattle.npm_lock.specs.declared.fault.Fault.{Fault}
+use Rattle.npm_packages.specs.declared.fault.Fault.{Fault}
 use Rattle.npm_advisories.specs.Faults.{FaultValue}
 use Rattle.npm_advisories.specs.declared.fault.FaultKind.{FaultKind}
 use Rattle.npm_lock_check.specs.Linked.{LinkedValue}
 use Rattle.npm_lock_check.specs.Output.{AreNoAdvisories, IsNoLinked, IsNoLockFile, IsNoManifest}
 use Rattle.npm_lock_check.specs.Report.{WantedValue}
-use Rattle.npm_lock_check.specs.declared.folder_name.FolderName.{FolderName}
+use Rattle.npm_lock_reports.specs.declared.folder_name.FolderName.{FolderName}
 use Rattle.npm_lock_check.specs.declared.list_name.ListName.{ListName}
 use Rattle.npm_lock_check.specs.declared.run_error.RunError.{RunError}
 use Rattle.npm_lock_check.specs.declared.run_error.RunError.TheVariants.{Memory, NoAdvisories, NoLinked, NoLockFile}

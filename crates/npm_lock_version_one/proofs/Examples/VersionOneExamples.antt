@@ -8,8 +8,8 @@ use Rattle.npm_lock_version_one.specs.VersionOne.{member_of}
 use Rattle.npm_lock_version_one.specs.VersionOne.{name_in}
 use Rattle.npm_lock_version_one.specs.VersionOne.{packages_below, packages_of, requires_fault, version_in}
 use Rattle.npm_lock_version_one.specs.VersionOne.{version_one_fault}
-use Rattle.npm_lock.specs.declared.fault.Fault.TheVariants.{Dependencies, Entry, Manifest, PackageVersion, Spec}
-use Rattle.npm_lock.specs.declared.fault.Fault.TheVariants.{Version}
+use Rattle.npm_packages.specs.declared.fault.Fault.TheVariants.{Dependencies, Entry, Manifest, PackageVersion, Spec}
+use Rattle.npm_packages.specs.declared.fault.Fault.TheVariants.{Version}
 
 -- an object with one member
 abbrev one : (key : List ℕ) → Data → Data

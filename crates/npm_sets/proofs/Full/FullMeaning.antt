@@ -2,20 +2,17 @@
 use Rattle.std.proofs.Common.{◌≡◌, ◌∙◌, ◌≤◌, ℕ, Bool, false, List, [], ◌∷◌, ◌++◌, Some}
 use Rattle.std.proofs.Common.{Ok, ap, arith, length, length-append, refl, sym, subst}
 use Rattle.std.proofs.lemmas.Option.{same_Some}
-use Rattle.std.specs.Prelude.{IsAscii, IsTrue}
-use Rattle.semver_cuts.specs.Lemmas.TwoSpans.{holds-below}
+use Rattle.std.specs.Prelude.{IsAscii}
 use Rattle.semver_texts.specs.Characters.{dot}
 use Rattle.semver_texts.specs.IdentifierValue.{IdentifierValue}
-use Rattle.semver_texts.specs.Lemmas.Public.{version_total}
 use Rattle.semver_texts.specs.Lemmas.Public.{clean_extras}
 use Rattle.semver_texts.specs.Reading.{read_extras}
 use Rattle.semver_texts.specs.Version.{release, without_build}
 use Rattle.semver_texts.specs.declared.TheConstants.{MAX_LENGTH}
 use Rattle.semver_sets.specs.Comparator.{Comparator}
-use Rattle.semver_sets.specs.FullTexts.{AreInLimit, full_form, full_set, is_full_form}
-use Rattle.semver_sets.specs.Forms.{comparator_of, ends_of}
-use Rattle.semver_sets.specs.Lemmas.Forms.{form-below, form-read}
-use Rattle.semver_sets.specs.declared.word.form.Form.{Form}
+use Rattle.semver_sets.specs.FullTexts.{AreInLimit, full_row, full_set}
+use Rattle.semver_sets.specs.Lemmas.Comparators.{full-set}
+use Rattle.semver_sets.specs.declared.read.full.Form.{Form}
 use Rattle.semver_sets.specs.Lemmas.Merging.{set-one}
 use Rattle.semver_sets.specs.Meaning.{GiveSet}
 use Rattle.semver_sets.specs.Merging.{AreSetsOf, none, one_more}
@@ -42,7 +39,7 @@ use Rattle.npm_sets.proofs.Pieces.WordReading.{comparators-end, comparators-step
 
 -- without prereleases, npm's row of a full version gives the same set
 full-row : (lead : FullLead) (major minor patch : ℕ)
-    → comparator_of (full_form lead major minor patch) (release major minor patch)
+    → full_row lead major minor patch
     ≡ Some (lead_row false (lead_named lead) (Some major) (Some minor) (Some patch) (release major minor patch))
 full-row lead major minor patch = grind arith
 
@@ -56,29 +53,11 @@ full-release major minor patch = grind (arith, no-prerelease)
 
 -- the comparator of three numbers
 full-comparator : (pre : Bool) (lead : FullLead) (form : Form) (major minor patch : ℕ) → pre ≡ false
-    → full_form lead major minor patch ≡ Some form
+    → full_row lead major minor patch ≡ Some (full_set form major minor patch)
     → full_set form major minor patch
     ≡ lead_comparator pre (lead_named lead) (with_extras (Some major) (Some minor) (Some patch) [])
 full-comparator pre lead form major minor patch out gives =
     grind (arith, same_Some, full-row lead major minor patch, lead_named lead, full-release major minor patch)
-
--- a range can have it
-set-bounded : (form : Form) (major minor patch : ℕ) → AreInLimit major minor patch
-    → IsRangeSet (full_set form major minor patch)
-set-bounded form major minor patch limit =
-    let z = release major minor patch in
-    let read = form-read form z (record {
-      major = limit.major_limit;
-      minor = limit.minor_limit;
-      patch = limit.patch_limit;
-      pre_release = tt;
-      build = tt;
-    }) in
-    record {
-      holds = (holds-below version_total (ends_of form z)).1 (form-below form z);
-      lower = read.lower;
-      upper = read.upper;
-    }
 
 -- ---- a comparator alone
 
@@ -90,10 +69,10 @@ one-set c is =
 -- a text with one comparator has its set
 one-meaning : (options : NpmOptions) (text : List ℕ) (form : Form) (major minor patch : ℕ)
     → alternatives_of options text ≡ (full_set form major minor patch ∷ []) ∷ []
-    → AreInLimit major minor patch → IsTrue (is_full_form form) → IsAscii text
+    → AreInLimit major minor patch → IsAscii text
     → IsNpmFullText options text form major minor patch
-one-meaning options text form major minor patch h1 h2 h3 h4 =
-    grind (arith, set-bounded, one-set, npm-sets-admit, ascii-plain)
+one-meaning options text form major minor patch h1 h2 h3 =
+    grind (arith, full-set, one-set, npm-sets-admit, ascii-plain)
 
 -- ---- the text
 
@@ -111,8 +90,8 @@ module _ (options : NpmOptions) (text operand second third : List ℕ) (lead : F
     (marked : text ≡ full_mark lead ++ operand) (short : length text ≤ MAX_LENGTH)
     (one : IsNumberBefore options.loose operand major (dot ∷ second))
     (two : IsNumberBefore options.loose second minor (dot ∷ third))
-    (three : IsNumberBefore options.loose third patch []) (gives : full_form lead major minor patch ≡ Some form)
-    (full : IsTrue (is_full_form form)) where
+    (three : IsNumberBefore options.loose third patch [])
+    (gives : full_row lead major minor patch ≡ Some (full_set form major minor patch)) where
   operand-short : length operand ≤ MAX_LENGTH
   operand-short = omega (arith, short, ap length marked, length-append (full_mark lead) operand)
 
@@ -144,5 +123,5 @@ module _ (options : NpmOptions) (text operand second third : List ℕ) (lead : F
       → IsNpmFullText options text form major minor patch
   full-text out limit =
       let all = operand-full options.loose operand second third major minor patch one two three in
-      one-meaning options text form major minor patch (full-alternatives out) limit full
+      one-meaning options text form major minor patch (full-alternatives out) limit
       (subst IsAscii (sym marked) (full-ascii (full_mark lead ++ operand) (mark-full lead operand all)))

@@ -11,12 +11,12 @@ use Rattle.semver_texts.specs.Reading.{rest_of}
 use Rattle.semver_texts.specs.Version.{VersionValue}
 use Rattle.semver_sets.specs.Comparator.{Comparator}
 use Rattle.semver_sets.specs.Lemmas.Merging.{merged-gives}
-use Rattle.semver_sets.specs.Merging.{AreSetsOf, IsCommonSpan, IsSetOf, IsSpanOf, all_cuts, no_more, none, one_more}
+use Rattle.semver_sets.specs.Merging.{AreSetsOf, IsCommonSpan, IsNarrowedTo, IsSetOf, IsSpanOf, all_cuts, no_more, none, one_more}
 use Rattle.semver_sets.specs.declared.read.Unread.{Unread}
 use Rattle.semver_sets.specs.declared.read.Unread.TheVariants.{Refused}
-use Rattle.semver_sets.specs.Lemmas.Forms.{IsReadEnds}
+use Rattle.semver_sets.specs.Lemmas.Comparators.{IsReadEnds}
 use Rattle.npm_sets.specs.NpmMeaning.{alone_or, hyphen_range, piece_comparators}
-use Rattle.npm_sets.specs.Private.ReadViews.{AreRead, IsAdded, IsAddedBy, IsNarrowedTo, IsRead, listed}
+use Rattle.npm_sets.specs.Private.ReadViews.{AreRead, IsAdded, IsAddedBy, IsRead, listed}
 use Rattle.npm_sets.specs.WordTexts.{chunks_of, is_solid, is_space, sides_of}
 use Rattle.npm_sets.specs.declared.options.NpmOptions.{NpmOptions}
 use Rattle.npm_sets.proofs.Chunks.ChunkLemmas.{chunks-empty, chunks-skip}

@@ -12,7 +12,7 @@ use Rattle.semver_sets.specs.Lemmas.Merging.{inside-set, merged-admits, merged-g
 use Rattle.semver_sets.specs.Meaning.{AnyByRecursion, GiveSet, IsInside}
 use Rattle.semver_sets.specs.Merging.{AreSetsOf, IsSetOf, no_more, none, one_more}
 use Rattle.semver_sets.specs.RangeSets.{IsRangeSet, IsRangeValue}
-use Rattle.semver_sets.specs.Lemmas.Forms.{IsReadEnds}
+use Rattle.semver_sets.specs.Lemmas.Comparators.{IsReadEnds}
 use Rattle.npm_sets.specs.NpmMeaning.{AreNpmSets, NpmAdmit, NpmSetAdmits, NpmSetsAdmit, NpmTextAdmits}
 use Rattle.npm_sets.specs.NpmMeaning.{alternatives_of}
 use Rattle.npm_sets.specs.Rows.{no_versions}

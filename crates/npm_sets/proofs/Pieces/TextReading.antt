@@ -12,7 +12,7 @@ use Rattle.semver_sets.specs.Division.{HasFirstPiece, IsPieces}
 use Rattle.semver_sets.specs.Merging.{AreSetsOf, no_more, none, one_more}
 use Rattle.semver_sets.specs.RangeSets.{IsRangeValue, sets_of_some, sets_seen}
 use Rattle.semver_sets.specs.declared.set_list.Sets.{Sets}
-use Rattle.semver_sets.specs.Lemmas.Forms.{IsReadEnds}
+use Rattle.semver_sets.specs.Lemmas.Comparators.{IsReadEnds}
 use Rattle.npm_sets.specs.NpmMeaning.{AreNpmSets, IsNpmRefused}
 use Rattle.npm_sets.specs.NpmMeaning.{alternatives_of, piece_comparators, pieces_alternatives}
 use Rattle.npm_sets.specs.NpmMeaning.{with_piece}

@@ -4,21 +4,18 @@ use Rattle.std.proofs.Common.{◌≡◌, ℕ, Bool, true, false, List, [], ◌�
 use Rattle.std.specs.Prelude.{◌&&◌}
 use Rattle.std.specs.List.{AllByRecursion}
 use Rattle.std.proofs.lemmas.List.{append-nil, append_assoc}
-use Rattle.semver_cuts.specs.declared.cut.Cut.{Cut}
-use Rattle.semver_cuts.specs.Ends.{span_between}
 use Rattle.semver_texts.specs.Characters.{BeginsWithNo}
 use Rattle.semver_texts.specs.Lemmas.Public.{answer}
-use Rattle.semver_texts.specs.Version.{VersionValue}
 use Rattle.semver_texts.specs.declared.parse.fault.Fault.{Fault}
 use Rattle.semver_sets.specs.Comparator.{Comparator}
-use Rattle.semver_sets.specs.Merging.{IsCommonSpan}
+use Rattle.semver_sets.specs.Merging.{IsCommonSpan, IsNarrowedTo}
 use Rattle.semver_sets.specs.PartialText.{Partial}
 use Rattle.semver_sets.specs.declared.read.Unread.{Unread}
 use Rattle.semver_sets.specs.declared.read.Unread.TheVariants.{OutOfMemory, Refused}
-use Rattle.semver_sets.specs.Lemmas.Forms.{IsReadEnds}
+use Rattle.semver_sets.specs.Lemmas.Comparators.{IsReadEnds}
 use Rattle.npm_sets.specs.NpmMeaning.{comparators_of, is_unknown, with_word, word_comparator}
 use Rattle.npm_sets.specs.PartialTexts.{partial_of}
-use Rattle.npm_sets.specs.Private.ReadViews.{AreRead, IsNarrowedTo, IsRead, IsWordRead}
+use Rattle.npm_sets.specs.Private.ReadViews.{AreRead, IsRead, IsWordRead}
 use Rattle.npm_sets.specs.Private.ReadViews.{has_some, prepend}
 use Rattle.npm_sets.specs.Rows.{lead_comparator}
 use Rattle.npm_sets.specs.WordTexts.{Word, chunks_of, is_space, words_of}
@@ -46,13 +43,6 @@ all-last P [] x all here = (here, tt)
 all-last P (y ∷ done) x all here = (all.0, all-last P done x all.1 here)
 
 -- ---- one word
-
--- a comparator with these ends is merged
-pub narrowed : (before after : Option Comparator) (low high : Cut VersionValue) (c : Comparator) → low ≡ c.lower
-    → high ≡ c.upper
-    → ((comparators : List Comparator) → IsCommonSpan comparators before
-    → IsCommonSpan (comparators ++ span_between low high ∷ []) after) → IsNarrowedTo before c after
-narrowed before after low high c h1 h2 h3 = grind arith
 
 -- a word whose operand is a partial gives the comparator of its row
 pub word-read : (options : NpmOptions) (lead : Lead) (operand : List ℕ) (p : Partial) (c : Comparator)

@@ -1,38 +1,33 @@
 -- What a contract sees of the results of the private readers.
 use Rattle.std.specs.Prelude.{◌≡◌, ◌≤◌, ◌+◌, ℕ, Bool, true, false, List, [], ◌∷◌, ◌++◌, Option, Some, None}
-use Rattle.std.specs.Prelude.{◌==◌, ◌&&◌, ◌||◌, Result, Ok, Err, IfSome}
+use Rattle.std.specs.Prelude.{◌==◌, ◌&&◌, ◌||◌, Result, Ok, Err}
 use Rattle.std.specs.Borrow.{Bor}
 use Rattle.std.specs.List.{AllByRecursion}
-use Rattle.semver_cuts.specs.declared.cut.Cut.{Cut}
-use Rattle.semver_cuts.specs.declared.cut.Cut.TheVariants as Cuts
 use Rattle.semver_cuts.specs.Ends.{Ends}
 use Rattle.semver_texts.specs.Characters.{caret, tilde}
-use Rattle.semver_texts.specs.Reading.{Read, read_extras}
-use Rattle.semver_texts.specs.Version.{VersionValue, least_of, release}
+use Rattle.semver_texts.specs.Reading.{Read}
+use Rattle.semver_texts.specs.Version.{VersionValue, without_build}
 use Rattle.semver_texts.specs.declared.TheConstants.{MAX_SAFE_INTEGER}
 use Rattle.semver_texts.specs.declared.parse.fault.Fault.{Fault}
 use Rattle.semver_sets.specs.Comparator.{Comparator}
-use Rattle.semver_sets.specs.Lemmas.Forms.{IsReadEnds}
-use Rattle.semver_sets.specs.Merging.{AreSetsOf, IsCommonSpan}
+use Rattle.semver_sets.specs.Lemmas.Comparators.{IsReadEnds}
+use Rattle.semver_sets.specs.Merging.{AreSetsOf, IsCommonSpan, IsNarrowedTo}
 use Rattle.semver_sets.specs.PartialText.{Partial}
+use Rattle.semver_sets.specs.WordEnds.{ends_seen, partial_seen, written}
 use Rattle.semver_sets.specs.declared.read.full.FullLead.{FullLead}
 use Rattle.semver_sets.specs.declared.read.full.FullLead.TheVariants as FullLeads
 use Rattle.semver_sets.specs.declared.read.Unread.{Unread}
 use Rattle.semver_sets.specs.declared.read.Unread.TheVariants.{OutOfMemory, Refused}
 use Rattle.npm_sets.specs.NpmMeaning.{is_unknown}
-use Rattle.npm_sets.specs.PartialTexts.{number_component, with_extras}
-use Rattle.npm_sets.specs.declared.ends.WordEnds.{WordEnds}
-use Rattle.npm_sets.specs.declared.ends.WordCut.{WordCut}
-use Rattle.npm_sets.specs.declared.ends.WordCut.TheVariants as WordCuts
-use Rattle.npm_sets.specs.declared.ends.WordVersion.{WordVersion}
-use Rattle.npm_sets.specs.declared.ends.WordVersion.TheVariants as WordVersions
-use Rattle.npm_sets.specs.declared.partial.Partial.{Partial as CodePartial}
+use Rattle.npm_sets.specs.PartialTexts.{number_component}
+use Rattle.semver_sets.specs.declared.word.ends.WordEnds.{WordEnds}
+use Rattle.semver_sets.specs.declared.word.ends.WordCut.{WordCut}
+use Rattle.semver_sets.specs.declared.word.ends.WordCut.TheVariants as WordCuts
+use Rattle.semver_sets.specs.declared.word.ends.WordVersion.{WordVersion}
+use Rattle.semver_sets.specs.declared.word.ends.WordVersion.TheVariants as WordVersions
+use Rattle.semver_sets.specs.declared.partial.Partial.{Partial as CodePartial}
 
 -- ---- partials
-
--- a partial, with the extras that its text of extras writes
-abbrev pub partial_seen : CodePartial → Partial
-partial_seen p = with_extras p.major p.minor p.patch p.extras.now
 
 -- a partial and the rest
 abbrev pub read_partial_seen : Result (CodePartial × Bor (List ℕ)) Fault → Read Partial
@@ -52,37 +47,11 @@ abbrev pub some_seen : Option (Bor (List ℕ)) → Option (List ℕ)
 some_seen None = None
 some_seen (Some r) = Some r.now
 
--- no number is above the limit
-pub record IsSound (p : CodePartial) : Type 0 where
-  pub major : IfSome p.major (λ n. n ≤ MAX_SAFE_INTEGER)
-  pub minor : IfSome p.minor (λ n. n ≤ MAX_SAFE_INTEGER)
-  pub patch : IfSome p.patch (λ n. n ≤ MAX_SAFE_INTEGER)
-
 -- ---- ends
 
 -- three numbers with the prerelease that a text of extras writes
 abbrev pub full_version : ℕ → ℕ → ℕ → List ℕ → VersionValue
-full_version major minor patch extras = record {
-  major = major;
-  minor = minor;
-  patch = patch;
-  pre_release = (read_extras extras).0.0;
-  build = [];
-}
-
-abbrev pub version_seen : WordVersion → VersionValue
-version_seen (WordVersions.Release major minor patch) = release major minor patch
-version_seen (WordVersions.Least major minor patch) = least_of major minor patch
-version_seen (WordVersions.Full major minor patch extras) = full_version major minor patch extras.now
-
-abbrev pub cut_seen : WordCut → Cut VersionValue
-cut_seen WordCuts.Start = Cuts.Start
-cut_seen (WordCuts.Before v) = Cuts.Before (version_seen v)
-cut_seen (WordCuts.After v) = Cuts.After (version_seen v)
-cut_seen WordCuts.End = Cuts.End
-
-abbrev pub ends_seen : WordEnds → Comparator
-ends_seen e = record { lower = cut_seen e.lower; upper = cut_seen e.upper }
+full_version major minor patch extras = without_build (written major minor patch extras)
 
 -- ---- lists
 
@@ -107,6 +76,7 @@ abbrev pub IsSmallVersion : WordVersion → Type 0
 IsSmallVersion (WordVersions.Release major minor patch) = AreSmall major minor patch
 IsSmallVersion (WordVersions.Least major minor patch) = AreSmall major minor patch
 IsSmallVersion (WordVersions.Full major minor patch extras) = AreSmall major minor patch
+IsSmallVersion (WordVersions.Bare major minor patch extras) = AreSmall major minor patch
 
 abbrev pub IsSmallCut : WordCut → Type 0
 IsSmallCut WordCuts.Start = Unit {0}
@@ -119,11 +89,6 @@ pub record AreSmallEnds (e : WordEnds) : Type 0 where
   pub upper : IsSmallCut e.upper
 
 -- ---- results of reading
-
--- the common span before and after one more comparator
-abbrev pub IsNarrowedTo : Option Comparator → Comparator → Option Comparator → Type 0
-IsNarrowedTo before c after = (comparators : List Comparator) → IsCommonSpan comparators before
-    → IsCommonSpan (comparators ++ c ∷ []) after
 
 -- the result of reading a word: `true` if its comparator was merged, and `false` if the word is ignored
 abbrev pub IsWordRead : Bool → Result Comparator Fault → Option Comparator → Option Comparator → Result Bool Unread

@@ -60,6 +60,5 @@ pub fn read_full(text: &[u8], options: NpmOptions) -> Option<(Form, u64, u64, u6
     let (major, rest) = read_dotted(options.loose, version)?;
     let (minor, rest) = read_dotted(options.loose, rest)?;
     let patch = read_last(options.loose, rest)?;
-    let form = full_form(lead, major, minor, patch)?;
-    Some((form, major, minor, patch))
+    Some((full_form(lead, major, minor, patch), major, minor, patch))
 }

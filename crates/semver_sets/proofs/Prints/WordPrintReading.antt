@@ -10,9 +10,8 @@ use Rattle.semver_sets.specs.Division.{IsSimpleText, IsWord, NoneAt, by_operator
 use Rattle.semver_texts.specs.Characters.{IsCleanEnd}
 use Rattle.semver_sets.specs.HyphenRanges.{IsHyphenText}
 use Rattle.semver_sets.specs.Operators.{Operator}
-use Rattle.semver_sets.specs.Forms.{by_row}
 use Rattle.semver_sets.specs.Operators.{operator_row, operator_text}
-use Rattle.semver_sets.specs.PartialText.{IsPartialText, IsUnmarkedPartial, Partial}
+use Rattle.semver_sets.specs.PartialText.{IsPartialText, IsUnmarkedPartial, Partial, by_row}
 use Rattle.semver_texts.specs.Print.{version_text}
 use Rattle.semver_texts.specs.Version.{VersionValue}
 use Rattle.semver_sets.specs.Private.WordReading.{Lead, is_not_blank, operator, read_hyphen, read_lead, read_partial}

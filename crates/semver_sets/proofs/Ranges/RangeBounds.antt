@@ -10,7 +10,7 @@ use Rattle.semver_sets.specs.Meaning.{GiveSet}
 use Rattle.semver_sets.specs.Merging.{AreSetsOf, AreSetsOfText, IsSetOf, no_more, none, one_more}
 use Rattle.semver_sets.specs.RangeSets.{IsRangeSet, IsRangeValue}
 use Rattle.semver_texts.specs.Version.{VersionValue}
-use Rattle.semver_sets.specs.Lemmas.Forms.{IsReadEnds}
+use Rattle.semver_sets.specs.Lemmas.Comparators.{IsReadEnds}
 use Rattle.semver_sets.specs.Lemmas.Merging.{merged-gives}
 use Rattle.semver_sets.proofs.Words.WordBounds.{IsReadWord, word-bounded}
 

@@ -6,7 +6,9 @@ use Rattle.semver_sets.specs.PartialText.{IsLed, IsPartialText, IsUnmarkedPartia
 use Rattle.semver_sets.specs.PartialText.{zeroed}
 use Rattle.semver_texts.specs.IdentifierText.{IsReadIdentifier}
 use Rattle.semver_texts.specs.Lemmas.Public.{build-read, prerelease-read}
-use Rattle.semver_sets.specs.Lemmas.Forms.{IsReadVersion}
+use Rattle.semver_sets.specs.Lemmas.Comparators.{IsReadVersion}
+use Rattle.semver_sets.specs.RangeSets.{IsRangeEnd}
+use Rattle.semver_texts.specs.Version.{without_build}
 
 -- ---- partials
 
@@ -34,3 +36,7 @@ led-read lead text p is = partial-read is.operand p is.read
 
 pub zeroed-read : (p : Partial) → IsReadPartial p → IsReadVersion (zeroed p)
 zeroed-read p is = grind arith
+
+-- without its build
+pub bare-read : (p : Partial) → IsReadPartial p → IsRangeEnd (without_build (zeroed p))
+bare-read p is = grind arith

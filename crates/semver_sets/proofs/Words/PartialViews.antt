@@ -7,9 +7,7 @@ use Rattle.semver_texts.specs.declared.TheConstants.{MAX_SAFE_INTEGER}
 use Rattle.semver_texts.specs.Lemmas.Public.{clean_extras, digit-begins_no_x, digit-no_blank}
 use Rattle.semver_texts.specs.Lemmas.Public.{digit-no_partial_mark, number-digit, number-takes}
 use Rattle.semver_texts.specs.Characters.{BeginsWith, BeginsWithNo, dot, is_blank, is_digit, is_partial_mark, is_x}
-use Rattle.semver_sets.specs.PartialText.{Partial, plain_partial, zeroed}
-use Rattle.semver_sets.specs.Private.WordViews.{IsSound, partial_seen, written_seen}
-use Rattle.semver_sets.specs.declared.partial.Partial.{Partial as CodePartial}
+use Rattle.semver_sets.specs.PartialText.{Partial, plain_partial}
 use Rattle.semver_sets.specs.Private.RangeViews.{IsFullNumbers}
 use Rattle.semver_texts.specs.Reading.{read_extras, read_number}
 use Rattle.semver_texts.specs.Reading.{rest_of, skip_one}
@@ -66,11 +64,6 @@ pub major-and-minor : (text behind second rest : List ℕ) (major minor : Option
     text
 unfolding read_components
 major-and-minor text behind second rest major minor p one dotted two none whole = grind (arith, patch-none)
-
--- ---- the version of a partial
-
-pub sound-version : (p : CodePartial) → IsSound p → written_seen p.version ≡ zeroed (partial_seen p)
-sound-version p is = grind arith
 
 -- ---- full versions
 

@@ -1,42 +1,51 @@
 -- What a word of a range text writes: a comparator with ends that a range can have, or none.
 use native.Mathlib.Omega.{arith}
-use Rattle.std.proofs.Common.{List, ℕ, Option, Some, None, sym, subst}
+use Rattle.std.proofs.Common.{List, ◌+◌, ℕ, Option, Some, None, sym, subst}
+use Rattle.std.specs.Prelude.{IfSome}
 use Rattle.semver_texts.specs.Version.{VersionValue}
 use Rattle.semver_sets.specs.Comparator.{Comparator}
 use Rattle.semver_sets.specs.Division.{IsWord, hyphen_range, ignored, simple}
-use Rattle.semver_sets.specs.Forms.{comparator_of}
-use Rattle.semver_sets.specs.HyphenRanges.{IsHyphenText, IsLeftText, left_cut, right_row}
-use Rattle.semver_sets.specs.Lemmas.Forms.{IsReadEnds, IsReadVersion, form-read}
+use Rattle.semver_sets.specs.HyphenRanges.{IsHyphenText, IsLeftText, left_cut, right_cut, right_row}
+use Rattle.semver_sets.specs.Lemmas.Comparators.{IsReadComparator, IsReadEnds, least-end, version-end}
 use Rattle.semver_sets.specs.PartialText.{Partial, zeroed}
-use Rattle.semver_sets.specs.RangeSets.{IsRangeCut}
-use Rattle.semver_sets.specs.declared.word.form.Form.{Form}
-use Rattle.semver_sets.specs.declared.word.form.Form.TheVariants as Forms
-use Rattle.semver_sets.proofs.Words.PartialBounds.{partial-read, zeroed-read}
-use Rattle.semver_sets.proofs.Words.SimpleHolds.{simple-form}
+use Rattle.semver_sets.specs.RangeSets.{IsRangeCut, IsRangeEnd}
+use Rattle.semver_sets.proofs.Words.PartialBounds.{IsReadComponent, IsReadPartial, partial-read, zeroed-read}
+use Rattle.semver_sets.proofs.Words.SimpleHolds.{simple-read}
 
 -- the ends of a word, where it writes a comparator
 abbrev pub IsReadWord : Option Comparator → Type 0
 IsReadWord None = Unit {0}
 IsReadWord (Some c) = IsReadEnds c
 
-form-word : (form : Option Form) (v : VersionValue) → IsReadVersion v → IsReadWord (comparator_of form v)
-form-word form v h1 = grind (arith, form-read)
+simple-word : (c : Option Comparator) → IfSome c IsReadComparator → IsReadWord c
+simple-word None is = tt
+simple-word (Some c) is = is.ends
 
 left-read : (text : List ℕ) (left : Option Partial) → IsLeftText text left → IsRangeCut (left_cut left)
-left-read text left h1 = grind (arith, form-read, zeroed-read, partial-read)
+left-read text left h1 = grind (arith, version-end, zeroed-read, partial-read)
+
+right-end : (major minor patch : Option ℕ) (z : VersionValue) → IsReadComponent major → IsReadComponent minor
+    → IsRangeEnd z → IsRangeCut (right_row major minor patch z)
+right-end (Some m) (Some n) None z a b is = least-end m (n + 1) 0 (omega (arith, a), omega (arith, b), omega arith)
+right-end (Some m) None None z a b is = least-end (m + 1) 0 0 (omega (arith, a), omega arith, omega arith)
+right-end None None None z a b is = least-end 0 0 0 (omega arith, omega arith, omega arith)
+right-end None (Some n) None z a b is = is
+right-end (Some m) (Some n) (Some p) z a b is = is
+right-end (Some m) None (Some p) z a b is = is
+right-end None None (Some p) z a b is = is
+right-end None (Some n) (Some p) z a b is = is
+
+right-read : (p : Partial) → IsReadPartial p → IsRangeCut (right_cut p)
+right-read p is = right-end p.major p.minor p.patch (zeroed p) is.major is.minor (version-end (zeroed p) (zeroed-read p is))
 
 hyphen-word : (text : List ℕ) (c : Option Comparator) → IsHyphenText text c → IsReadWord c
 hyphen-word text c is =
-    let right = zeroed-read is.right (partial-read is.right_text is.right is.right_read) in
-    let form = right_row is.right.major is.right.minor is.right.patch in
     subst IsReadWord (sym is.says) (record {
       lower = left-read is.left_text is.left is.left_read;
-      upper = (form-read form (zeroed is.right) right).upper;
+      upper = right-read is.right (partial-read is.right_text is.right is.right_read);
     })
 
 pub word-bounded : (word rest : List ℕ) (c : Option Comparator) → IsWord word rest c → IsReadWord c
 word-bounded word rest c (hyphen_range is clean) = hyphen-word word c is
-word-bounded word rest c (simple none is clean) =
-    let has = simple-form word c is in
-    subst IsReadWord (sym has.same) (form-word has.form has.version has.read)
+word-bounded word rest c (simple none is clean) = simple-word c (simple-read word c is)
 word-bounded word rest c (ignored none nothing solid clean same) = subst IsReadWord (sym same) tt

@@ -7,17 +7,14 @@ use Rattle.std.proofs.lemmas.Option.{same_Some}
 use Rattle.semver_texts.specs.Characters.{BeginsWithNo, is_blank, is_digit}
 use Rattle.semver_sets.specs.PartialText.{Partial}
 use Rattle.semver_texts.specs.Reading.{begins, read_number, rest_of, skip_one}
-use Rattle.semver_sets.specs.Private.WordReading.{Lead, ReadPartial, Word, lead_comparator, no_lead, operator}
+use Rattle.semver_sets.specs.Private.WordReading.{Lead, ReadPartial, Word, lead_comparator, no_lead}
 use Rattle.semver_sets.specs.Private.WordReading.{is_not_blank, or_else, or_ignored, read_component}
 use Rattle.semver_sets.specs.Private.WordReading.{read_components, read_hyphen, read_lead, read_word}
 use Rattle.semver_sets.specs.Private.WordReading.{read_operator, read_partial, read_right, read_simple, said}
 use Rattle.semver_sets.specs.Private.WordReading.{said_hyphen, up_to_clean, with_left}
-use Rattle.semver_sets.specs.Private.WordViews.{lead_seen, sides_comparator}
+use Rattle.semver_sets.specs.Private.WordViews.{lead_seen}
 use Rattle.semver_sets.specs.declared.word.Lead.{Lead as CodeLead}
 use Rattle.semver_sets.specs.declared.word.Lead.TheVariants.{Plain}
-use Rattle.semver_sets.specs.declared.word.ends.Sides.{Sides}
-use Rattle.semver_sets.specs.declared.word.ends.Sides.TheVariants as AllSides
-use Rattle.semver_texts.specs.Version.{VersionValue}
 use Rattle.semver_sets.proofs.Words.LeadReading.{lead-not_partial, lead-plain}
 use Rattle.semver_texts.specs.Lemmas.Public.{with_no-begins}
 
@@ -30,12 +27,6 @@ lead-cases l = grind arith
 -- the plain one of the code
 pub plain-seen : (l : CodeLead) → lead_seen l ≡ no_lead → l ≡ Plain
 plain-seen l h1 = grind arith
-
--- ---- ends
-
--- all sides but one have a comparator
-pub some-comparator : (s : Sides) (v w : VersionValue) → (s ≡ AllSides.Nothing → ⊥) → sides_comparator s v w ≡ None → ⊥
-some-comparator s v w h1 h2 = grind arith
 
 -- ---- hyphens
 

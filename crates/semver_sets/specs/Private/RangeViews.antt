@@ -1,5 +1,5 @@
 -- What the private functions compute that make the sets of a range.
-use Rattle.std.specs.Prelude.{◌≡◌, ◌≤◌, ℕ, Bool, List, [], ◌∷◌, ◌++◌, if◌then◌else◌, Option, Some, None}
+use Rattle.std.specs.Prelude.{◌≡◌, ℕ, Bool, List, [], ◌∷◌, ◌++◌, if◌then◌else◌, Option, Some, None}
 use Rattle.std.specs.Prelude.{Result, Ok, Err}
 use Rattle.semver_cuts.specs.declared.cut.Cut.{Cut}
 use Rattle.semver_cuts.specs.Ends.{Ends, IsCutBelow, span_between}
@@ -11,7 +11,7 @@ use Rattle.semver_sets.specs.Merging.{AreSetsOfText, IsSetOf}
 pub use Rattle.semver_sets.specs.Merging.{IsCommonSpan, IsSpanOf}
 use Rattle.semver_sets.specs.RangeSets.{IsRangeValue, sets_seen}
 use Rattle.semver_sets.specs.PartialText.{plain_partial}
-use Rattle.semver_texts.specs.Version.{VersionValue, release}
+use Rattle.semver_texts.specs.Version.{VersionValue}
 use Rattle.semver_texts.specs.Characters.{BeginsWith, is_digit}
 use Rattle.semver_sets.specs.Private.PieceReading.{piece_at}
 use Rattle.semver_sets.specs.Private.WordViews.{listed}

@@ -8,9 +8,8 @@ use Rattle.semver_sets.specs.HyphenRanges.{hyphen_comparator}
 use Rattle.semver_texts.specs.IdentifierValue.{IdentifierValue}
 use Rattle.semver_sets.specs.Operators.{Operator, equal, greater, greater_or_equal, less}
 use Rattle.semver_sets.specs.Operators.{less_or_equal, operator_row, plain_row}
-use Rattle.semver_sets.specs.Forms.{by_row}
-use Rattle.semver_sets.specs.declared.word.form.Form.{Form}
-use Rattle.semver_sets.specs.PartialText.{Partial, plain_partial}
+use Rattle.semver_sets.specs.PartialText.{Partial, by_row, plain_partial}
+use Rattle.semver_texts.specs.Version.{VersionValue}
 use Rattle.semver_sets.specs.TildeRanges.{tilde_greater_row, tilde_row}
 use Rattle.semver_texts.specs.Reading.{Read, begins, is_clean_end, read_extras, read_number, rest_of}
 use Rattle.semver_texts.specs.Reading.{skip_one}
@@ -135,12 +134,12 @@ read_lead (b ∷ rest) =
     operator_lead (read_operator (b ∷ rest)) (b ∷ rest)
 
 -- the row of a lead
-abbrev pub lead_row : Lead → (major minor patch : Option ℕ) → Option Form
-lead_row no_lead major minor patch = plain_row major minor patch
-lead_row (operator o) major minor patch = operator_row o major minor patch
-lead_row tilde_lead major minor patch = tilde_row major minor patch
-lead_row tilde_greater_lead major minor patch = tilde_greater_row major minor patch
-lead_row caret_lead major minor patch = caret_row major minor patch
+abbrev pub lead_row : Lead → (major minor patch : Option ℕ) (z : VersionValue) → Option Comparator
+lead_row no_lead major minor patch z = plain_row major minor patch z
+lead_row (operator o) major minor patch z = operator_row o major minor patch z
+lead_row tilde_lead major minor patch z = tilde_row major minor patch z
+lead_row tilde_greater_lead major minor patch z = tilde_greater_row major minor patch z
+lead_row caret_lead major minor patch z = caret_row major minor patch z
 
 -- the comparator that a lead and a partial give
 abbrev pub lead_comparator : Lead → Partial → Option Comparator

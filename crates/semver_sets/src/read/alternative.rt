@@ -4,22 +4,21 @@
 //! functions with `#[inline(never)]`, so that it takes no stack in the loop over the words.
 //!
 //! See docs/DECISIONS.md, "Ties between equal ends are settled by position".
-ghost use Rattle.std.specs.Prelude.{◌≡◌, ◌++◌, ◌∷◌, [], IfOk, List, None, OnOk};
+ghost use Rattle.std.specs.Prelude.{◌≡◌, IfOk, None, OnErr, OnOk};
 ghost use Rattle.semver_cuts.specs.Ends.{span_between};
 ghost use Rattle.semver_cuts.specs.KeptEnds.{IsEarlierLeast, IsLaterGreatest};
 ghost use Rattle.semver_texts.specs.Characters.{BeginsWithNo, is_blank};
 ghost use Rattle.semver_texts.specs.Comparison.{version_cmp};
 ghost use Rattle.semver_texts.specs.Reading.{rest_of};
-ghost use Rattle.semver_sets.specs.Comparator.{Comparator};
-ghost use Rattle.semver_sets.specs.Merging.{IsCommonSpan, IsSpanOf};
+ghost use Rattle.semver_sets.specs.Merging.{IsNarrowedTo, IsSpanOf};
 ghost use Rattle.semver_sets.specs.Private.RangeViews.{IsNarrowed, IsSetOfAlternative, IsSpanOfAlternative};
 ghost use Rattle.semver_sets.specs.Private.WordReading as Reading;
 ghost use Rattle.semver_sets.specs.Private.WordReading.{leading_or_none, read_right};
-ghost use Rattle.semver_sets.specs.Private.WordViews.{ends_seen};
+ghost use Rattle.semver_sets.specs.Private.WordViews.{some_ends};
+ghost use Rattle.semver_sets.specs.WordEnds.{ends_seen};
 
-use crate::word::{
-    Sides, WordEnds, begins_comparator, read_leading_hyphen, read_word, skip_to_blank,
-};
+use crate::word::ends::WordEnds;
+use crate::word::{begins_comparator, read_leading_hyphen, read_word, skip_to_blank};
 use semver_cuts::{Cut, Span};
 use semver_texts::end::EndVersion;
 use semver_texts::parse::skip_blanks;
@@ -71,7 +70,7 @@ fn merge_leading_hyphen<'a>(
         common.new) }
 {
     let (ends, rest) = read_leading_hyphen(text);
-    common.narrow(alloc, ends)?;
+    merge_some(alloc, ends, common)?;
     Ok(skip_blanks(rest))
 }
 
@@ -88,8 +87,23 @@ fn merge_word<'a>(
     ensures common { OnOk result (IsNarrowed common.old (Reading.read_word text.now).0 common.new) }
 {
     let (ends, rest) = read_word(text);
-    common.narrow(alloc, ends)?;
+    merge_some(alloc, ends, common)?;
     Ok(skip_blanks(rest))
+}
+
+// Merges the comparator of a word, if the word gives one.
+#[inline(always)]
+fn merge_some(
+    alloc: Global,
+    ends: Option<WordEnds>,
+    common: &mut CommonSpan,
+) -> Result<(), AllocError>
+    ensures { OnOk result (IsNarrowed common.old (some_ends ends.entry) common.new) }
+{
+    match ends {
+        Some(ends) => common.narrow(alloc, ends),
+        None => Ok(()),
+    }
 }
 
 /// The span that the comparators so far have in common, and whether there was a comparator. It may contain no cut.
@@ -129,17 +143,23 @@ impl CommonSpan {
         }
     }
 
-    // Intersects the span with the comparator of one more word, if that gives one. Of equal lower ends the later is
-    // kept, and of equal upper ends the earlier.
+    /// Intersects the span with one more comparator, which a word writes. Of equal lower ends the later is kept, and of
+    /// equal upper ends the earlier.
+    ///
+    /// # Errors
+    ///
+    /// Returns an error if an allocation fails. The span is then as before.
+    ///
+    /// # Memory
+    ///
+    /// Allocates only for the prerelease and the build of an end.
     #[inline(always)]
-    fn narrow(&mut self, alloc: Global, word: WordEnds) -> Result<(), AllocError>
-        ensures { OnOk result (IsNarrowed self.old (ends_seen word.entry) self.new) }
+    pub fn narrow(&mut self, alloc: Global, word: WordEnds) -> Result<(), AllocError>
+        ensures merged { OnOk result (IsNarrowedTo self.old (ends_seen word.entry) self.new) }
+        ensures unchanged { OnErr result (self.new ≡ self.old) }
     {
-        if let Sides::Nothing = word.sides {
-            return Ok(());
-        }
-        let lower = word.lower_cut(alloc)?;
-        let upper = word.upper_cut(alloc)?;
+        let lower = word.lower.cut(alloc)?;
+        let upper = word.upper.cut(alloc)?;
         self.narrow_to(lower, upper);
         Ok(())
     }
@@ -152,8 +172,7 @@ impl CommonSpan {
     /// Does not allocate.
     #[inline(always)]
     pub fn narrow_to(&mut self, lower: Cut<EndVersion>, upper: Cut<EndVersion>)
-        ensures { (comparators : List Comparator) → IsCommonSpan comparators self.old
-            → IsCommonSpan (comparators ++ span_between lower upper ∷ []) self.new }
+        ensures { IsNarrowedTo self.old (span_between lower upper) self.new }
     {
         keep_greatest(&mut self.lower, lower);
         keep_least(&mut self.upper, upper);

@@ -2,7 +2,7 @@
 //! and its set is built at once. Each kind has a function of its own.
 //!
 //! `#[inline(always)]`: the numbers stay in registers, and the set is built in the place of the caller's result.
-ghost use Rattle.std.specs.Prelude.{◌≡◌, IfSome, IsTrue, Some};
+ghost use Rattle.std.specs.Prelude.{◌≡◌, IfSome, Some};
 ghost use Rattle.semver_cuts.specs.Ends.{IsCutBelow};
 ghost use Rattle.semver_cuts.specs.declared.cut.Cut.TheVariants.{After, Before};
 ghost use Rattle.semver_texts.specs.Comparison.{version_cmp};
@@ -12,8 +12,6 @@ ghost use Rattle.semver_sets.specs.FullTexts as FullTexts;
 ghost use Rattle.semver_sets.specs.FullTexts.{AreInLimit, IsFullText};
 ghost use Rattle.semver_sets.specs.RangeSets.{IsRangeSet};
 
-pub use crate::word::form::Form;
-use crate::word::{caret_form, plain_form, tilde_form};
 use semver_cuts::{Cut, Span};
 use semver_texts::end::EndVersion;
 use semver_texts::parse::number::read_number;
@@ -29,21 +27,30 @@ pub enum FullLead {
     Nothing,
 }
 
-/// Returns the form that the row of a lead gives for a full version, if [`full_set`] builds its set.
+/// Which set a full version has. The examples are for `1.2.3`.
+#[derive(Clone, Copy)]
+pub enum Form {
+    /// `>=1.2.3 <=1.2.3`
+    Exactly,
+    /// `>=1.2.3 <2.0.0-0`
+    ToNextMajor,
+    /// `>=1.2.3 <1.3.0-0`
+    ToNextMinor,
+    /// `>=1.2.3 <1.2.4-0`
+    ToNextPatch,
+}
+
+/// Returns which set the row of a lead gives for a full version.
 #[inline(always)]
-pub fn full_form(lead: FullLead, major: u64, minor: u64, patch: u64) -> Option<Form>
-    ensures row { IfSome result (λ form. FullTexts.full_form lead major minor patch ≡ Some form) }
-    ensures full { IfSome result (λ form. IsTrue (FullTexts.is_full_form form)) }
+pub fn full_form(lead: FullLead, major: u64, minor: u64, patch: u64) -> Form
+    ensures { FullTexts.full_row lead major minor patch ≡ Some (FullTexts.full_set result major minor patch) }
 {
-    let components = (Some(major), Some(minor), Some(patch));
-    let form = match lead {
-        FullLead::Caret => caret_form(components)?,
-        FullLead::Tilde => tilde_form(components)?,
-        FullLead::Nothing => plain_form(components)?,
-    };
-    match form {
-        Form::Exactly | Form::ToNextMajor | Form::ToNextMinor | Form::ToNextPatch => Some(form),
-        _ => None,
+    match (lead, major, minor) {
+        (FullLead::Nothing, _, _) => Form::Exactly,
+        (FullLead::Tilde, _, _) => Form::ToNextMinor,
+        (FullLead::Caret, 0, 0) => Form::ToNextPatch,
+        (FullLead::Caret, 0, _) => Form::ToNextMinor,
+        (FullLead::Caret, _, _) => Form::ToNextMajor,
     }
 }
 
@@ -66,14 +73,12 @@ pub fn read_full(text: &[u8]) -> Option<(Form, u64, u64, u64)>
     let Ok((patch, [])) = read_number(rest) else {
         return None;
     };
-    let form = full_form(lead, major, minor, patch)?;
-    Some((form, major, minor, patch))
+    Some((full_form(lead, major, minor, patch), major, minor, patch))
 }
 
 /// Returns the set of a form and a full version: `>=1.2.3 <2.0.0-0` for `^1.2.3`.
 #[inline(always)]
 pub fn full_set(form: Form, major: u64, minor: u64, patch: u64) -> Span<EndVersion>
-    requires full { IsTrue (FullTexts.is_full_form form) }
     requires set { IsRangeSet (FullTexts.full_set form major minor patch) }
     requires limit { AreInLimit major minor patch }
     ensures { result ≡ FullTexts.full_set form major minor patch }
@@ -83,7 +88,7 @@ pub fn full_set(form: Form, major: u64, minor: u64, patch: u64) -> Span<EndVersi
         Form::ToNextMajor => set_up_to(version, (major + 1, 0, 0)),
         Form::ToNextMinor => set_up_to(version, (major, minor + 1, 0)),
         Form::ToNextPatch => set_up_to(version, (major, minor, patch + 1)),
-        _ => set_of_one(version),
+        Form::Exactly => set_of_one(version),
     }
 }
 

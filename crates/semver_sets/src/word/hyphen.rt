@@ -3,16 +3,15 @@
 //! `#[inline(always)]`: see `partial.rt`. `read_right_operand` is called only if there is a hyphen, and through a
 //! function of one line: the toolchain clears the place of a result where the calling function begins, and so only if
 //! it is called.
-ghost use Rattle.std.specs.Prelude.{◌≡◌, ◌∷◌, IfSome, IsTrue, Some, None};
+ghost use Rattle.std.specs.Prelude.{◌≡◌, ◌∷◌, IfSome, Some, None};
 ghost use Rattle.semver_texts.specs.Characters.{hyphen};
 ghost use Rattle.semver_sets.specs.HyphenRanges as HyphenRanges;
 ghost use Rattle.semver_sets.specs.Private.WordReading as Reading;
-ghost use Rattle.semver_sets.specs.Private.WordViews.{HasUpperAlone, IsSound, ends_seen, is_upper, partial_seen};
 ghost use Rattle.semver_sets.specs.Private.WordViews.{read_partial_seen, word_seen};
+ghost use Rattle.semver_sets.specs.WordEnds.{IsSound, cut_seen, ends_seen, partial_seen};
 
-use crate::partial::{Components, Partial, read_clean_partial};
-use crate::word::ends::{WordEnds, nothing};
-use crate::word::form::Form;
+use crate::partial::{Partial, read_clean_partial};
+use crate::word::ends::{WordCut, WordEnds, WordVersion};
 use semver_texts::parse::skip_some_blanks;
 
 // `3` and ` <5` of ` - 3 <5`: the right side of a hyphen range, with the blanks around the hyphen
@@ -48,12 +47,24 @@ fn read_right_operand(text: &[u8]) -> Option<(Partial, &[u8])>
 
 // The hyphen range without a left side that a text can begin with: ` - 3`
 #[inline(always)]
-pub(crate) fn read_leading_hyphen(text: &[u8]) -> (WordEnds, &[u8])
+pub(crate) fn read_leading_hyphen(text: &[u8]) -> (Option<WordEnds>, &[u8])
     ensures { word_seen result ≡ Reading.leading_or_none (Reading.read_right text.now) text.now }
 {
     match read_right(text) {
-        Some((right, rest)) => (below_right(right), rest),
-        None => (nothing(), text),
+        Some((right, rest)) => (Some(below_right(right)), rest),
+        None => (None, text),
+    }
+}
+
+// ` - 3` is `<4.0.0-0`.
+#[inline(always)]
+fn below_right<'a>(right: Partial<'a>) -> WordEnds<'a>
+    requires { IsSound right }
+    ensures { ends_seen result ≡ HyphenRanges.hyphen_comparator None (partial_seen right.entry) }
+{
+    WordEnds {
+        lower: WordCut::Start,
+        upper: right_cut(right),
     }
 }
 
@@ -63,31 +74,26 @@ pub(crate) fn hyphen_ends<'a>(left: Partial<'a>, right: Partial<'a>) -> WordEnds
     requires left { IsSound left }
     requires right { IsSound right }
     ensures { ends_seen result
-        ≡ Some (HyphenRanges.hyphen_comparator (Some (partial_seen left.entry)) (partial_seen right.entry)) }
+        ≡ HyphenRanges.hyphen_comparator (Some (partial_seen left.entry)) (partial_seen right.entry) }
 {
-    below_right(right).with_lower(left.version)
+    WordEnds {
+        lower: WordCut::Before(left.full()),
+        upper: right_cut(right),
+    }
 }
 
-// ` - 3` is `<4.0.0-0`.
+// Where a hyphen range ends.
 #[inline(always)]
-fn below_right(right: Partial) -> WordEnds
+fn right_cut<'a>(right: Partial<'a>) -> WordCut<'a>
     requires { IsSound right }
-    ensures ends { ends_seen result ≡ Some (HyphenRanges.hyphen_comparator None (partial_seen right.entry)) }
-    ensures sides { HasUpperAlone result.sides }
+    ensures { cut_seen result ≡ HyphenRanges.right_cut (partial_seen right.entry) }
 {
-    right_form(right.components()).ends(right.version)
-}
-
-// The form of a right side alone.
-#[inline(always)]
-fn right_form(components: Components) -> Form
-    ensures form { result ≡ HyphenRanges.right_row components.0 components.1 components.2 }
-    ensures upper { IsTrue (is_upper result) }
-{
-    match components {
-        (None, None, None) => Form::BelowLeast,
-        (Some(_), None, None) => Form::BelowNextMajor,
-        (Some(_), Some(_), None) => Form::BelowNextMinor,
-        _ => Form::AtMost,
+    match (right.major, right.minor, right.patch) {
+        (None, None, None) => WordCut::Before(WordVersion::Least(0, 0, 0)),
+        (Some(major), None, None) => WordCut::Before(WordVersion::Least(major + 1, 0, 0)),
+        (Some(major), Some(minor), None) => {
+            WordCut::Before(WordVersion::Least(major, minor + 1, 0))
+        }
+        _ => WordCut::After(right.full()),
     }
 }

@@ -3,53 +3,72 @@
 //! `#[inline(always)]`: see `partial.rt`.
 ghost use Rattle.std.specs.Prelude.{◌≡◌};
 ghost use Rattle.semver_sets.specs.Operators as Operators;
+ghost use Rattle.semver_sets.specs.PartialText.{by_row};
+ghost use Rattle.semver_sets.specs.WordEnds.{IsSound, partial_seen};
+ghost use Rattle.semver_sets.specs.Private.WordViews.{some_ends};
 
-use crate::partial::Components;
-use crate::word::form::Form;
+use crate::partial::Partial;
+use crate::word::ends as ends;
+use crate::word::ends::{WordEnds, WordVersion};
 
-// The form of a partial after `>`.
+// The ends of a partial after `>=`.
 #[inline(always)]
-pub(crate) fn above_form(components: Components) -> Option<Form>
-    ensures { result ≡ Operators.greater_row components.0 components.1 components.2 }
+pub(crate) fn at_least_ends<'a>(partial: Partial<'a>) -> Option<WordEnds<'a>>
+    requires { IsSound partial }
+    ensures { some_ends result ≡ by_row Operators.greater_or_equal_row (partial_seen partial.entry) }
 {
-    match components {
-        (Some(_), Some(_), None) => Some(Form::FromNextMinor),
-        (Some(_), None, None) => Some(Form::FromNextMajor),
-        _ => Some(Form::Above),
+    Some(ends::at_least(partial.full()))
+}
+
+// After `>`.
+#[inline(always)]
+pub(crate) fn above_ends<'a>(partial: Partial<'a>) -> Option<WordEnds<'a>>
+    requires { IsSound partial }
+    ensures { some_ends result ≡ by_row Operators.greater_row (partial_seen partial.entry) }
+{
+    match (partial.major, partial.minor, partial.patch) {
+        (Some(major), Some(minor), None) => {
+            Some(ends::at_least(WordVersion::Release(major, minor + 1, 0)))
+        }
+        (Some(major), None, None) => Some(ends::at_least(WordVersion::Release(major + 1, 0, 0))),
+        _ => Some(ends::above(partial.full())),
     }
 }
 
 // After `<`.
 #[inline(always)]
-pub(crate) fn below_form(components: Components) -> Option<Form>
-    ensures { result ≡ Operators.less_row components.0 components.1 components.2 }
+pub(crate) fn below_ends<'a>(partial: Partial<'a>) -> Option<WordEnds<'a>>
+    requires { IsSound partial }
+    ensures { some_ends result ≡ by_row Operators.less_row (partial_seen partial.entry) }
 {
-    match components {
-        (Some(_), Some(_), None) => Some(Form::BelowLeast),
-        _ => Some(Form::Below),
+    match (partial.major, partial.minor, partial.patch) {
+        (Some(major), Some(minor), None) => Some(ends::below(WordVersion::Least(major, minor, 0))),
+        _ => Some(ends::below(partial.full())),
     }
 }
 
 // After `<=`.
 #[inline(always)]
-pub(crate) fn at_most_form(components: Components) -> Option<Form>
-    ensures { result ≡ Operators.less_or_equal_row components.0 components.1 components.2 }
+pub(crate) fn at_most_ends<'a>(partial: Partial<'a>) -> Option<WordEnds<'a>>
+    requires { IsSound partial }
+    ensures { some_ends result ≡ by_row Operators.less_or_equal_row (partial_seen partial.entry) }
 {
-    match components.2 {
-        Some(_) => Some(Form::AtMost),
-        None => Some(Form::AtMostLeast),
+    match partial.patch {
+        Some(_) => Some(ends::at_most(partial.full())),
+        None => Some(ends::at_most(partial.least())),
     }
 }
 
 // After `=`.
 #[inline(always)]
-pub(crate) fn equal_form(components: Components) -> Option<Form>
-    ensures { result ≡ Operators.equal_row components.0 components.1 components.2 }
+pub(crate) fn equal_ends<'a>(partial: Partial<'a>) -> Option<WordEnds<'a>>
+    requires { IsSound partial }
+    ensures { some_ends result ≡ by_row Operators.equal_row (partial_seen partial.entry) }
 {
-    match components {
-        (Some(_), Some(_), Some(_)) => Some(Form::ExactlyBare),
-        (Some(_), Some(_), None) => Some(Form::WithMinor),
-        (Some(_), None, _) => Some(Form::WithMajor),
+    match (partial.major, partial.minor, partial.patch) {
+        (Some(_), Some(_), Some(_)) => Some(ends::exactly(partial.bare())),
+        (Some(major), Some(minor), None) => Some(ends::with_minor(major, minor)),
+        (Some(major), None, _) => Some(ends::with_major(major)),
         (None, _, _) => None,
     }
 }

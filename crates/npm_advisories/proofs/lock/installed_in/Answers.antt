@@ -1,7 +1,7 @@
 -- The lock file is refused with its fault, or has none.
 use Rattle.std.proofs.Common.{◌≡◌, ◌∙◌, Err, Some, ap, sym}
 use Rattle.serde_json.specs.View.{view}
-use Rattle.npm_lock.specs.Faults.{lock_fault}
+use Rattle.npm_packages.specs.Faults.{lock_fault}
 use Rattle.npm_advisories.proofs.Installing.{none-of}
 use Rattle.npm_advisories.proofs.lock.installed_in.Goals as goal
 

@@ -1,7 +1,7 @@
 -- The packages of the members that are left come after those so far.
 use Rattle.std.proofs.Common.{◌++◌, List, map}
 use Rattle.serde_json.specs.View.{members_view}
-use Rattle.npm_lock.specs.Dependents.{texts_at}
+use Rattle.npm_packages.specs.Dependents.{texts_at}
 use Rattle.npm_advisories.specs.Audit.{InstalledValue, installed_value}
 use Rattle.npm_advisories.specs.LockFile.{AreInstalled}
 use Rattle.npm_advisories.proofs.lock.installed_of.Given as goal

@@ -4,10 +4,10 @@ use Rattle.std.proofs.lemmas.Result.{IfOk-weaker}
 use Rattle.serde_json.specs.Data.{Data, Members, object}
 use Rattle.serde_json.specs.Find.{as_object, get}
 use Rattle.serde_json.specs.View.{members_view, view}
-use Rattle.npm_lock.specs.Folders.{place_in}
+use Rattle.npm_packages.specs.Folders.{place_in}
 use Rattle.npm_lock.specs.FoundWorkspaces.{problem_with, workspace_problem}
-use Rattle.npm_lock.specs.Packages.{Package, package_at}
-use Rattle.npm_lock.specs.Private.PackageValue.{package_value}
+use Rattle.npm_packages.specs.Packages.{Package, package_at}
+use Rattle.npm_packages.specs.PackageValue.{package_value}
 use Rattle.npm_lock.proofs.found_workspace.workspace_problem.Goals as goal
 
 member_of : (member : Option Data) (root : Package) → option_map (λ m. record { folder = []; member = m }) member ≡ Some root

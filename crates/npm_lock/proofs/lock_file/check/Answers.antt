@@ -25,9 +25,8 @@ both_facts (Err e) P Q p q = tt
 pub returns-clause-found : goal.returns-clause-found
 returns-clause-found c =
     let read = was_ok _ c.lock_of.result c.map_err.result c.in_ok-lock.lock c.map_err.ensures.cases c.in_ok-lock.was in
-    let node = rw read at c.lock_of.ensures.node in
     kept _ c.problems_of.result c.map_err-2.result _ c.map_err-2.ensures.cases
     (IfOk-weaker c.problems_of.result _ _ (λ problems facts. checked_by (view c.args.lock.now)
     (members_view c.in_ok-lock.lock.members.now.entries) _ problems (rw read at c.lock_of.ensures.packages) facts.0
-    (rw node at facts.1))
+    facts.1)
     (both_facts c.problems_of.result _ _ c.problems_of.ensures.ascending c.problems_of.ensures.found))

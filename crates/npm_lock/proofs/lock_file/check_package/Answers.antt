@@ -2,12 +2,12 @@
 use Rattle.std.proofs.Common.{◌≡◌, ◌∙◌, ◌∷◌, [], ap, false, sym}
 use Rattle.serde_json.specs.View.{view}
 use Rattle.npm_lock.specs.Findings.{dependency}
-use Rattle.npm_lock.specs.Overrides.{changed_by, overridden}
-use Rattle.npm_lock.specs.Packages.{is_link}
-use Rattle.npm_lock.specs.Private.Groups.{names_of}
-use Rattle.npm_lock.specs.Private.PackageValue.{asked_value, packages_data}
+use Rattle.npm_packages.specs.Overrides.{changed_by, overridden}
+use Rattle.npm_packages.specs.Packages.{is_link}
+use Rattle.npm_packages.specs.Lemmas.NameLists.{names_of}
+use Rattle.npm_packages.specs.PackageValue.{asked_value, packages_data}
 use Rattle.npm_lock.proofs.MoreFindings.{member_found}
-use Rattle.npm_lock.proofs.NameLists.{all_asked, are_names}
+use Rattle.npm_packages.specs.Lemmas.NameLists.{all_asked, are_names}
 use Rattle.npm_lock.proofs.Reports.{adds_both, adds_none}
 use Rattle.npm_lock.proofs.lock_file.check_package.Goals as goal
 

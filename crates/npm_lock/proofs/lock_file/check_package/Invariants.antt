@@ -4,8 +4,8 @@ use Rattle.std.specs.List.{AllZip}
 use Rattle.serde_json.specs.View.{view}
 use Rattle.npm_lock.specs.Findings.{Finding, IsDependencyFinding}
 use Rattle.npm_lock.specs.Private.Adding.{Adds}
-use Rattle.npm_lock.specs.Private.Groups.{AreAsked, names_of}
-use Rattle.npm_lock.specs.Private.PackageValue.{packages_data}
+use Rattle.npm_packages.specs.Lemmas.NameLists.{AreAsked, names_of}
+use Rattle.npm_packages.specs.PackageValue.{packages_data}
 use Rattle.npm_lock.specs.declared.problem.Problems.{Problems}
 use Rattle.npm_lock.proofs.lock_file.check_package.Given as goal
 

@@ -31,6 +31,6 @@ returns c =
     let outcome = engine c.in-Some-Some.spec.now
     (sym c.engine_of.ensures ∙ ap (option_map (λ t. t.now)) c.in-Some-Some.is-1)
     (rw c.if-branch.false at c.in_ok-is_contained.ensures) in
-    moved (λ problem. IsNodeOutcome (option_map (λ version. version.now) c.args.lock.node) c.args.asker.folder.now
+    moved (λ problem. IsNodeOutcome (option_map (λ version. version.now) c.args.node) c.args.asker.folder.now
     (view c.args.asker.member.now) (Some problem)) Engine _ _ c.in_ok-dependency.ensures
     (rw c.in-Some-Some.is-0 outcome)

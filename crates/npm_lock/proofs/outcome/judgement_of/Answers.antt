@@ -1,10 +1,10 @@
 -- Each branch is a case of the definition.
 use Rattle.std.proofs.Common.{◌≡◌, ◌∙◌, ◌↔◌, ◌&&◌, ℕ, List, Bool, IsTrue, true, false, refl, sym}
 use Rattle.serde_json.specs.Data.{Data}
-use Rattle.npm_lock.specs.Asked.{AskedValue}
+use Rattle.npm_packages.specs.Asked.{AskedValue}
 use Rattle.npm_lock.specs.Outcomes.{IsLocalPeer, absent, invalid, local_peer, missing, unchecked, valid}
-use Rattle.npm_lock.specs.Packages.{IsFoundIn, Package}
-use Rattle.npm_lock.specs.Private.PackageValue.{package_value}
+use Rattle.npm_packages.specs.Packages.{IsFoundIn, Package}
+use Rattle.npm_packages.specs.PackageValue.{package_value}
 use Rattle.npm_lock.proofs.outcome.judgement_of.Goals as goal
 use Rattle.npm_lock.proofs.outcome.judgement_of.Goals.{then-asked, else-asked}
 

@@ -1,7 +1,7 @@
 -- The index says which case of the definition this is.
 use Rattle.std.proofs.Common.{subst}
 use Rattle.serde_json.specs.View.{view}
-use Rattle.npm_lock.specs.Folders.{IsInstalled}
+use Rattle.npm_packages.specs.Folders.{IsInstalled}
 use Rattle.npm_lock.specs.Workspaces.{IsWorkspace, installed}
 use Rattle.npm_lock.specs.declared.workspace.Workspace.{Workspace}
 use Rattle.npm_lock.proofs.PatternSets.{by_match, by_none, by_unread}

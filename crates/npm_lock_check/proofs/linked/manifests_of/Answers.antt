@@ -1,5 +1,5 @@
 -- What was found in one folder more, or the manifest that was not read.
-use Rattle.std.proofs.Common.{◌≡◌, ◌∙◌, [], Err, List, Ok, ap, drop, get_or, inr, map, ℕ}
+use Rattle.std.proofs.Common.{◌≡◌, [], Err, List, Ok, drop, get_or, inr, map, ℕ}
 use Rattle.std.proofs.Common.{refl, rules}
 use Rattle.std.proofs.lemmas.List.{drop_all}
 use denote.Ref.{Bor}

@@ -1,7 +1,7 @@
 -- The check refuses the value.
 use Rattle.std.proofs.Common.{◌≡◌, ◌∙◌, Some, ap, Err, inl, refl}
 use Rattle.serde_json.specs.View.{view}
-use Rattle.npm_lock.specs.Faults.{lock_fault}
+use Rattle.npm_packages.specs.Faults.{lock_fault}
 use Rattle.npm_lock_check.proofs.output.problems_of.Goals as goal
 
 pub returns-in-Err-Refused-clause-refused : goal.returns-in-Err-Refused-clause-refused

@@ -1,8 +1,8 @@
 -- A file of another version has the fault that `check` tells. What one of version 1 is converted to has none, as it has itself.
 use Rattle.std.proofs.Common.{◌≡◌, ◌∙◌, None, Some, ap, false, option_map, rules, sym, true}
 use Rattle.serde_json.specs.View.{view}
-use Rattle.npm_lock.specs.Faults.{lock_fault}
-use Rattle.npm_lock.specs.declared.fault.Fault.{Fault}
+use Rattle.npm_packages.specs.Faults.{lock_fault}
+use Rattle.npm_packages.specs.declared.fault.Fault.{Fault}
 use Rattle.npm_lock_version_one.specs.VersionOne.{any_fault, file_of, is_version_one, packages_of, version_one_fault}
 use Rattle.npm_lock_version_one.proofs.Converting.{file_sound}
 use Rattle.npm_lock_version_one.proofs.any_version.check_any.Goals as goal

@@ -1,7 +1,7 @@
 -- The packages of a member come before those of the members that are left.
 use Rattle.std.proofs.Common.{◌≡◌, ◌∙◌, ap, bytes_eq, codes, string_bytes, sym}
 use Rattle.serde_json.specs.View.{members_view, view}
-use Rattle.npm_lock.specs.Folders.{place_in}
+use Rattle.npm_packages.specs.Folders.{place_in}
 use Rattle.npm_lock_version_one.specs.VersionOne.{packages_of_members, with_packages}
 use Rattle.npm_lock_version_one.proofs.PackageLists.{entry_added, packages_added}
 use Rattle.npm_texts.specs.Lemmas.Objects.{is_object}

@@ -1,7 +1,7 @@
 -- The fault of a package after packages that have none is that of all.
 use Rattle.std.proofs.Common.{◌≡◌, ◌∙◌, Some, ap, bytes_eq, codes, rules, string_bytes, sym}
 use Rattle.serde_json.specs.View.{members_view, view}
-use Rattle.npm_lock.specs.Folders.{place_in}
+use Rattle.npm_packages.specs.Folders.{place_in}
 use Rattle.npm_lock_version_one.specs.VersionOne.{packages_below, packages_fault, packages_named}
 use Rattle.npm_lock_version_one.proofs.PackageLists.{entry_found, entry_passed, fault_found, fault_passed, inside_found}
 use Rattle.npm_texts.specs.Lemmas.Objects.{is_object}

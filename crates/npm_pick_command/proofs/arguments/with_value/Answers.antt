@@ -10,6 +10,7 @@ kept : (asked : ArgumentsValue) (setting : Setting) (text : List ℕ) → settin
 kept asked Settings.Packument text other = refl
 kept asked Settings.Packuments text other = refl
 kept asked Settings.Lock text other = refl
+kept asked Settings.Manifest text other = refl
 kept asked Settings.Tag text other = refl
 kept asked Settings.Before text other = refl
 kept asked Settings.Avoid text other = refl

@@ -1,6 +1,6 @@
 -- No version is picked, or the wanted version is current, or it is not.
 use Rattle.std.proofs.Common.{◌∙◌, inl, inr, sym}
-use Rattle.npm_lock.specs.Edges.{edge_value}
+use Rattle.npm_packages.specs.Edges.{edge_value}
 use Rattle.serde_json.specs.View.{view}
 use Rattle.npm_pick_command.specs.Outdated.{current, unpicked}
 use Rattle.npm_pick_command.proofs.Outcomes.{behind_row}

@@ -2,7 +2,7 @@
 use Rattle.std.proofs.Common.{◌≡◌, ◌∙◌, Err, None, Ok, Some, ap, option_map, sym}
 use Rattle.std.proofs.lemmas.Fn.{says_at}
 use Rattle.std.specs.Fn.{FnReturnsAt}
-use Rattle.npm_lock.specs.Edges.{edge_value}
+use Rattle.npm_packages.specs.Edges.{edge_value}
 use Rattle.npm_texts.specs.RegistrySpec.{registry_spec, registry_spec_value}
 use Rattle.npm_pick_command.specs.Outdated.{elsewhere, left_out, unknown}
 use Rattle.npm_pick_command.proofs.Outcomes.{known_found}

@@ -1,6 +1,6 @@
 -- What is found out about the dependencies of the lock file, its lines and its counts.
-use Rattle.std.proofs.Common.{map}
-use Rattle.npm_lock.specs.Edges.{edge_value}
+use Rattle.std.proofs.Common.{◌∙◌, map}
+use Rattle.npm_packages.specs.Edges.{edge_value}
 use Rattle.npm_pick_command.specs.Outdated.{outcome_value}
 use Rattle.npm_pick_command.proofs.Outcomes.{compared_ending}
 use Rattle.npm_pick_command.proofs.reply.outdated_reply.Goals as goal
@@ -12,6 +12,8 @@ returns g c = record {
   of_lock = c.in-Ok.ensures.found;
   found = rw c.deref.ensures.value at c.in-Ok-outcomes_of.ensures.found;
   lines = rw c.deref-2.ensures.value at c.in_ok-outdated_lines.ensures;
-  ending = compared_ending c.in-Ok-outcomes_of.outcomes.items c.has_outdated.result c.absent_count.result
+  notes = c.ended.ensures.notes;
+  ending = c.ended.ensures.ending
+      ∙ compared_ending c.in-Ok-outcomes_of.outcomes.items c.has_outdated.result c.absent_count.result
       (rw c.deref-3.ensures.value at c.has_outdated.ensures) (rw c.deref-4.ensures.value at c.absent_count.ensures);
 }

@@ -3,7 +3,7 @@ use Rattle.std.proofs.Common.{◌∙◌, Option, ap, sym}
 use Rattle.semver_sets.specs.Comparator.{Comparator}
 use Rattle.semver_sets.specs.Merging.{all_cuts}
 use Rattle.npm_sets.specs.NpmMeaning.{alone_or, piece_comparators}
-use Rattle.npm_sets.specs.Private.ReadViews.{ends_seen}
+use Rattle.semver_sets.specs.WordEnds.{ends_seen}
 use Rattle.npm_sets.proofs.Chunks.ChunkLemmas.{left-solid, no-bytes_told, solid-told}
 use Rattle.npm_sets.proofs.Pieces.EndBounds.{small-read}
 use Rattle.npm_sets.proofs.Pieces.PieceReading.{all-bounded, one-read, piece-empty, piece-words}
@@ -26,15 +26,15 @@ read_hyphen-requires c = grind (arith, solid-told, left-solid)
 pub merge_words-requires-clause-solid : goal.merge_words-requires-clause-solid
 merge_words-requires-clause-solid c = grind (arith, solid-told, left-solid)
 
-pub returns-in_ok-merge_ends-in-Some : goal.returns-in_ok-merge_ends-in-Some
-returns-in_ok-merge_ends-in-Some c =
+pub returns-in_ok-narrow-in-Some : goal.returns-in_ok-narrow-in-Some
+returns-in_ok-narrow-in-Some c =
     let options = c.args.options in
     let piece = c.args.piece.now in
     let text = c.skip_space-text.result.now in
     let solid = solid-told text c.is_empty.result c.is_empty.ensures c.if-is_empty.false
     (left-solid piece text c.skip_space-text.ensures) in
-    one-read (piece_comparators options piece) c.args.common.now c.merge_ends.new.common (ends_seen c.in-Some.ends)
-    c.requires c.in_ok-merge_ends-in-Some.ensures (small-read c.in-Some.ends c.in-Some.ensures.small)
+    one-read (piece_comparators options piece) c.args.common.now c.narrow.new.self (ends_seen c.in-Some.ends)
+    c.requires c.in_ok-narrow-in-Some.ensures.merged (small-read c.in-Some.ends c.in-Some.ensures.small)
     (piece-words options piece text c.skip_space-text.ensures solid
     ∙ ap (λ (h : Option Comparator). alone_or h (text_comparators options text)) (sym c.in-Some.ensures.read))
 

@@ -1,4 +1,5 @@
-use Rattle.npm_sets.specs.Private.ReadViews.{ends_seen, some_seen}
+use Rattle.npm_sets.specs.Private.ReadViews.{some_seen}
+use Rattle.semver_sets.specs.WordEnds.{ends_seen}
 use Rattle.npm_sets.proofs.Chunks.ChunkLemmas.{left-solid, no-bytes_told, solid-told}
 use Rattle.npm_sets.proofs.Places.RefusedPieces.{end-hyphen, end-nothing, end-words}
 use Rattle.npm_sets.proofs.refused.refused_end.Goals as goal

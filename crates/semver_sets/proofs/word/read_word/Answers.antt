@@ -11,7 +11,7 @@ use Rattle.semver_sets.proofs.word.read_word.Goals.{in_default-2-via-in_default}
 pub returns-in_default : goal.returns-in_default
 returns-in_default c =
     let missing = none-missing c.args.text.now _ _ c.requires c.read_lead-lead.ensures c.in_default.ensures.read in
-    rw (c.nothing.ensures, c.skip_to_blank.ensures) (ignored c.args.text.now missing)
+    rw (c.skip_to_blank.ensures) (ignored c.args.text.now missing)
 
 pub returns-in-Plain-len1-up : goal.returns-in-Plain-len1-up
 returns-in-Plain-len1-up c =

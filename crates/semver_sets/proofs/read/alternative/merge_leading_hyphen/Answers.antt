@@ -5,5 +5,5 @@ use Rattle.semver_sets.proofs.read.alternative.merge_leading_hyphen.Goals as goa
 
 pub returns-clause-common : goal.returns-clause-common
 returns-clause-common c =
-    subst (λ (w : Word). IsNarrowed c.args.common.now w.0 c.narrow.new.self) c.read_leading_hyphen.ensures
-    c.in_ok-narrow.ensures
+    subst (λ (w : Word). IsNarrowed c.args.common.now w.0 c.merge_some.new.common) c.read_leading_hyphen.ensures
+    c.in_ok-merge_some.ensures

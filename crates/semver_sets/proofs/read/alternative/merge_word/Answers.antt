@@ -5,4 +5,4 @@ use Rattle.semver_sets.proofs.read.alternative.merge_word.Goals as goal
 
 pub returns-clause-common : goal.returns-clause-common
 returns-clause-common c =
-    subst (λ (w : Word). IsNarrowed c.args.common.now w.0 c.narrow.new.self) c.read_word.ensures c.in_ok-narrow.ensures
+    subst (λ (w : Word). IsNarrowed c.args.common.now w.0 c.merge_some.new.common) c.read_word.ensures c.in_ok-merge_some.ensures

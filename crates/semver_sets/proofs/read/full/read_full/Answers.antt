@@ -14,12 +14,11 @@ returns c =
     (omega arith) (omega arith) in
     let end = no-bytes c.in-Ok-default-empty.field-0-1.now c.in-Ok-default-empty.len_below in
     let numbers = full-numbers c.if-text-lt1.lead.1.now _ _ _ _ _ one two (rw end at c.in-Ok-default-empty.ensures) in
-    let form = c.in_ok-form.ensures.row in
-    let full = c.in_ok-form.ensures.full in
+    let form = c.full_form.ensures in
     elim c.if-text-lt1.branch [
       | in-94 w ↦ caret-full text _ _ _ _ _ (behind-first 94 text (omega arith) (omega arith)) (rw w.lead-is at numbers)
-          (rw w.lead-is at form) full
+          (rw w.lead-is at form)
       | in-126 w ↦ tilde-full text _ _ _ _ _ (behind-first 126 text (omega arith) (omega arith))
-          (rw w.lead-is at numbers) (rw w.lead-is at form) full
-      | in_default w ↦ plain-full text _ _ _ _ (rw w.lead-is at numbers) (rw w.lead-is at form) full
+          (rw w.lead-is at numbers) (rw w.lead-is at form)
+      | in_default w ↦ plain-full text _ _ _ _ (rw w.lead-is at numbers) (rw w.lead-is at form)
     ]

@@ -1,0 +1,200 @@
+"""Whether a text is a log in SARIF 2.1.0, the Static Analysis Results Interchange Format (OASIS).
+
+Two readers, neither of them ours, and both have to find nothing:
+
+- `sarif_om` (Debian's `python3-sarif-python-om`), a class for each object of the standard, made by a program from the schema of the
+  standard: which members an object may have, and which it must have.
+- `jsonschema` (Debian's `python3-jsonschema`), by `sarif.schema.json` beside this file, for what stands in the members that our
+  programs write: types, words and least numbers. The schema is our own, after the text of the standard; `schema_faults` holds its names
+  against the classes.
+
+    /usr/bin/python3 .ci/shared/sarif.py FILE..     each file's faults, a line each; the last line is 'N passed, M failed'
+    /usr/bin/python3 .ci/shared/sarif.py            tries made up logs: one without a fault, and others with one that has to be found
+
+It is Debian's Python that has both packages.
+"""
+import copy
+import importlib
+import json
+import os
+import re
+import sys
+
+SCHEMA = os.path.join(os.path.dirname(os.path.abspath(__file__)), "sarif.schema.json")
+
+# Where a member is an object, or a list of objects, of another class: the class and the member, and the class of what is there.
+INSIDE = {
+    ("SarifLog", "runs"): "Run",
+    ("Run", "tool"): "Tool",
+    ("Run", "results"): "Result",
+    ("Tool", "driver"): "ToolComponent",
+    ("ToolComponent", "rules"): "ReportingDescriptor",
+    ("ReportingDescriptor", "shortDescription"): "MultiformatMessageString",
+    ("ReportingDescriptor", "defaultConfiguration"): "ReportingConfiguration",
+    ("Result", "message"): "Message",
+    ("Result", "locations"): "Location",
+    ("Location", "physicalLocation"): "PhysicalLocation",
+    ("PhysicalLocation", "artifactLocation"): "ArtifactLocation",
+    ("PhysicalLocation", "region"): "Region",
+}
+
+
+def members_of(name):
+    """The members that an object of a class may have, and those that it must have."""
+    import attr
+    file = re.sub(r"(?<!^)(?=[A-Z])", "_", name).lower()
+    made = getattr(importlib.import_module(f"sarif_om._{file}"), name)
+    named = [(it.metadata["schema_property_name"], it.default) for it in attr.fields(made)]
+    return {it for it, _ in named}, {it for it, default in named if default is attr.NOTHING}
+
+
+def member_faults(value, name="SarifLog", path="$"):
+    """What is wrong with the members of an object of a class and of those inside it."""
+    if not isinstance(value, dict):
+        return [f"{path} is no object"]
+    known, needed = members_of(name)
+    faults = [f"{path} has a member {it}, which {name} has not" for it in sorted(set(value) - known)]
+    faults += [f"{path} lacks {it}" for it in sorted(needed - set(value))]
+    for member, inner in value.items():
+        of = INSIDE.get((name, member))
+        if of is None:
+            if isinstance(inner, dict) or isinstance(inner, list) and any(isinstance(it, dict) for it in inner):
+                faults.append(f"{path}.{member} has objects that nothing here checks")
+            continue
+        each = enumerate(inner) if isinstance(inner, list) else [("", inner)]
+        for place, it in each:
+            faults += member_faults(it, of, f"{path}.{member}" + (f"[{place}]" if place != "" else ""))
+    return faults
+
+
+def schema():
+    with open(SCHEMA, encoding="utf-8") as file:
+        return json.load(file)
+
+
+def schema_faults(part=None, name="SarifLog", path="$"):
+    """Where our schema names a member that the standard has not, or does not ask for one that it asks for."""
+    part = schema() if part is None else part
+    known, needed = members_of(name)
+    faults = [f"{path}: the schema has {it}, which {name} has not" for it in sorted(set(part["properties"]) - known)]
+    faults += [f"{path}: the schema does not ask for {it}" for it in sorted(needed - set(part["required"]))]
+    for member, inner in part["properties"].items():
+        inner = inner.get("items", inner)
+        of = INSIDE.get((name, member))
+        if (of is None) == ("properties" in inner):
+            faults.append(f"{path}.{member}: the schema and the classes differ on whether it is an object")
+        elif of is not None:
+            faults += schema_faults(inner, of, f"{path}.{member}")
+    return faults
+
+
+def index_faults(log):
+    """Results whose rule is not the one at its index, which no schema can say."""
+    faults = []
+    for place, run in enumerate(log.get("runs", [])):
+        rules = [it["id"] for it in run["tool"]["driver"].get("rules", [])]
+        if len(set(rules)) != len(rules):
+            faults.append(f"$.runs[{place}] has two rules of one id")
+        for at, result in enumerate(run.get("results", [])):
+            index = result.get("ruleIndex", -1)
+            if index >= len(rules) or rules[index] != result.get("ruleId"):
+                faults.append(f"$.runs[{place}].results[{at}] has the index of another rule")
+    return faults
+
+
+def faults(text):
+    """What is wrong with a text that is to be a log."""
+    import jsonschema
+    try:
+        log = json.loads(text)
+    except ValueError as error:
+        return [f"it is no JSON text: {error}"]
+    found = member_faults(log)
+    checker = jsonschema.Draft7Validator(schema(), format_checker=jsonschema.FormatChecker())
+    found += [f"{it.json_path}: {it.message}" for it in checker.iter_errors(log)]
+    return found or index_faults(log)
+
+
+MADE_UP = {
+    "$schema": "https://json.schemastore.org/sarif-2.1.0.json",
+    "version": "2.1.0",
+    "runs": [{
+        "tool": {"driver": {"name": "checker", "version": "1.0.0", "rules": [
+            {"id": "invalid", "shortDescription": {"text": "a version outside"}, "defaultConfiguration": {"level": "error"}}]}},
+        "columnKind": "unicodeCodePoints",
+        "results": [{
+            "ruleId": "invalid", "ruleIndex": 0, "level": "error", "message": {"text": "b 1.0.0 is outside"},
+            "locations": [{"physicalLocation": {
+                "artifactLocation": {"uri": "a%20b/package-lock.json"}, "region": {"startLine": 3, "startColumn": 7}}}]}],
+    }],
+}
+
+RESULT = ("runs", 0, "results", 0)
+REGION = (*RESULT, "locations", 0, "physicalLocation", "region")
+# Changes of the log above: where, and what stands there then, or `None` if nothing does.
+CHANGES = [
+    (("version",), "2.1"),
+    (("version",), None),
+    (("runs",), None),
+    (("run",), []),
+    (("runs", 0, "tool"), None),
+    (("runs", 0, "tool", "driver", "name"), None),
+    (("runs", 0, "tool", "driver", "rules", 0, "id"), None),
+    (("runs", 0, "tool", "driver", "rules", 0, "level"), "error"),
+    (("runs", 0, "tool", "driver", "rules", 0, "defaultConfiguration", "level"), "fatal"),
+    (("runs", 0, "columnKind"), "bytes"),
+    ((*RESULT, "message"), "text"),
+    ((*RESULT, "message"), None),
+    ((*RESULT, "level"), "fatal"),
+    ((*RESULT, "ruleId"), "missing"),
+    ((*RESULT, "ruleIndex"), 1),
+    ((*RESULT, "ruleIndex"), -2),
+    ((*RESULT, "place"), {}),
+    ((*RESULT, "fingerprints"), {"a": {}}),
+    ((*REGION, "startLine"), 0),
+    ((*REGION, "startColumn"), "7"),
+    ((*REGION, "line"), 7),
+    ((*RESULT, "locations", 0, "physicalLocation", "artifactLocation", "uri"), "a b"),
+]
+
+
+def changed(log, where, what):
+    log = copy.deepcopy(log)
+    at = log
+    for step in where[:-1]:
+        at = at[step]
+    if what is None:
+        del at[where[-1]]
+    else:
+        at[where[-1]] = what
+    return log
+
+
+def trials():
+    """The trials of the two readers: how many passed, and a line for each that failed."""
+    failed = schema_faults()
+    failed += [f"the log without a fault: {it}" for it in faults(json.dumps(MADE_UP))]
+    for where, what in CHANGES:
+        if not faults(json.dumps(changed(MADE_UP, where, what))):
+            failed.append(f"nothing is found where {'.'.join(map(str, where))} is {what!r}")
+    return 2 + len(CHANGES) - len(failed), failed
+
+
+def main(files):
+    if not files:
+        passed, failed = trials()
+    else:
+        failed = []
+        for name in files:
+            with open(name, encoding="utf-8") as file:
+                found = faults(file.read())
+            failed += [f"{name}: {'; '.join(found)}"] if found else []
+        passed = len(files) - len(failed)
+    for line in failed:
+        print(line)
+    print(f"{passed} passed, {len(failed)} failed")
+    return 1 if failed else 0
+
+
+if __name__ == "__main__":
+    sys.exit(main(sys.argv[1:]))

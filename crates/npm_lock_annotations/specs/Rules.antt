@@ -1,0 +1,28 @@
+-- The rules that findings break: one for each kind of problem, and one for mismatches.
+use Rattle.std.specs.Prelude.{ℕ, List, [], ◌∷◌, Bool, if◌then◌else◌, codes}
+use Rattle.annotations.specs.declared.finding.Level.{Level}
+use Rattle.annotations.specs.declared.finding.Level.TheVariants.{Error, Warning}
+use Rattle.npm_lock.specs.declared.problem.Kind.{Kind}
+use Rattle.npm_lock.specs.declared.problem.Kind.TheVariants.{Engine, Invalid, Missing, PeerLocal}
+
+-- the `id` of the rule of a kind of problem: the word that `--ignore` takes for it
+abbrev pub rule_word : Kind → List ℕ
+rule_word Missing = codes "missing"
+rule_word Invalid = codes "invalid"
+rule_word PeerLocal = codes "peer-local"
+rule_word Engine = codes "engine"
+
+-- its place in the list of rules
+abbrev pub rule_place : Kind → ℕ
+rule_place Missing = 0
+rule_place Invalid = 1
+rule_place PeerLocal = 2
+rule_place Engine = 3
+
+-- all rules, in the order that findings count them in
+abbrev pub rule_words : List (List ℕ)
+rule_words = rule_word Missing ∷ rule_word Invalid ∷ rule_word PeerLocal ∷ rule_word Engine ∷ codes "mismatch" ∷ []
+
+-- mismatches are errors if they count for the status, and else warnings
+abbrev pub mismatch_level : (exact : Bool) → Level
+mismatch_level exact = if exact then Error else Warning

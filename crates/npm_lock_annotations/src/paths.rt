@@ -1,0 +1,76 @@
+//! The members of a lock file that a problem or a mismatch is about.
+ghost use Rattle.std.specs.Prelude.{◌≡◌, IfOk, map};
+ghost use Rattle.npm_lock_annotations.specs.Findings.{names_seen};
+ghost use Rattle.npm_lock_annotations.specs.Members as Members;
+
+use npm_lock::Kind;
+use std::alloc::{AllocError, Global};
+
+/// What a problem of this kind is about.
+pub fn problem_paths<'a>(
+    alloc: Global,
+    kind: Kind,
+    folder: &'a str,
+    name: &'a str,
+) -> Result<Vec<Vec<&'a str>>, AllocError>
+    ensures { IfOk result (λ paths. map names_seen paths.items ≡ Members.problem_paths kind folder.now name.now) }
+{
+    match kind {
+        Kind::Missing | Kind::Invalid | Kind::PeerLocal => dependency_paths(alloc, folder, name),
+        Kind::Engine => mismatch_paths(alloc, folder, "engines", "node"),
+    }
+}
+
+/// A dependency of the package in a folder: in a group of it, or else the package itself.
+fn dependency_paths<'a>(
+    alloc: Global,
+    folder: &'a str,
+    name: &'a str,
+) -> Result<Vec<Vec<&'a str>>, AllocError>
+    ensures { IfOk result (λ paths. map names_seen paths.items ≡ Members.dependency_paths folder.now name.now) }
+{
+    let mut paths = Vec::new(alloc);
+    paths.push(member_path(alloc, folder, "devDependencies", name)?)?;
+    paths.push(member_path(alloc, folder, "optionalDependencies", name)?)?;
+    paths.push(member_path(alloc, folder, "dependencies", name)?)?;
+    paths.push(member_path(alloc, folder, "peerDependencies", name)?)?;
+    paths.push(package_path(alloc, folder)?)?;
+    Ok(paths)
+}
+
+/// A name in a group of the package in a folder, or else the package itself.
+pub fn mismatch_paths<'a>(
+    alloc: Global,
+    folder: &'a str,
+    group: &'a str,
+    name: &'a str,
+) -> Result<Vec<Vec<&'a str>>, AllocError>
+    ensures { IfOk result (λ paths. map names_seen paths.items
+        ≡ Members.mismatch_paths folder.now group.now name.now) }
+{
+    let mut paths = Vec::new(alloc);
+    paths.push(member_path(alloc, folder, group, name)?)?;
+    paths.push(package_path(alloc, folder)?)?;
+    Ok(paths)
+}
+
+/// A name in a group of the package in a folder.
+fn member_path<'a>(
+    alloc: Global,
+    folder: &'a str,
+    group: &'a str,
+    name: &'a str,
+) -> Result<Vec<&'a str>, AllocError>
+    ensures { IfOk result (λ names. names_seen names ≡ Members.member_path folder.now group.now name.now) }
+{
+    let names = ["packages", folder, group, name];
+    Vec::from_slice(alloc, &names)
+}
+
+/// The package in a folder.
+fn package_path<'a>(alloc: Global, folder: &'a str) -> Result<Vec<&'a str>, AllocError>
+    ensures { IfOk result (λ names. names_seen names ≡ Members.package_path folder.now) }
+{
+    let names = ["packages", folder];
+    Vec::from_slice(alloc, &names)
+}

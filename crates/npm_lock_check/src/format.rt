@@ -1,0 +1,12 @@
+//! How what is found is written.
+use npm_lock_annotations::AnnotationFormat;
+use npm_lock_reports::ReportFormat;
+
+/// How what is found is written.
+#[derive(Clone, Copy, Debug, PartialEq, Eq, Drop)]
+pub enum Format {
+    /// A line for each thing that is found.
+    Report(ReportFormat),
+    /// With the line and the column of each thing that is found.
+    Annotations(AnnotationFormat),
+}

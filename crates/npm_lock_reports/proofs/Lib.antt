@@ -1,0 +1,3 @@
+mod OutputLines
+mod Parts
+pub mod Examples

@@ -1,0 +1,93 @@
+-- Lines, one more at a time.
+use Rattle.std.proofs.Common.{◌≡◌, ◌∙◌, ℕ, ◌+◌, ◌<◌, List, [], ◌∷◌, ◌++◌, length, get_or, drop, map, refl, sym, ap}
+use Rattle.std.proofs.Common.{false, Option, Some, None, append_assoc, codes}
+use Rattle.std.proofs.lemmas.List.{drop_more}
+use Rattle.serde_json.proofs.OnLiterals.{serde_json_on_literals}
+use Rattle.serde_json.specs.Data.{no_members, put, string}
+use Rattle.serde_json.specs.Written.{has_float, members_have_float}
+use Rattle.npm_manifests.specs.MismatchJson.{mismatch_data}
+use Rattle.npm_manifests.specs.Mismatches.{MismatchValue}
+use Rattle.npm_lock.specs.Outcomes.{ProblemValue, UncheckedValue}
+use Rattle.npm_lock.specs.ProblemJson.{problem_data, reason_text, unchecked_data, with_text}
+use Rattle.npm_lock_reports.specs.Report.{AreLines, lines, one_more}
+use Rattle.npm_lock_reports.specs.Unread.{unread_data}
+
+last_members : (to version : Option (List ℕ))
+    → members_have_float (with_text (codes "to") to (with_text (codes "version") version no_members)) ≡ false
+last_members None None = refl
+last_members None (Some version) = refl
+last_members (Some to) None = refl
+last_members (Some to) (Some version) = refl
+
+pub no_float : (problem : ProblemValue) → has_float (problem_data problem) ≡ false
+unfolding serde_json_on_literals
+no_float problem = last_members problem.dependency.to problem.dependency.version
+
+-- the last members, and why a dependency is not checked between them
+marked_members : (mark : List ℕ) (to version : Option (List ℕ))
+    → members_have_float (put (codes "unchecked") (string mark)
+    (with_text (codes "to") to (with_text (codes "version") version no_members))) ≡ false
+unfolding serde_json_on_literals
+marked_members mark None None = refl
+marked_members mark None (Some version) = refl
+marked_members mark (Some to) None = refl
+marked_members mark (Some to) (Some version) = refl
+
+pub no_float_unchecked : (unchecked : UncheckedValue) → has_float (unchecked_data unchecked) ≡ false
+unfolding serde_json_on_literals
+no_float_unchecked unchecked = marked_members (reason_text unchecked.reason) unchecked.dependency.to
+    unchecked.dependency.version
+
+regroup : (a b rest : List ℕ) → ((a ++ b) ++ (10 ∷ [])) ++ rest ≡ a ++ (b ++ (10 ∷ rest))
+regroup a b rest = simp append_assoc
+
+pub line_more : {T V : Type 0} (value : T → V) (line : V → List ℕ) (done more whole : List ℕ) (all : List T) (i : ℕ)
+    (item : T) → i < length all → item ≡ get_or all i item → more ≡ (done ++ line (value item)) ++ (10 ∷ [])
+    → done ++ lines line (map value (drop i all)) ≡ whole
+    → more ++ lines line (map value (drop (i + 1) all)) ≡ whole
+line_more value line done more whole all i item small is is_more held =
+    let cut : drop i all ≡ get_or all i item ∷ drop (i + 1) all = drop_more all i item small in
+    let here : drop i all ≡ item ∷ drop (i + 1) all = cut ∙ ap (λ x. x ∷ drop (i + 1) all) (sym is) in
+    ap (λ text. text ++ lines line (map value (drop (i + 1) all))) is_more
+    ∙ regroup done (line (value item)) (lines line (map value (drop (i + 1) all)))
+    ∙ ap (λ rest. done ++ lines line (map value rest)) (sym here) ∙ held
+
+-- the same of lines that a relation allows
+pub lines_more : {T V : Type 0} (value : T → V) (IsLine : V → List ℕ → Type 0) (done more start line : List ℕ)
+    (all : List T) (i : ℕ) (item : T) → i < length all → item ≡ get_or all i item → IsLine (value item) line
+    → more ≡ (done ++ line) ++ (10 ∷ [])
+    → ((rest : List ℕ) → AreLines IsLine (map value (drop i all)) rest
+    → (text : List ℕ) × AreLines IsLine (map value all) text × (done ++ rest ≡ start ++ text))
+    → (rest : List ℕ) → AreLines IsLine (map value (drop (i + 1) all)) rest
+    → (text : List ℕ) × AreLines IsLine (map value all) text × (more ++ rest ≡ start ++ text)
+lines_more value IsLine done more start line all i item small is is_line is_more held rest later =
+    let cut : drop i all ≡ get_or all i item ∷ drop (i + 1) all = drop_more all i item small in
+    let here : drop i all ≡ item ∷ drop (i + 1) all = cut ∙ ap (λ x. x ∷ drop (i + 1) all) (sym is) in
+    let whole : AreLines IsLine (map value (drop i all)) (line ++ (10 ∷ rest)) =
+    rw here (one_more (value item) line (map value (drop (i + 1) all)) rest is_line later) in
+    let made = held (line ++ (10 ∷ rest)) whole in
+    (made.0, made.1, ap (λ text. text ++ rest) is_more ∙ regroup done line rest ∙ made.2)
+
+-- ---- mismatches
+
+spec_members : (spec : Option (List ℕ)) → members_have_float (with_text (codes "spec") spec no_members) ≡ false
+unfolding serde_json_on_literals
+spec_members None = refl
+spec_members (Some spec) = refl
+
+locked_members : (locked spec : Option (List ℕ)) (name : List ℕ)
+    → members_have_float (with_text (codes "locked") locked (with_text (codes "name") (Some name)
+    (with_text (codes "problem") (Some (codes "group")) (with_text (codes "spec") spec no_members)))) ≡ false
+unfolding serde_json_on_literals
+locked_members None spec name = spec_members spec
+locked_members (Some locked) spec name = spec_members spec
+
+pub no_float_mismatch : (mismatch : MismatchValue) → has_float (mismatch_data mismatch) ≡ false
+unfolding serde_json_on_literals
+no_float_mismatch mismatch = locked_members mismatch.locked mismatch.spec mismatch.name
+
+-- ---- manifests that were not read
+
+pub no_float_unread : (folder : List ℕ) → has_float (unread_data folder) ≡ false
+unfolding serde_json_on_literals
+no_float_unread folder = refl

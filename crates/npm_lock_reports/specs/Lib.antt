@@ -1,0 +1,5 @@
+-- What the contracts of npm_lock_reports say, in reading order.
+
+pub mod HitSentence  -- a package that is hit as a sentence
+pub mod Unread  -- a manifest that was not read, as a sentence and as a JSON object
+pub mod Report  -- what is found out about a lock file, and the lines of it

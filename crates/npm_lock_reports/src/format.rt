@@ -1,0 +1,10 @@
+//! How a report is written.
+
+/// How a report is written.
+#[derive(Clone, Copy, Debug, PartialEq, Eq, Drop)]
+pub enum ReportFormat {
+    /// A sentence a line.
+    Text,
+    /// A JSON object a line.
+    Json,
+}

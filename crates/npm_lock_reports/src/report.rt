@@ -1,0 +1,72 @@
+//! What was written about a lock file, and the line that counts it.
+ghost use Rattle.std.specs.Prelude.{◌≡◌, ◌↔◌, IsTrue};
+ghost use Rattle.npm_lock_reports.specs.Report.{IsClean};
+
+use crate::folder_name::FolderName;
+use npm_lock::Problems;
+use npm_manifests::Mismatch;
+use std::fmt;
+
+/// What was written about a lock file.
+#[derive(Debug, PartialEq, Eq, Drop)]
+pub struct Report {
+    /// The manifest and the lock file were compared.
+    pub compared: bool,
+    /// The mismatches of the manifest, but not if their kind is left out.
+    pub mismatches: Vec<Mismatch>,
+    /// Mismatches count for the status.
+    pub exact: bool,
+    /// The folders of linked packages whose manifest was not read.
+    pub unread: Vec<FolderName>,
+    /// The problems of the lock file but those of kinds that are left out, with the counts of all.
+    pub problems: Problems,
+    /// Advisories were looked up.
+    pub audited: bool,
+    /// How many installed packages an advisory hits.
+    pub hits: usize,
+    /// A line was written for each dependency that is not checked.
+    pub listed: bool,
+}
+
+impl Report {
+    /// Returns `true` if nothing was found that counts for the status.
+    pub fn is_clean(&self) -> bool
+        ensures { IsTrue result ↔ IsClean self.now }
+    {
+        let is_same = !self.exact || self.mismatches.is_empty();
+        is_same && self.problems.list.is_empty() && self.hits == 0
+    }
+}
+
+/// Prints the counts. Those of mismatches and of packages that are hit are left out if nothing was looked for. If dependencies
+/// that are not checked were not listed, names the option that lists them.
+impl fmt::Display for Report {
+    fn fmt<W: fmt::Write>(&self, f: &mut fmt::Formatter<W>) -> fmt::Result {
+        let problems = &self.problems;
+        write!(
+            f,
+            "{} packages, {} dependencies, {} problems, {} not checked",
+            problems.packages,
+            problems.dependencies,
+            problems.list.len(),
+            problems.unchecked.len()
+        )?;
+        if !self.listed && !problems.unchecked.is_empty() {
+            write!(f, " (see --unchecked)")?;
+        }
+        if self.compared {
+            write!(f, ", {} mismatches", self.mismatches.len())?;
+        }
+        if !self.unread.is_empty() {
+            write!(
+                f,
+                ", {} manifests not read (see --outside)",
+                self.unread.len()
+            )?;
+        }
+        if self.audited {
+            write!(f, ", {} hit", self.hits)?;
+        }
+        Ok(())
+    }
+}

@@ -1,0 +1,3 @@
+mod LastNames
+mod Parts
+pub mod Examples

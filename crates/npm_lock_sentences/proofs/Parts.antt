@@ -1,0 +1,23 @@
+-- Texts that are added one after the other.
+use Rattle.std.proofs.Common.{◌≡◌, ◌∙◌, ◌++◌, ℕ, List, Option, Some, None, Result, Ok, Err, OnOk, String, Global, ap}
+use Rattle.std.proofs.Common.{if◌then◌else◌, is_ok, option_map, string_bytes}
+use Rattle.std.specs.Option.{option_copied}
+use denote.Ref.{Bor}
+
+-- what a reference points to
+pub seen : (text : Option (Bor (String Global))) (whole : Option (String Global)) → option_copied text ≡ whole
+    → option_map (λ t. string_bytes t.now) text ≡ option_map string_bytes whole
+seen None whole is = ap (option_map string_bytes) is
+seen (Some t) whole is = ap (option_map string_bytes) is
+
+-- the last text was added
+pub last : {T E : Type 0} (r : Result T E) (new old more whole : List ℕ) → new ≡ (if is_ok r then old ++ more else old)
+    → old ++ more ≡ whole → OnOk r (new ≡ whole)
+last (Ok x) new old more whole is same = is ∙ same
+last (Err e) new old more whole is same = tt
+
+-- the text was made so, which is the whole
+pub then_same : {T E : Type 0} (r : Result T E) (new made whole : List ℕ) → OnOk r (new ≡ made) → made ≡ whole
+    → OnOk r (new ≡ whole)
+then_same (Ok x) new made whole is same = is ∙ same
+then_same (Err e) new made whole is same = tt

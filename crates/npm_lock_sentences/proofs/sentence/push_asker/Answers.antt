@@ -1,0 +1,21 @@
+-- The root has no folder.
+use Rattle.std.proofs.Common.{◌≡◌, ◌∙◌, ◌++◌, ◌∷◌, [], ℕ, List, ap, arith, codes, length, option_map, refl}
+use Rattle.std.proofs.Common.{string_bytes, sym, true}
+use Rattle.std.proofs.lemmas.Bool.{eqb-true}
+use Rattle.std.specs.Prelude.{◌==◌}
+use Rattle.npm_lock_sentences.specs.Sentence.{asker}
+use Rattle.npm_lock_sentences.proofs.Parts.{last}
+use Rattle.npm_lock_sentences.proofs.sentence.push_asker.Goals as goal
+
+no_bytes : (folder : List ℕ) → (length folder == 0) ≡ true → folder ≡ []
+no_bytes [] is = refl
+no_bytes (byte ∷ folder) is = absurd (omega (arith, eqb-true (length (byte ∷ folder)) 0 is))
+
+pub returns-then-is_empty : goal.returns-then-is_empty
+returns-then-is_empty c =
+    let version = option_map (λ text. string_bytes text.now) c.args.version in
+    let empty = no_bytes c.args.folder.now (sym c.is_empty.ensures ∙ c.if-is_empty.true) in
+    let root : codes "the root asks for" ≡ asker c.args.folder.now version = rw empty refl in
+    last c.extend_from_slice.result c.extend_from_slice.new.self.items c.args.line.now.items (codes "the root asks for")
+    (c.args.line.now.items ++ asker c.args.folder.now version) c.extend_from_slice.ensures.items
+    (ap (λ text. c.args.line.now.items ++ text) root)

@@ -1,0 +1,427 @@
+//! Tests of lock files of version 1: their texts, and the problems of each.
+use crate::checks::{finds_beside, finds_in_any};
+use node_semver::Version;
+use npm_lock::{CheckError, Problems};
+use npm_lock_tests::checks::{fault_text, finds, finds_in, is_text, problems_text};
+use npm_lock_version_one::{check_any, convert};
+use serde_json::Value;
+use std::alloc::{AllocError, Global};
+
+// Each row has the members of `dependencies`, the manifest, and the problems: each is a kind, a name, and the folder of the
+// package that asks if that is not the root.
+const ROWS: [(&str, &str, &str); 16] = [
+    ("", "{}", ""),
+    // What the root asks for is in the manifest alone.
+    (r#""a": {"version": "1.0.0"}"#, "{}", ""),
+    (
+        r#""a": {"version": "1.0.0"}"#,
+        r#"{"dependencies": {"a": "^1", "b": "^1"}, "devDependencies": {"a": "^2"}}"#,
+        "invalid a, missing b",
+    ),
+    (
+        "",
+        r#"{"optionalDependencies": {"a": "^1"}, "peerDependencies": {"b": "^1"}}"#,
+        "missing b",
+    ),
+    // What a package requires: missing, and satisfied or not by what is found in the root.
+    (
+        r#""a": {"version": "1.0.0", "requires": {"b": "^1", "c": "^1", "d": "^1"}}, "b": {"version": "2.0.0"},
+            "c": {"version": "1.2.0"}"#,
+        "{}",
+        "invalid b of node_modules/a, missing d of node_modules/a",
+    ),
+    // The nearest package counts.
+    (
+        r#""a": {"version": "1.0.0", "requires": {"b": "^1"}, "dependencies": {"b": {"version": "1.0.0"}}},
+            "b": {"version": "2.0.0"}"#,
+        r#"{"dependencies": {"b": "^1"}}"#,
+        "invalid b",
+    ),
+    (
+        r#""a": {"version": "1.0.0", "dependencies": {"b": {"version": "1.0.0", "requires": {"c": "^2"},
+            "dependencies": {"c": {"version": "1.0.0"}}}}}, "c": {"version": "2.0.0"}"#,
+        "{}",
+        "invalid c of node_modules/a/node_modules/b",
+    ),
+    // A package in the folder of another is not seen from the root.
+    (
+        r#""a": {"version": "1.0.0", "dependencies": {"b": {"version": "1.0.0"}}}"#,
+        r#"{"dependencies": {"b": "^1"}}"#,
+        "missing b",
+    ),
+    // Scopes.
+    (
+        r#""@s/a": {"version": "1.0.0", "requires": {"@s/b": "^1"}, "dependencies": {"@s/b": {"version": "2.0.0"}}}"#,
+        "{}",
+        "invalid @s/b of node_modules/@s/a",
+    ),
+    // `requires` that says nothing, and `dependencies` that are null.
+    (
+        r#""a": {"version": "1.0.0", "requires": true}, "b": {"version": "1.0.0", "requires": null, "dependencies": null},
+            "c": {"version": "1.0.0", "requires": false}, "d": {}"#,
+        "{}",
+        "",
+    ),
+    // An optional package that is there is checked, and the marks of packages change nothing.
+    (
+        r#""a": {"version": "1.0.0", "requires": {"b": "^1"}}, "b": {"version": "2.0.0", "optional": true, "dev": true,
+            "bundled": true, "resolved": "https://r/b.tgz", "integrity": "sha512-"}"#,
+        "{}",
+        "invalid b of node_modules/a",
+    ),
+    // The version of an alias is after its name; a URL, a repository and a folder have none.
+    (
+        r#""a": {"version": "npm:c@1.2.0"}, "b": {"version": "npm:@s/c@2.0.0"}"#,
+        r#"{"dependencies": {"a": "npm:c@^1", "b": "npm:@s/c@^1"}}"#,
+        "invalid b",
+    ),
+    (
+        r#""a": {"version": "https://r/a-1.0.0.tgz"}, "b": {"version": "github:b/b#0"}, "c": {"version": "file:c"}"#,
+        r#"{"dependencies": {"a": "https://r/a-1.0.0.tgz", "b": "b/b", "c": "file:c"}}"#,
+        "",
+    ),
+    (
+        r#""a": {"version": "file:a", "requires": {"b": "^1"}}"#,
+        r#"{"dependencies": {"a": "^1"}}"#,
+        "invalid a, missing b of node_modules/a",
+    ),
+    // Peers and workspaces of the manifest, and a spec that it accepts too.
+    (
+        r#""a": {"version": "1.0.0"}"#,
+        r#"{"peerDependencies": {"a": "^2", "b": "1"}, "peerDependenciesMeta": {"b": {"optional": true}},
+            "acceptDependencies": {"a": "^1"}, "workspaces": ["w"]}"#,
+        "",
+    ),
+    // Two packages in one folder: the later name counts.
+    (
+        r#""a": {"dependencies": {"b": {"version": "1.0.0"}}, "requires": {"b": "^1"}},
+            "a/node_modules/b": {"version": "2.0.0"}"#,
+        "{}",
+        "invalid b of node_modules/a",
+    ),
+];
+
+#[test]
+fn finds_the_problems_of_version_one(rt: HostRuntime) {
+    for (dependencies, manifest, problems) in &ROWS {
+        assert!(rt;
+            finds_in_dependencies(rt.alloc(), dependencies, manifest, problems),
+            "{dependencies}"
+        );
+    }
+}
+
+fn finds_in_dependencies(
+    alloc: Global,
+    dependencies: &str,
+    manifest: &str,
+    problems: &str,
+) -> bool {
+    match &lock_text(alloc, dependencies) {
+        Ok(text) => finds_beside(alloc, text, manifest, None, problems),
+        Err(_) => false,
+    }
+}
+
+fn lock_text(alloc: Global, dependencies: &str) -> Result<String, AllocError> {
+    format!(in alloc;
+        "{{\"lockfileVersion\": 1, \"requires\": true, \"dependencies\": {{{dependencies}}}}}"
+    )
+}
+
+const FAULTS: [(&str, &str, &str); 24] = [
+    ("{}", "{}", "Version"),
+    ("null", "{}", "Version"),
+    (r#"{"lockfileVersion": 0}"#, "{}", "Version"),
+    (r#"{"lockfileVersion": "1"}"#, "{}", "Version"),
+    (
+        r#"{"lockfileVersion": null, "dependencies": {}}"#,
+        "{}",
+        "Version",
+    ),
+    (r#"{"lockfileVersion": 1, "packages": {}}"#, "{}", "Version"),
+    (r#"{"dependencies": {}, "packages": {}}"#, "{}", "Version"),
+    (
+        r#"{"lockfileVersion": 3, "dependencies": {}}"#,
+        "{}",
+        "Packages",
+    ),
+    (
+        r#"{"lockfileVersion": 1, "dependencies": []}"#,
+        "{}",
+        "Dependencies",
+    ),
+    (r#"{"dependencies": 1}"#, "{}", "Dependencies"),
+    (r#"{"dependencies": {"a": "^1"}}"#, "{}", "Entry"),
+    (
+        r#"{"dependencies": {"a": {"dependencies": {"b": null}}}}"#,
+        "{}",
+        "Entry",
+    ),
+    (
+        r#"{"dependencies": {"a": {"dependencies": {"b": {"dependencies": ""}}}}}"#,
+        "{}",
+        "Dependencies",
+    ),
+    (
+        r#"{"dependencies": {"a": {"version": 1}}}"#,
+        "{}",
+        "PackageVersion",
+    ),
+    (
+        r#"{"dependencies": {"a": {"version": null}}}"#,
+        "{}",
+        "PackageVersion",
+    ),
+    (
+        r#"{"dependencies": {"a": {"requires": []}}}"#,
+        "{}",
+        "Dependencies",
+    ),
+    (
+        r#"{"dependencies": {"a": {"requires": {"b": true}}}}"#,
+        "{}",
+        "Spec",
+    ),
+    (
+        r#"{"dependencies": {"a": {"requires": []}, "b": 1}}"#,
+        "{}",
+        "Dependencies",
+    ),
+    (
+        r#"{"dependencies": {"a": {"dependencies": {"b": {}}}, "c": 1}}"#,
+        "[]",
+        "Entry",
+    ),
+    (r#"{"dependencies": {}}"#, "[]", "Manifest"),
+    (r#"{"dependencies": {}}"#, r#"{"link": true}"#, "Manifest"),
+    (
+        r#"{"dependencies": {}}"#,
+        r#"{"version": 1}"#,
+        "PackageVersion",
+    ),
+    (
+        r#"{"dependencies": {}}"#,
+        r#"{"devDependencies": []}"#,
+        "Dependencies",
+    ),
+    (
+        r#"{"dependencies": {}}"#,
+        r#"{"dependencies": {"a": 1}}"#,
+        "Spec",
+    ),
+];
+
+// Each row is a lock file, its manifest, and the fault.
+#[test]
+fn refuses_what_is_no_version_one(rt: HostRuntime) {
+    for (text, manifest, fault) in &FAULTS {
+        assert!(rt;
+            finds_beside(rt.alloc(), text, manifest, None, fault),
+            "{text} {manifest}"
+        );
+    }
+}
+
+// A version may be written as `1.0`, and a file may say none. With no manifest the root asks for nothing.
+const VERSIONS: [&str; 4] = [
+    r#"{"lockfileVersion": 1.0, "dependencies": {"a": {"requires": {"b": "^1"}}}}"#,
+    r#"{"dependencies": {"a": {"requires": {"b": "^1"}}}}"#,
+    r#"{"lockfileVersion": 2, "packages": {"": {}, "node_modules/a": {"dependencies": {"b": "^1"}}}, "dependencies": 1}"#,
+    r#"{"lockfileVersion": 3, "packages": {"": {}, "node_modules/a": {"dependencies": {"b": "^1"}}}}"#,
+];
+
+#[test]
+fn reads_files_of_every_version(rt: HostRuntime) {
+    let problems = "missing b of node_modules/a";
+    for text in &VERSIONS {
+        assert!(rt;
+            finds_and_counts(rt.alloc(), text, problems, (2, 1, 0)),
+            "{text}"
+        );
+    }
+    // `check` reads no file of version 1.
+    assert!(rt; finds(rt.alloc(), VERSIONS[0], None, "Version"));
+}
+
+// Returns `true` if the check finds these problems, and so many packages, dependencies, and dependencies that are not
+// checked.
+fn finds_and_counts(
+    alloc: Global,
+    text: &str,
+    problems: &str,
+    counts: (usize, usize, usize),
+) -> bool {
+    match &Value::from_str(alloc, text) {
+        Ok(lock) => are_counted(alloc, check_any(alloc, lock, None, None), problems, counts),
+        Err(_) => false,
+    }
+}
+
+fn are_counted(
+    alloc: Global,
+    answer: Result<Problems, CheckError>,
+    problems: &str,
+    counts: (usize, usize, usize),
+) -> bool {
+    match &answer {
+        Ok(found) => {
+            (found.packages, found.dependencies, found.unchecked.len()) == counts
+                && is_text(problems_text(alloc, found.list.as_slice()).ok(), problems)
+        }
+        Err(_) => false,
+    }
+}
+
+const OLD: &str =
+    r#"{"dependencies": {"a": {"version": "1.0.0", "dev": true, "requires": {"b": "^2"},
+            "dependencies": {"b": {"version": "npm:c@1.0.0", "requires": true}}}}}"#;
+
+const MANIFEST: &str = r#"{"dependencies": {"a": "^1"}}"#;
+
+const CONVERTED: &str =
+    r#"{"lockfileVersion":3,"packages":{"":{"dependencies":{"a":"^1"}},"node_modules/a":{"dependencies":{"b":"^2"},"dev":true,"version":"1.0.0"},"node_modules/a/node_modules/b":{"name":"c","version":"1.0.0"}}}"#;
+
+// A lock file, its manifest, the file that it becomes or the fault, and what a check of that file finds.
+const CONVERSIONS: [(&str, &str, &str, &str); 4] = [
+    (OLD, MANIFEST, CONVERTED, "invalid b of node_modules/a"),
+    // Aliases: with a scope, of a name alone, of no name, and of what is in no registry.
+    (
+        r#"{"dependencies": {"a": {"version": "npm:@s/c@1.0.0"}, "b": {"version": "npm:c"}, "c": {"version": "npm:^1"},
+            "d": {"version": "npm:@s/c"}, "e": {"version": "NPM:c@"}, "f": {"version": "npm:c@github:b/c"}}}"#,
+        "",
+        r#"{"lockfileVersion":3,"packages":{"":{},"node_modules/a":{"name":"@s/c","version":"1.0.0"},"node_modules/b":{"name":"c","version":"*"},"node_modules/c":{"version":"^1"},"node_modules/d":{"name":"@s/c","version":"*"},"node_modules/e":{"name":"c","version":"*"},"node_modules/f":{}}}"#,
+        "",
+    ),
+    (
+        r#"{"lockfileVersion": 4}"#,
+        "",
+        r#"{"lockfileVersion":4}"#,
+        "Version",
+    ),
+    (r#"{"dependencies": {"a": 1}}"#, "", "Entry", ""),
+];
+
+// A file of version 1 becomes one of version 3 with the same problems, and another stays as it is.
+#[test]
+fn converts_files_of_version_one(rt: HostRuntime) {
+    for (text, manifest, wanted, problems) in &CONVERSIONS {
+        assert!(rt;
+            converts(rt.alloc(), text, manifest, (wanted, problems)),
+            "{text}"
+        );
+    }
+}
+
+// With an empty text there is no manifest.
+fn converts(alloc: Global, text: &str, manifest: &str, wanted: (&str, &str)) -> bool {
+    if manifest.is_empty() {
+        return converts_beside(alloc, text, None, wanted);
+    }
+    match &Value::from_str(alloc, manifest) {
+        Ok(manifest) => converts_beside(alloc, text, Some(manifest), wanted),
+        Err(_) => false,
+    }
+}
+
+fn converts_beside(
+    alloc: Global,
+    text: &str,
+    manifest: Option<&Value>,
+    wanted: (&str, &str),
+) -> bool {
+    match Value::from_str(alloc, text) {
+        Ok(lock) => is_made(alloc, convert(alloc, lock, manifest), wanted),
+        Err(_) => false,
+    }
+}
+
+fn is_made(alloc: Global, made: Result<Value, CheckError>, wanted: (&str, &str)) -> bool {
+    match &made {
+        Ok(value) => is_text(value.to_string(alloc).ok(), wanted.0)
+            && finds_in(alloc, value, None, wanted.1),
+        Err(error) => is_text(fault_text(alloc, error), wanted.0),
+    }
+}
+
+#[test]
+fn asks_a_manifest_for_a_version_of_node(rt: HostRuntime) {
+    let manifest = r#"{"engines": {"node": ">=18"}}"#;
+    assert!(rt; asks_for_node(rt.alloc(), "16.0.0", manifest, "engine node"));
+    assert!(rt; asks_for_node(rt.alloc(), "16.0.0", "", ""));
+}
+
+// The check of a lock file without packages. With an empty text there is no manifest.
+fn asks_for_node(alloc: Global, node: &str, manifest: &str, wanted: &str) -> bool {
+    match &Version::parse(alloc, node) {
+        Ok(node) => {
+            let text = r#"{"lockfileVersion": 1}"#;
+            if manifest.is_empty() {
+                finds_in_any(alloc, text, None, Some(node), wanted)
+            } else {
+                finds_beside(alloc, text, manifest, Some(node), wanted)
+            }
+        }
+        Err(_) => false,
+    }
+}
+
+// 2,000 packages in the root, each of which requires the one before.
+#[test]
+fn finds_the_problems_of_many_packages(rt: HostRuntime) {
+    let problems = "invalid p1999 of node_modules/q";
+    let alloc = rt.alloc();
+    assert!(rt; is_counted(alloc, many_packages(alloc), problems, (2_002, 2_000, 0)));
+}
+
+fn is_counted(
+    alloc: Global,
+    text: Result<String, AllocError>,
+    problems: &str,
+    counts: (usize, usize, usize),
+) -> bool {
+    match &text {
+        Ok(text) => finds_and_counts(alloc, text, problems, counts),
+        Err(_) => false,
+    }
+}
+
+fn many_packages(alloc: Global) -> Result<String, AllocError> {
+    let mut text = String::from_str(
+        alloc,
+        r#"{"lockfileVersion": 1, "dependencies": {"p0": {"version": "1.0.0"}"#,
+    )?;
+    for number in 1..2_000_u32 {
+        push_package(alloc, &mut text, number)?;
+    }
+    text.push_str(r#", "q": {"version": "2.0.0", "requires": {"p1999": "^2"}}}}"#)?;
+    Ok(text)
+}
+
+// A package that requires the one before.
+fn push_package(alloc: Global, text: &mut String, number: u32) -> Result<(), AllocError> {
+    let before = number.saturating_sub(1);
+    let one = format!(in alloc;
+        ", \"p{number}\": {{\"version\": \"1.0.{number}\", \"requires\": {{\"p{before}\": \"^1.0.0\"}}}}"
+    )?;
+    text.push_str(one.as_str())
+}
+
+// As deep as a text may nest: 62 packages, each in the folder of the one before.
+#[test]
+fn finds_a_package_that_is_deep(rt: HostRuntime) {
+    let alloc = rt.alloc();
+    assert!(rt; is_counted(alloc, deep_package(alloc), "", (63, 62, 0)));
+}
+
+fn deep_package(alloc: Global) -> Result<String, AllocError> {
+    let mut text = String::from_str(alloc, r#"{"lockfileVersion": 1"#)?;
+    for _ in 0..62 {
+        text.push_str(r#", "dependencies": {"a": {"version": "1.0.0", "requires": {"a": "1"}"#)?;
+    }
+    for _ in 0..62 {
+        text.push_str("}}")?;
+    }
+    text.push_str("}")?;
+    Ok(text)
+}

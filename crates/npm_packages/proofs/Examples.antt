@@ -1,0 +1,4 @@
+pub mod LockExamples
+pub mod FaultExamples
+pub mod LinkedFolderExamples
+pub mod OverrideExamples

@@ -1,0 +1,12 @@
+pub mod Examples
+pub mod Fronts
+pub mod Groups
+pub mod Indexing
+pub mod LastPlaces
+pub mod LinkedLists
+pub mod MemberLookups
+pub mod Nearest
+pub mod OverrideNames
+pub mod OverrideRules
+pub mod Reaching
+pub mod Requesting

@@ -1,0 +1,3 @@
+-- Lemmas that crates above cite. A reader need not trust them: the checker proves them.
+
+pub mod NameLists  -- the names that a package depends on are the keys of a map

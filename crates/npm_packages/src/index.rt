@@ -1,0 +1,130 @@
+//! The index of a lock file: which package a name has in the `node_modules` of a folder.
+//!
+//! See docs/DECISIONS.md, "The index has packages by their names and folders".
+ghost use Rattle.std.specs.Prelude.{◌≡◌, ◌∷◌, ◌++◌, ◌↔◌, ℕ, List, IfOk, IsSome, IsTrue, OnOk, Some};
+ghost use Rattle.std.specs.Option.{MatchOption};
+ghost use Rattle.serde_json.specs.Find.{get};
+ghost use Rattle.serde_json.specs.View.{view};
+ghost use Rattle.npm_packages.specs.Index.{IsIndexOf, IsEnd, IsLast, IsPlain};
+ghost use Rattle.npm_packages.specs.Private.Index.{IsAdded, IsLastTo, IsMore, IsUpTo};
+ghost use Rattle.npm_packages.specs.Index.{at_place};
+ghost use Rattle.npm_packages.specs.PackageValue.{packages_data};
+
+use crate::Result;
+use crate::folder::is_modules;
+use crate::place::{Lock, Package};
+use crate::search::{front_of, inside, rest_of, split_last};
+use std::collections::BTreeMap;
+
+/// A package, and the folder in whose `node_modules` it is.
+#[derive(Clone, Copy)]
+pub(crate) struct Hit<'v> {
+    pub(crate) folder: &'v str,
+    /// The package there, or the target of a link there.
+    pub(crate) found: Package<'v>,
+}
+
+/// All packages of a lock file, by their names and the folders in whose `node_modules` they are. `Lock::find` looks names
+/// up in it.
+#[derive(Drop)]
+pub struct Index<'v> {
+    by_name: BTreeMap<(&'v str, &'v [u8]), Hit<'v>>,
+}
+
+impl<'v> Index<'v> {
+    /// Returns the index of the packages of a lock file.
+    ///
+    /// # Errors
+    ///
+    /// An allocation failed.
+    ///
+    /// # Memory
+    ///
+    /// Allocates an entry for each package that is in a `node_modules`. Names and folders are borrowed.
+    pub fn of_lock(lock: Lock<'v>) -> Result<Index<'v>>
+        ensures { IfOk result (λ index. IsIndexOf (packages_data lock.entry) index) }
+    {
+        let mut index = Index {
+            by_name: BTreeMap::new(lock.alloc),
+        };
+        for (folder, member) in lock.members.iter() {
+            let folder = folder.as_str();
+            index.add_member(lock, Package { folder, member })?;
+        }
+        Ok(index)
+    }
+
+    /// Adds a member of `packages` that is in a `node_modules`, but not a link whose target is not there.
+    fn add_member(&mut self, lock: Lock<'v>, placed: Package<'v>) -> Result<()>
+        requires { get placed.folder.now (packages_data lock) ≡ Some (view placed.member.now) }
+        ensures { OnOk result (IsMore (packages_data lock.entry) placed.entry.folder.now self.old self.new) }
+    {
+        let Some(found) = lock.found_at(placed) else {
+            return Ok(());
+        };
+        let name = end_of(placed.folder);
+        match inside(placed.folder, name) {
+            Some(folder) if !is_modules(folder) => self.add(name, Hit { folder, found }),
+            _ => Ok(()),
+        }
+    }
+
+    /// Adds the package of a name in the `node_modules` of a folder.
+    fn add(&mut self, name: &'v str, hit: Hit<'v>) -> Result<()>
+        ensures { OnOk result (IsAdded name.now hit.entry self.old self.new) }
+    {
+        self.by_name.insert((name, hit.folder.as_bytes()), hit)?;
+        Ok(())
+    }
+
+    /// The package of a name in the last folder that is not after these bytes.
+    pub(crate) fn last_to(&self, name: &'v str, left: &'v [u8]) -> Option<Hit<'v>>
+        ensures { MatchOption result
+            ((folder : List ℕ) → IsSome (at_place self.now name.now folder) → IsUpTo folder left.now → ⊥)
+            (IsLastTo self.now name.now left.now) }
+    {
+        let (key, hit) = self.by_name.range(..=(name, left)).next_back()?;
+        if key.0 == name { Some(*hit) } else { None }
+    }
+}
+
+/// Returns `true` for a name of one part, or of a scope and a part, as npm's names are.
+pub(crate) fn is_plain(name: &str) -> bool
+    ensures { IsTrue result ↔ IsPlain name.now }
+{
+    end_of(name) == name
+}
+
+/// The last part of a path, with the scope before it.
+fn end_of(path: &str) -> &str
+    ensures { IsEnd path.now result.now }
+{
+    let Some((above, last)) = split_last(path) else {
+        return path;
+    };
+    let part = last_of(above);
+    if part.starts_with('@') {
+        without_front(path, above, part)
+    } else {
+        last
+    }
+}
+
+/// The last part of a path.
+fn last_of(path: &str) -> &str
+    ensures { IsLast path.now result.now }
+{
+    match split_last(path) {
+        Some((_, last)) => last,
+        None => path,
+    }
+}
+
+/// The path without what comes before this part, which is the last one of what is above.
+fn without_front<'v>(path: &'v str, above: &str, part: &str) -> &'v str
+    requires { IsLast above.now part.now × ((last : List ℕ) × (path.now ≡ above.now ++ (47 ∷ last))) }
+    ensures { (front : List ℕ) × (above.now ≡ front ++ part.now) × (path.now ≡ front ++ result.now) }
+{
+    let front = front_of(above, part).unwrap();
+    rest_of(path, front).unwrap()
+}

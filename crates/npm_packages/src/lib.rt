@@ -1,0 +1,31 @@
+//! The packages of a lock file, `package-lock.json`: what each depends on, and which package a name is found to be.
+//!
+//! [`edges_of`] returns the dependencies of all packages with what is found for each, [`Dependents`] the range texts by
+//! which each package is asked for, and [`linked_folders`] the folders that links name. A check that goes over the packages
+//! itself takes [`lock_of`], [`Index`], [`rules_of`] and [`asked_of`]; [`Lock::find`] looks a name up.
+#![tactic(auto)]
+
+mod asked;
+mod dependents;
+mod edges;
+mod fault;
+mod folder;
+mod index;
+mod linked;
+mod overrides;
+mod place;
+mod search;
+
+pub use asked::{Asked, Names, accepted_of, asked_of, is_optional_peer};
+pub use dependents::Dependents;
+pub use edges::{Edge, edges_of};
+pub use fault::{CheckError, Fault, check_package, check_specs, has_text_version, lock_of};
+pub use folder::is_installed;
+pub use index::Index;
+pub use linked::{linked_folders, members_of};
+pub use overrides::{Rule, Rules, overridden, rules_of};
+pub use place::{Lock, Package, is_link, linked_folder, place_text};
+pub use search::outermost_of;
+
+/// The result of what fails by memory alone, if no other error is named.
+type Result<T, E = std::alloc::AllocError> = std::result::Result<T, E>;

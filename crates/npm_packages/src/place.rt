@@ -1,0 +1,207 @@
+//! Where a name is found.
+ghost use Rattle.std.specs.Prelude.{◌≡◌, ◌↔◌, IfOk, IfSome, IsTrue, Some, option_map, string_bytes};
+ghost use Rattle.std.specs.Option.{MatchOption};
+ghost use Rattle.serde_json.specs.Find.{get};
+ghost use Rattle.serde_json.specs.View.{view};
+ghost use Rattle.npm_packages.specs.Folders as Folders;
+ghost use Rattle.npm_packages.specs.Packages.{IsFound, IsFoundIn, IsPassed};
+ghost use Rattle.npm_packages.specs.Packages as Packages;
+ghost use Rattle.npm_packages.specs.Index.{IsIndexOf, IsPlain};
+ghost use Rattle.npm_packages.specs.PackageValue.{package_value, packages_data};
+ghost use Rattle.npm_packages.specs.Lookups.{IsOutermostFrom};
+ghost use Rattle.npm_packages.specs.Private.Search.{IsNearest};
+
+use crate::Result;
+use crate::folder::is_modules;
+use crate::index::{Hit, Index, is_plain};
+use crate::search::{above_of, is_reached, shared};
+use serde_json::{Map, Value};
+use std::alloc::Global;
+
+/// The packages of a lock file. `lock_of` makes it of a lock file without faults.
+#[derive(Clone, Copy)]
+pub struct Lock<'v> {
+    pub alloc: Global,
+    /// The members of `packages`, by their folders.
+    pub members: &'v Map<String, Value>,
+}
+
+/// A package, and the folder that it is in.
+#[derive(Clone, Copy)]
+pub struct Package<'v> {
+    /// The folder, as the key of `packages` writes it: `""` for the root.
+    pub folder: &'v str,
+    /// The member of `packages`.
+    pub member: &'v Value,
+}
+
+impl<'v> Lock<'v> {
+    /// Finds a name in the `node_modules` of the package's folder, or else of the next folder above. Also returns `true`
+    /// if that is the `node_modules` of the folder itself. Returns `None` if the name is found nowhere. `index` is that of
+    /// this lock file, and `outermost` what `outermost_of` returns for the folder.
+    ///
+    /// # Errors
+    ///
+    /// An allocation failed.
+    ///
+    /// # Memory
+    ///
+    /// Does not allocate for a name of one part, or of a scope and a part, as npm's names are. For any other name it
+    /// allocates the text of each place at which it looks.
+    ///
+    /// # Examples
+    ///
+    /// With packages in `node_modules/a`, `node_modules/b` and `node_modules/a/node_modules/b`, the name `b` from the folder
+    /// `node_modules/a` is the last one, and `true`; `a` from there is `node_modules/a`, and `false`.
+    ///
+    /// # Source
+    ///
+    /// npm's "folders", "Cycles, Conflicts, and Folder Parsimony".
+    pub fn find(
+        self,
+        index: &Index<'v>,
+        from: &'v str,
+        outermost: &str,
+        name: &'v str,
+    ) -> Result<Option<(Package<'v>, bool)>>
+        requires index { IsIndexOf (packages_data self) index.now }
+        requires outermost { IsOutermostFrom from.now outermost.now }
+        ensures found { IfOk result (λ found. IsFound (packages_data self.entry) name.now from.now
+            (option_map (λ f. package_value f.0) found)) }
+        ensures own { IfOk result (λ found. IfSome found (λ f. IsTrue f.1
+            ↔ IsFoundIn (packages_data self.entry) name.now from.now (package_value f.0))) }
+    {
+        if !is_plain(name) {
+            return self.find_above(from, name);
+        }
+        match self.nearest(index, from, outermost, name) {
+            Some(hit) => Ok(Some((hit.found, hit.folder.len() == from.len()))),
+            None => Ok(None),
+        }
+    }
+
+    /// The nearest package of a plain name: that of the last folder in the order of bytes, or else of the last one that is not
+    /// after what the two folders share.
+    fn nearest(
+        self,
+        index: &Index<'v>,
+        from: &'v str,
+        outermost: &str,
+        name: &'v str,
+    ) -> Option<Hit<'v>>
+        requires index { IsIndexOf (packages_data self) index.now }
+        requires outermost { IsOutermostFrom from.now outermost.now }
+        requires plain { IsPlain name.now }
+        ensures { IsNearest (packages_data self.entry) from.now name.now result }
+    {
+        let mut left = from.as_bytes();
+        'nearer: loop {
+            let hit = index.last_to(name, left)?;
+            if is_reached(from, outermost, hit.folder) {
+                return Some(hit);
+            }
+            if left.is_empty() {
+                return None;
+            }
+            left = shared(left, hit.folder.as_bytes());
+        }
+    }
+
+    /// The same for any name, folder by folder.
+    fn find_above(self, from: &str, name: &str) -> Result<Option<(Package<'v>, bool)>>
+        ensures found { IfOk result (λ found. IsFound (packages_data self.entry) name.now from.now
+            (option_map (λ f. package_value f.0) found)) }
+        ensures own { IfOk result (λ found. IfSome found (λ f. IsTrue f.1
+            ↔ IsFoundIn (packages_data self.entry) name.now from.now (package_value f.0))) }
+    {
+        let mut at = from;
+        'folders: loop {
+            if let Some(found) = self.find_in(at, name)? {
+                return Ok(Some((found, at.len() == from.len())));
+            }
+            let Some(above) = above_of(at) else {
+                return Ok(None);
+            };
+            at = above;
+        }
+    }
+
+    /// Finds a name in the `node_modules` of one folder.
+    fn find_in(self, folder: &str, name: &str) -> Result<Option<Package<'v>>>
+        ensures { IfOk result (λ found. MatchOption found (IsPassed (packages_data self.entry) name.now folder.now)
+            (λ found. IsFoundIn (packages_data self.entry) name.now folder.now (package_value found))) }
+    {
+        if is_modules(folder) {
+            return Ok(None);
+        }
+        let place = place_text(self.alloc, folder, name)?;
+        Ok(self.package_at(place.as_str()))
+    }
+
+    /// Returns the package at a place, which is the target if a link is there. Does not allocate.
+    pub fn package_at(self, place: &str) -> Option<Package<'v>>
+        ensures { option_map package_value result ≡ Packages.package_at (packages_data self.entry) place.now }
+    {
+        self.found_at(self.package_in(place)?)
+    }
+
+    /// The package at a place, of which this is the member: the member, or the target of a link.
+    pub(crate) fn found_at(self, placed: Package<'v>) -> Option<Package<'v>>
+        requires { get placed.folder.now (packages_data self) ≡ Some (view placed.member.now) }
+        ensures { option_map package_value result
+            ≡ Packages.package_at (packages_data self.entry) placed.entry.folder.now }
+    {
+        if is_link(placed.member) {
+            self.target_of(placed.member)
+        } else {
+            Some(placed)
+        }
+    }
+
+    /// The package that `resolved` of a link names.
+    pub(crate) fn target_of(self, link: &Value) -> Option<Package<'v>>
+        ensures { option_map package_value result ≡ Packages.target_of (packages_data self.entry) (view link.now) }
+    {
+        self.package_in(linked_folder(link.get("resolved")?.as_str()?))
+    }
+
+    /// Returns the member of `packages` for a folder, be it a link or not. Does not allocate.
+    pub fn package_in(self, folder: &str) -> Option<Package<'v>>
+        ensures { option_map package_value result ≡ option_map
+            (λ member. record { folder = folder.now; member = member }) (get folder.now (packages_data self.entry)) }
+    {
+        let (folder, member) = self.members.get_key_value(folder)?;
+        let folder = folder.as_str();
+        Some(Package { folder, member })
+    }
+}
+
+/// Returns the folder that `resolved` of a link names: `w` for `w` and for `./w`. Does not allocate.
+pub fn linked_folder(resolved: &str) -> &str
+    ensures { result.now ≡ Packages.linked_folder resolved.now }
+{
+    resolved.strip_prefix("./").unwrap_or(resolved)
+}
+
+/// The folder of a name in the `node_modules` of a folder.
+pub fn place_text(alloc: Global, folder: &str, name: &str) -> Result<String>
+    ensures { IfOk result (λ text. string_bytes text ≡ Folders.place_in folder.now name.now) }
+{
+    // One allocation. A text that grows from nothing takes three or four.
+    let size = folder.len().saturating_add(name.len()).saturating_add(14);
+    let mut text = String::with_capacity(alloc, size)?;
+    if !folder.is_empty() {
+        text.push_str(folder)?;
+        text.push_str("/")?;
+    }
+    text.push_str("node_modules/")?;
+    text.push_str(name)?;
+    Ok(text)
+}
+
+/// Returns `true` if a member of `packages` is a link, and no package of its own.
+pub fn is_link(member: &Value) -> bool
+    ensures { result ≡ Packages.is_link (view member.now) }
+{
+    member.get("link").and_then(Value::as_bool).unwrap_or(false)
+}

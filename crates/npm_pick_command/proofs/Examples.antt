@@ -1,0 +1,3 @@
+pub mod CommandExamples
+pub mod MirrorExamples
+pub mod LineExamples

@@ -1,0 +1,34 @@
+//! The files of manifests that the arguments name.
+ghost use Rattle.std.specs.Prelude.{◌≡◌, ◌++◌, IfOk, OnOk, map, string_bytes};
+ghost use Rattle.npm_pick_command.specs.Arguments.{argument_value, manifest_in, manifests_of as manifests_named};
+
+use crate::arguments::{Argument, first_argument};
+use crate::name::{Name, Setting, name_of};
+use std::alloc::{AllocError, Global};
+
+/// Returns the values of all options `--manifest`, in their order.
+pub fn manifests_of<'a>(alloc: Global, words: &'a [String]) -> Result<Vec<&'a str>, AllocError>
+    ensures { IfOk result (λ files. map (λ file. file.now) files.items ≡ manifests_named (map string_bytes words.now)) }
+{
+    let mut files = Vec::new(alloc);
+    let mut left = words;
+    'words: while let Some((argument, rest)) = first_argument(left) {
+        push_manifest(&mut files, argument)?;
+        left = rest;
+    }
+    Ok(files)
+}
+
+/// Adds the file of a manifest, if the argument names one.
+fn push_manifest<'a>(files: &mut Vec<&'a str>, argument: Argument<'a>) -> Result<(), AllocError>
+    ensures { OnOk result (map (λ file. file.now) files.new.items
+        ≡ map (λ file. file.now) files.old.items ++ manifest_in (argument_value argument.entry)) }
+{
+    let Some(Name::Valued(Setting::Manifest)) = name_of(argument.word) else {
+        return Ok(());
+    };
+    if let Some(file) = argument.value {
+        files.push(file)?;
+    }
+    Ok(())
+}

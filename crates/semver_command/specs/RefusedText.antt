@@ -1,0 +1,14 @@
+-- A range text that is refused, and below it a mark at its fault. For `>=1.2 foo`, which is refused at `foo`:
+--
+--     >=1.2 foo
+--           ^
+use Rattle.std.specs.Prelude.{ℕ, List, ◌++◌, codes, length, replicate, take}
+use Rattle.semver_command.specs.Shown.{shown}
+
+-- as many blanks as what is shown of the text before its fault has characters
+abbrev pub blanks_before : (text : List ℕ) → (offset : ℕ) → List ℕ
+blanks_before text offset = replicate (length (shown (take offset text))) 32
+
+-- the two lines
+abbrev pub refused_lines : (text : List ℕ) → (offset : ℕ) → List ℕ
+refused_lines text offset = shown text ++ (codes "\n" ++ (blanks_before text offset ++ codes "^\n"))

@@ -42,7 +42,7 @@ pub copied : (from name spec : String Global) (from_version to version : Option 
 copied from name spec from_version to version dev optional peer from_text name_text spec_text from_version_text to_text
     version_text is_dev is_optional is_peer a b c d e f g h i = rw (a, b, c, d, e, f, g, h, i) refl
 
--- what was found, seen by its texts
+-- the folder of the package that was found
 pub folder_of : (found : Option Package)
     → option_map (λ p. p.folder.now) found ≡ option_map (λ p. p.folder) (option_map package_value found)
 folder_of None = refl

@@ -1,4 +1,4 @@
--- Which problems a lock file has, in which order, and what is counted: npm's "npm ls" and "package-lock.json",
+-- Which problems a lock file has, in which order, and the counts: npm's "npm ls" and "package-lock.json",
 -- "packages".
 use Rattle.std.specs.Prelude.{◌≡◌, ◌↔◌, ◌-◌, ◌^◌, ℕ, List, [], ◌∷◌, ◌++◌, Bool, true, false, IsTrue, min, Option, Some}
 use Rattle.std.specs.Prelude.{None, codes, map, count_by}
@@ -20,14 +20,14 @@ use Rattle.npm_packages.specs.Overrides.{overridden}
 use Rattle.npm_packages.specs.Packages.{is_link}
 use Rattle.npm_lock.specs.declared.problem.Problems.{Problems}
 
--- what is found out about a package, its problem with the version of Node, and about a dependency
+-- a finding about a package, its problem with the version of Node; or about a dependency
 pub data Finding : Type 0 where
   of_package : (problem : Option ProblemValue) → Finding
   of_dependency : (problem : Option ProblemValue) → (unchecked : Option UncheckedValue) → Finding
 
 -- ---- a dependency, and all of one package
 
--- the finding that is told of it: its problem, or why it is not checked
+-- the finding about a dependency: its problem, or why it is not checked
 abbrev pub finding_of : (folder : List ℕ) → (asker : Data) → (name : List ℕ) → AskedValue → JudgementValue → Finding
 finding_of folder asker name asked fine = of_dependency None None
 finding_of folder asker name asked (wrong kind found) =
@@ -35,7 +35,7 @@ finding_of folder asker name asked (wrong kind found) =
 finding_of folder asker name asked (unknown reason found) = of_dependency None
     (Some (record { reason = reason; dependency = dependency_of folder asker name asked (Some found) }))
 
--- what is found out about the dependency of the package in this folder on a name, as `overrides` change it
+-- the finding about the dependency of the package in this folder on a name, as `overrides` change it
 pub data IsDependencyFinding (packages : Data) (folder : List ℕ) (asker : Data) (is_installed : Bool) (name : List ℕ)
     : Finding → Type 0 where
   dependency : (asked : AskedValue) (judgement : JudgementValue) → asked_of asker is_installed name ≡ Some asked
@@ -43,7 +43,7 @@ pub data IsDependencyFinding (packages : Data) (folder : List ℕ) (asker : Data
       → IsDependencyFinding packages folder asker is_installed name
       (finding_of folder asker name (overridden packages folder name asked) judgement)
 
--- what is found out about the dependencies of the package in this folder: one finding for each name, in their order
+-- the findings about the dependencies of the package in this folder: one for each name, in their order
 pub record AreDependencyFindings (packages : Data) (folder : List ℕ) (asker : Data) (found : List Finding)
     : Type 0 where
   pub is_installed : Bool

@@ -12,7 +12,7 @@ use Rattle.npm_packages.specs.Packages.{Package, package_at}
 use Rattle.npm_lock.specs.declared.problem.Kind.{Kind}
 use Rattle.npm_lock.specs.declared.problem.Kind.TheVariants.{Invalid, Missing}
 
--- what the root asks for: `file:packages/a` for the workspace in the folder `packages/a`
+-- the dependency of the root: `file:packages/a` for the workspace in the folder `packages/a`
 abbrev pub asked_folder : (folder : List ℕ) → AskedValue
 asked_folder folder = record {
   spec = codes "file:" ++ folder;
@@ -22,12 +22,12 @@ asked_folder folder = record {
   is_overridden = false;
 }
 
--- the root itself asks for the name, and it must be found
+-- the root itself depends on the name, and it must be found
 abbrev pub is_needed : (root : Data) → (name : List ℕ) → Bool
 is_needed root name = option_map_or (λ asked. asked.is_needed) (asked_of root false name) false
 
 -- What is wrong with the package that the root finds under the workspace's name: it is in another folder, or there is
--- none. If the root itself asks for a name that is found nowhere, that is a problem of its own, and no second one.
+-- none. If the root itself depends on a name that is found nowhere, that is a problem of its own, and no second one.
 abbrev pub kind_of : (root : Data) → (package_found : Option Package) → (name folder : List ℕ) → Option Kind
 kind_of root None name folder = if is_needed root name then None else Some Missing
 kind_of root (Some found) name folder = if bytes_eq found.folder folder then None else Some Invalid

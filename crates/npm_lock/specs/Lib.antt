@@ -1,12 +1,12 @@
 -- What the contracts of this crate say: all of it that is trusted, in reading order, beside what `npm_packages` says of
 -- packages and what they depend on.
 -- `IsChecked` of Findings is the claim of `check`, `lock_fault` of that crate's Faults says what it refuses, and
--- `problem_data` of ProblemJson is what is written for a problem. All other words are there for these three.
+-- `problem_data` of ProblemJson is the JSON object of a problem. All other words are there for these three.
 
 -- ---- one dependency
 pub mod Workspaces  -- which folders are workspaces of the root
-pub mod Verdict  -- whether a version is what a spec asks for
-pub mod Outcomes  -- what is wrong with a dependency, and with the version of Node
+pub mod Verdict  -- whether a version satisfies a spec
+pub mod Outcomes  -- the problem of a dependency, and the one with the version of Node
 -- ---- the whole file
 pub mod Findings  -- all problems of a lock file in their order, and the counts
 pub mod ProblemJson  -- a problem as a JSON object

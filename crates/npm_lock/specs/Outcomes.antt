@@ -22,8 +22,8 @@ use Rattle.npm_lock.specs.Verdict.{IsContained, IsVerdictOfBoth}
 use Rattle.npm_lock.specs.Workspaces.{IsWorkspace}
 use Rattle.npm_lock.specs.declared.workspace.Workspace.TheVariants as Workspaces
 
--- A dependency of a package, and what was found for it: the package in the folder `from` depends on the name by this
--- spec, and the package in `to` was found.
+-- A dependency of a package, and the package that was found for it: the package in the folder `from` depends on the name
+-- by this spec, and the package in `to` was found.
 pub record DependencyValue : Type 0 where
   pub from : List ℕ
   pub from_version : Option (List ℕ)
@@ -100,9 +100,9 @@ pub record IsLocalPeer (packages : Data) (folder : List ℕ) (is_installed : Boo
   pub installed : is_installed ≡ true
   pub own : IsFoundIn packages name folder package_found
 
--- The verdict on the package that was found for a dependency of the package in this folder. A workspace of the root is
--- what the root asks for, whatever the spec; if it may be one, the dependency is not checked. Nor is one that
--- `overrides` change in a way that is not read here.
+-- The verdict on the package that was found for a dependency of the package in this folder. A workspace of the root
+-- satisfies each spec of the root; if it may be one, the dependency is not checked. Nor is one that `overrides` change
+-- in a way that is not read here.
 pub data IsVerdictOn (folder : List ℕ) (asker : Data) (name : List ℕ) (asked : AskedValue)
     (package_found : Package) : Verdict → Type 0 where
   workspace : IsWorkspace folder asker package_found.folder Workspaces.Is
@@ -116,14 +116,14 @@ pub data IsVerdictOn (folder : List ℕ) (asker : Data) (name : List ℕ) (asked
       → IsVerdictOfBoth (version_of package_found.member) asked.spec (accepted_of asker name) verdict
       → IsVerdictOn folder asker name asked package_found verdict
 
--- what is found out about a dependency: nothing is wrong; something is, with the package that was found, if one was; or
--- it is not checked
+-- the judgement of a dependency: nothing is wrong; something is, with the package that was found, if one was; or it is
+-- not checked
 pub data JudgementValue : Type 0 where
   fine : JudgementValue
   wrong : Kind → Option Package → JudgementValue
   unknown : Reason → Package → JudgementValue
 
--- what is found out about a dependency of the package in this folder
+-- the judgement of a dependency of the package in this folder
 pub data IsOutcome (packages : Data) (folder : List ℕ) (asker : Data) (is_installed : Bool) (name : List ℕ)
     (asked : AskedValue) : JudgementValue → Type 0 where
   absent : IsFound packages name folder None → asked.is_needed ≡ false

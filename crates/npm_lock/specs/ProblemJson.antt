@@ -7,7 +7,7 @@ use Rattle.npm_lock.specs.declared.problem.Kind.TheVariants.{Engine, Invalid, Mi
 use Rattle.npm_lock.specs.declared.problem.Reason.{Reason}
 use Rattle.npm_lock.specs.declared.problem.Reason.TheVariants.{Location, Override, Tag, Workspace}
 
--- the word for what is wrong
+-- the word for a kind of problem
 abbrev pub kind_text : Kind → List ℕ
 kind_text Missing = codes "missing"
 kind_text Invalid = codes "invalid"
@@ -37,7 +37,7 @@ dependency_members dependency = member (codes "dev") (boolean dependency.dev)
     (with_text (codes "to") dependency.to
     (with_text (codes "version") dependency.version no_members)))))))
 
--- the object of a problem: what is wrong is `problem`, at its place in the order of names
+-- the object of a problem: its kind is the member `problem`, at its place in the order of names
 abbrev pub problem_data : ProblemValue → Data
 problem_data problem =
     object (put (codes "problem") (string (kind_text problem.kind)) (dependency_members problem.dependency))

@@ -39,7 +39,7 @@ is_glob_byte b = list_any (λ c. b == c) (codes "!#*?[]{}()\\")
 abbrev pub has_glob_byte : (stem : List ℕ) → Bool
 has_glob_byte stem = list_any is_glob_byte stem
 
--- the folders that the star stands for are those in this one: the root, or a folder with `/` at its end
+-- the star matches folders in this one: the root, or a folder with `/` at its end
 abbrev pub is_whole : (stem : List ℕ) → Bool
 is_whole stem = (length stem == 0) || ends_with nat_eq stem (codes "/")
 
@@ -53,18 +53,18 @@ abbrev pub has_dot_part : (is_start : Bool) → (path : List ℕ) → Bool
 has_dot_part is_start [] = false
 has_dot_part is_start (b ∷ path) = (is_start && (b == 46)) || has_dot_part (b == 47) path
 
--- what `**` stands for: some parts of a folder, of which none begins with a dot
+-- a text that `**` matches: some parts of a folder, of which none begins with a dot
 abbrev pub are_parts : (rest : List ℕ) → Bool
 are_parts rest = not (length rest == 0) && not (has_dot_part true rest)
 
 abbrev pub has_slash : (rest : List ℕ) → Bool
 has_slash rest = list_any (λ b. b == 47) rest
 
--- what `*` stands for: one such part
+-- a text that `*` matches: one such part
 abbrev pub is_part : (rest : List ℕ) → Bool
 is_part rest = are_parts rest && not (has_slash rest)
 
--- the folder whose parts the stars stand for: `packages` of `packages/*`
+-- the folder in which the stars match: `packages` of `packages/*`
 abbrev pub is_base : (folder stem : List ℕ) → Bool
 is_base folder stem = not (length stem == 0) && bytes_eq folder (without_end (codes "/") stem)
 

@@ -18,7 +18,7 @@ use std::alloc::Global;
 /// the root depends on the name by `file:FOLDER`. It is `Missing` if the root finds no package of the name, and `Invalid` if it
 /// finds one in another folder.
 ///
-/// A name that the root itself asks for, and that is found nowhere, is a problem of `check`: here it is none.
+/// A name that the root itself depends on, and that is found nowhere, is a problem of `check`: here it is none.
 ///
 /// # Errors
 ///
@@ -83,7 +83,7 @@ fn kind_of(root: &Value, found: Option<Package<'_>>, name: &str, folder: &str) -
     }
 }
 
-/// Returns `true` if the root itself asks for the name, and it must be found.
+/// Returns `true` if the root itself depends on the name, and it must be found.
 fn is_needed(root: &Value, name: &str) -> bool
     ensures { result ≡ FoundWorkspaces.is_needed (view root.now) name.now }
 {

@@ -1,7 +1,7 @@
 //! Checks the packages of a lock file, `package-lock.json`, against what they depend on, as `npm ls` does.
 //!
-//! The packages themselves, and what each depends on, are read by `npm_packages`. What callers of [`check`] need of it is
-//! handed on here.
+//! `npm_packages` reads the packages and their dependencies. This crate re-exports the items of it that callers of [`check`]
+//! need.
 #![tactic(auto)]
 
 mod found_workspace;

@@ -31,7 +31,7 @@ pub(crate) enum Judgement<'v> {
     Unknown(Reason, Package<'v>),
 }
 
-/// Returns what is found out about a dependency of a package.
+/// Returns the judgement of a dependency of a package.
 pub(crate) fn judgement_of<'v>(
     lock: Lock<'v>,
     asker: Package<'v>,
@@ -72,7 +72,7 @@ fn is_local_peer(asked: Asked<'_>, is_installed: bool, is_own: bool) -> bool
     asked.is_peer && is_installed && is_own
 }
 
-/// Adds what is found out about a dependency of a package.
+/// Adds the judgement of a dependency of a package.
 pub(crate) fn add_judgement(
     problems: &mut Problems,
     alloc: Global,
@@ -170,7 +170,7 @@ pub(crate) fn engine_problem(
     Ok(Some(Problem { kind, dependency }))
 }
 
-/// What a package asks of Node, as a dependency, and the version of Node.
+/// The `engines.node` of a package as a dependency, for which this version of Node is found.
 fn engine_of_node(
     alloc: Global,
     asker: Package<'_>,

@@ -19,7 +19,7 @@ pub enum Kind {
     Missing,
     /// The found version does not satisfy the range.
     Invalid,
-    /// A peer of an installed package stands in that package's own `node_modules`.
+    /// A peer of an installed package is installed in that package's own `node_modules`.
     PeerLocal,
     /// The version of Node does not satisfy `engines.node`.
     Engine,
@@ -75,7 +75,7 @@ pub struct Dependency {
     pub from_version: Option<String>,
     /// The name of the dependency, or `node`.
     pub name: String,
-    /// What is asked for, as it is written.
+    /// The spec as it is written.
     pub spec: String,
     /// The folder of the package that was found.
     pub to: Option<String>,
@@ -156,7 +156,7 @@ fn put_bool(members: &mut Map<String, Value>, alloc: Global, name: &str, value: 
     put(members, alloc, name, Value::Bool(value))
 }
 
-/// The problems of a lock file, and what was counted.
+/// The problems of a lock file, and the counts.
 #[derive(Debug, PartialEq, Eq, Drop)]
 pub struct Problems {
     /// Packages as their folders sort by bytes; of a package first `node`, and then its dependencies by name.

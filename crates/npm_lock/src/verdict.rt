@@ -38,8 +38,8 @@ impl Verdict {
     }
 }
 
-/// Returns whether the version of a package satisfies the spec that another asks for by a name, or the one that it accepts
-/// beside it.
+/// Returns whether the version of a package satisfies the spec by which another depends on it, or the one in that package's
+/// `acceptDependencies`.
 pub(crate) fn verdict_of_both(
     alloc: Global,
     asker: &Value,

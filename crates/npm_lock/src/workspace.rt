@@ -281,7 +281,7 @@ fn has_glob_byte(stem: &str) -> bool
     stem.bytes().any(|byte| b"!#*?[]{}()\\".contains(&byte))
 }
 
-/// Returns `true` for the name of a folder that `*` in a pattern of `workspaces` stands for: `a`, but not `.a`. Does not
+/// Returns `true` for the name of a folder that `*` in a pattern of `workspaces` matches: `a`, but not `.a`. Does not
 /// allocate.
 pub fn is_part(rest: &str) -> bool
     ensures { result ≡ Workspaces.is_part rest.now }

@@ -166,7 +166,7 @@ const SPECS: [(&str, &str); 12] = [
             "node_modules/a": {"version": "1.0.0"}, "node_modules/b": {"version": "1.0.0"}"#,
         "invalid b",
     ),
-    // A workspace of the root is what the root asks for, and no other package's.
+    // A workspace satisfies every spec of the root. For another package its version counts.
     (
         r#""": {"workspaces": ["w"], "devDependencies": {"w": "^2"}}, "node_modules/w": {"link": true, "resolved": "w"},
             "w": {"version": "1.0.0"}, "node_modules/a": {"dependencies": {"w": "^2"}}"#,

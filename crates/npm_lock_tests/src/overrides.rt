@@ -1,10 +1,10 @@
-//! Tests of `overrides`: what they say, the packages beside the root, and what is found out.
+//! Tests of `overrides`: the rules, the packages beside the root, and the findings.
 use crate::checks::{Findings, text_tells};
 use npm_lock::{Problems, check};
 use serde_json::Value;
 use std::alloc::{AllocError, Global};
 
-// `overrides` of the root, which depends on `a`, and what is found out about the dependencies of `a` on `@s/c` and `b`, both
+// `overrides` of the root, which depends on `a`, and the findings about the dependencies of `a` on `@s/c` and `b`, both
 // `^1`: satisfied (`+`), not satisfied (`-`) or not checked (`?`). Of both 2.0.0 is installed.
 const ROWS: [(&str, &str); 29] = [
     (r#"{}"#, "--"),
@@ -129,8 +129,8 @@ invalid {"dev":false,"from":"node_modules/a/node_modules/e","name":"w","optional
 override {"dev":false,"from":"w","name":"b","optional":false,"peer":false,"spec":"^1","to":"node_modules/b","unchecked":"override","version":"2.0.0"}"#,
 };
 
-// The root, peers and what lies in other packages are changed too. What is missing is a problem whatever the spec, and so
-// is a local peer. In a workspace no rule is read, and a workspace is what the root asks for whatever the rule.
+// The root, peers and packages in other packages are changed too. A missing package is a problem whatever the spec, and so
+// is a local peer. In a workspace no rule is read, and a workspace satisfies the root whatever the rule.
 #[test]
 fn changes_each_dependency_of_a_name(rt: HostRuntime) {
     assert!(rt; text_tells(rt.alloc(), CHANGED, &CHANGES));

@@ -97,7 +97,7 @@ const PROBLEMS: [(&str, &str, &str, &str); 12] = [
         "w",
         "missing",
     ),
-    // The root itself asks for the name, and it is missing anyhow, but not if it may be missing.
+    // The root itself depends on the name, and it is missing anyhow, but not if it may be missing.
     (r#""": {"dependencies": {"a": "1"}}"#, "a", "w", "none"),
     (
         r#""": {"devDependencies": {"a": "1"}, "optionalDependencies": {"a": "1"}}"#,
@@ -147,7 +147,7 @@ fn problem_text(alloc: Global, lock: &Value, name: &str, folder: &str) -> Option
     }
 }
 
-// The kind of a problem, and the folder that was found, if the dependency has this name and asks for this folder.
+// The kind of a problem, and the folder that was found, if the dependency has this name, and this folder in its spec.
 fn words_of(alloc: Global, problem: &Problem, name: &str, folder: &str) -> Option<String> {
     let dependency = &problem.dependency;
     if dependency.name.as_str() != name || !asks_for(dependency.spec.as_str(), folder) {

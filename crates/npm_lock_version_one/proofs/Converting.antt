@@ -170,7 +170,7 @@ file_sound lock manifest none =
     (both_none (member_fault (object members) (unwrap_or manifest (object no_members))) None
     (root_sound (object members) manifest later) refl)
 
--- what is converted has the fault of the file
+-- the converted file has the fault of the first one
 pub same_fault : (lock : Data) (manifest : Option Data) → is_version_one lock ≡ true
     → version_one_fault lock manifest ≡ None → lock_fault (converted lock manifest) ≡ any_fault lock manifest
 same_fault lock manifest is none = rw (is, none) (file_sound lock manifest none)

@@ -1,5 +1,5 @@
 -- Lock files of version 1, which npm 5 and 6 wrote, and of no version, which are older: npm's "package-lock.json",
--- "dependencies". What is said of a lock file is said of the `packages` that such a file stands for.
+-- "dependencies". Such a file is converted to `packages` of version 3, and then read as a file of that version.
 use Rattle.std.specs.Prelude.{◌&&◌, ◌||◌, ◌++◌, ℕ, pos, List, [], ◌∷◌, Bool, true, false, not, if◌then◌else◌}
 use Rattle.std.specs.Prelude.{Option, Some, None, bytes_eq, codes, is_some, option_and_then, option_map, unwrap_or}
 use Rattle.std.specs.Float.Ieee.{Float, binary64, eq, of_int}
@@ -54,7 +54,7 @@ abbrev mutual
       (record { folder = place_in folder name; member = entry } ∷ packages_below (place_in folder name) entry)
       ++ packages_of_entries folder others
 
--- ---- the members of `packages` that they stand for
+-- ---- the members of `packages` that they become
 
 -- the text of a spec that names a version of a registry
 abbrev pub registry_text : SpecValue → Option (List ℕ)
@@ -67,7 +67,7 @@ unfoldable pub version_in : (entry : Data) → Option (List ℕ)
 version_in entry = option_and_then (λ version. registry_text (spec_of version))
     (option_and_then as_str (get (codes "version") entry))
 
--- the name of the package that an alias stands for: `a` of `npm:a@1.0.0`
+-- the name of the package behind an alias: `a` of `npm:a@1.0.0`
 unfoldable pub name_in : (entry : Data) → Option (List ℕ)
 name_in entry = option_and_then aliased_name (option_and_then as_str (get (codes "version") entry))
 
@@ -82,8 +82,8 @@ with_some key None members = members
 with_some key (Some value) members = put key value members
 
 -- A package as a member of `packages`: `{"version": "1.0.0", "dependencies": {"b": "^1"}}` of
--- `{"version": "1.0.0", "requires": {"b": "^1"}}`, with `dev` and `optional` as they are. That of an alias also has the
--- `name` of what it stands for.
+-- `{"version": "1.0.0", "requires": {"b": "^1"}}`, with `dev` and `optional` as they are. An alias also has the `name`
+-- of the package behind it.
 abbrev pub member_of : (entry : Data) → Data
 member_of entry = object (with_some (codes "version") (option_map string (version_in entry))
     (with_some (codes "optional") (get (codes "optional") entry)
@@ -97,8 +97,8 @@ with_packages [] members = members
 with_packages (first ∷ others) members =
     with_packages others (put first.folder (member_of first.member) members)
 
--- The `packages` that a file of version 1 stands for. The file does not say what the root asks for: that is in the
--- manifest, `package.json`. With no manifest the root asks for nothing.
+-- The `packages` that a file of version 1 becomes. The file does not say what the root depends on: that is in the
+-- manifest, `package.json`. With no manifest the root has no dependencies.
 abbrev pub packages_of : (lock : Data) → (manifest : Option Data) → Data
 packages_of lock manifest = object (with_packages (packages_below [] lock)
     (member [] (unwrap_or manifest (object no_members)) no_members))

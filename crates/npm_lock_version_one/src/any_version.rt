@@ -19,8 +19,8 @@ use std::alloc::Global;
 
 /// Returns the problems of a lock file of version 1, 2 or 3, as `check` does.
 ///
-/// A file of version 1 does not say what its root asks for. That is in the manifest, `package.json`; with no manifest the
-/// root asks for nothing. Of a file of version 2 or 3 the manifest is not looked at.
+/// A file of version 1 does not say what its root depends on. That is in the manifest, `package.json`; with no manifest the
+/// root has no dependencies. For a file of version 2 or 3 the manifest is not read.
 ///
 /// # Errors
 ///
@@ -53,8 +53,8 @@ pub fn check_any(
 
 /// Returns a lock file of any version as one with `packages`: one of version 1 is converted, and another stays as it is.
 ///
-/// The root of what is converted is the manifest; with no manifest it asks for nothing. `check` then finds the problems
-/// that `check_any` finds, and other calls that read `packages` read them too.
+/// The manifest becomes the root of a converted file; with no manifest the root has no dependencies. `check` then finds the
+/// problems that `check_any` finds, and other calls that read `packages` read them too.
 ///
 /// # Errors
 ///
@@ -82,7 +82,7 @@ pub fn convert(alloc: Global, lock: Value, manifest: Option<&Value>) -> Result<V
     file_of(alloc, &lock, manifest).map_err(|_| CheckError::Memory)
 }
 
-/// The file of version 3 that one of version 1 stands for.
+/// The file of version 3 that one of version 1 becomes.
 fn file_of(alloc: Global, lock: &Value, manifest: Option<&Value>) -> Result<Value>
     ensures { IfOk result (λ made. view made ≡ VersionOne.file_of
         (VersionOne.packages_of (view lock.now) (option_map (λ manifest. view manifest.now) manifest.entry))) }

@@ -1,4 +1,4 @@
-//! Lock files of version 1, which npm 5 and 6 wrote: the `packages` of version 3 that they stand for, and their problems.
+//! Lock files of version 1, which npm 5 and 6 wrote: the `packages` of version 3 that they become, and their problems.
 #![tactic(auto)]
 
 mod any_version;

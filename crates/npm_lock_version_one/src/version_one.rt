@@ -1,4 +1,4 @@
-//! Lock files of version 1, which npm 5 and 6 wrote: the `packages` that they stand for.
+//! Lock files of version 1, which npm 5 and 6 wrote: the `packages` that they become.
 ghost use Rattle.std.specs.Prelude.{◌≡◌, IfOk, OnOk, option_map};
 ghost use Rattle.serde_json.specs.Data.{object, string};
 ghost use Rattle.serde_json.specs.View.{members_view, view};
@@ -30,7 +30,7 @@ fn is_one(number: f64) -> bool
     number == f64::from(1_u8)
 }
 
-/// Returns the members of the `packages` that a file of version 1 stands for. The root is the manifest.
+/// Returns the members of the `packages` that a file of version 1 becomes. The root is the manifest.
 pub(crate) fn packages_of(
     alloc: Global,
     lock: &Value,
@@ -136,7 +136,7 @@ fn put_text(
     }
 }
 
-/// Returns the name of the package that an alias stands for: `a` of `npm:a@1.0.0`.
+/// Returns the name of the package behind an alias: `a` of `npm:a@1.0.0`.
 #[tactic(auto, unfolding(crate::specs::VersionOne::name_in))]
 fn name_in(entry: &Value) -> Option<&str>
     ensures { option_map (λ name. name.now) result ≡ VersionOne.name_in (view entry.now) }

@@ -1,4 +1,4 @@
--- A walk along two groups: what is left after a name is taken, and which names both have.
+-- A walk along two groups: which members are left after a name is taken, and which names both groups have.
 use Rattle.std.proofs.Common.{◌≡◌, ◌≢◌, ◌⊎◌, ℕ, zero, suc, List, [], ◌∷◌, ◌++◌, Bool, true, false, Option, Some}
 use Rattle.std.proofs.Common.{None}
 use Rattle.std.proofs.Common.{IsTrue, Ordering, Less, Equal, Greater, ap, arith, bytes_eq, inl, inr, is_eq, nat_cmp}
@@ -161,7 +161,7 @@ module _ (name : List ℕ) (specs locked left left_locked : Members) (taken : Is
     | inr b ↦ after_taken name n left_locked taken_locked.above b
   ]
 
-  -- what is left was there
+  -- the members that are left were there before
   pub was_there : (n : List ℕ) → IsSome (get_member n left) ⊎ IsSome (get_member n left_locked)
       → (IsSome (get_member n specs) ⊎ IsSome (get_member n locked))
       × (get_member n left ≡ get_member n specs) × (get_member n left_locked ≡ get_member n locked)

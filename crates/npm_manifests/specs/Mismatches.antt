@@ -1,5 +1,5 @@
--- Where a manifest, `package.json`, and the lock file do not ask for the same: npm's "npm ci", and "package.json", from
--- "dependencies" to "optionalDependencies".
+-- Dependencies that differ between a manifest, `package.json`, and the lock file: npm's "npm ci", and "package.json",
+-- from "dependencies" to "optionalDependencies".
 use Rattle.std.specs.Prelude.{◌≡◌, ◌↔◌, ◌⊎◌, ◌||◌, ◌&&◌, ℕ, List, ◌++◌, Bool, true, false, not, if◌then◌else◌}
 use Rattle.std.specs.Prelude.{Option, Some, None, is_some, bytes_eq, codes, map, option_and_then, option_map}
 use Rattle.std.specs.Prelude.{string_bytes}
@@ -73,7 +73,7 @@ is_compared manifest entry DevDependencies name = true
 is_compared manifest entry OptionalDependencies name = true
 is_compared manifest entry PeerDependencies name = true
 
--- the mismatch of a name, if the manifest and the package `entry` of the lock file do not ask for the same
+-- the mismatch of a name, if the manifest and the package `entry` of the lock file have different specs
 abbrev pub mismatch_of : (folder : List ℕ) → (manifest entry : Data) → Group → (name : List ℕ) → Option MismatchValue
 mismatch_of folder manifest entry group name =
     if not (is_same (spec_of manifest group name) (spec_of entry group name)) && is_compared manifest entry group name
@@ -123,7 +123,7 @@ abbrev pub AreMismatches : (lock : Data) → (folder : List ℕ) → (manifest :
 AreMismatches lock folder manifest list =
     AreMismatchesOf folder manifest (entry_of lock folder) (map mismatch_value list)
 
--- the fault of a value as a manifest, if it has one: this is what is refused
+-- the fault of a value as a manifest, if it has one: it is then refused
 abbrev pub manifest_fault : (manifest : Data) → Option Fault
 manifest_fault manifest =
     if is_some (as_object manifest) then package_fault manifest else Some Faults.Manifest

@@ -1,1 +1,1 @@
-pub mod GroupSpecs  -- what is left of a group
+pub mod GroupSpecs  -- the members of a group that are left

@@ -1,5 +1,5 @@
-//! Manifests, `package.json`, beside a lock file: where the two do not ask for the same, and a manifest in the place of its
-//! package.
+//! Manifests, `package.json`, beside a lock file: dependencies that differ between the two, and a manifest in the place of
+//! its package.
 #![tactic(auto)]
 
 mod group;

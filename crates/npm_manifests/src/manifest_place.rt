@@ -9,7 +9,7 @@ use serde_json::{Map, Value, put};
 use std::alloc::Global;
 
 /// Puts a manifest in the place of the package in this folder, as npm does for the root and each workspace. `check` then
-/// asks for what the manifest asks for.
+/// reads the dependencies of the manifest.
 ///
 /// # Errors
 ///

@@ -18,7 +18,7 @@ pub struct Mismatch {
     pub group: Group,
     /// The name of the dependency.
     pub name: String,
-    /// What the manifest asks for, if the name is in its group.
+    /// The spec in the manifest, if the name is in its group.
     pub spec: Option<String>,
     /// What the lock file has, if the name is in its group.
     pub locked: Option<String>,

@@ -1,4 +1,4 @@
-//! Tests of manifests beside a lock file: which names they do not ask for alike, and what is checked with a manifest.
+//! Tests of manifests beside a lock file: names whose specs differ, and the check of a lock file with a manifest.
 use npm_lock::CheckError;
 use npm_lock_tests::checks::{Findings, fault_text, is_text, push_line, tells};
 use npm_manifests::{Mismatch, mismatches_of, put_manifest};
@@ -174,7 +174,7 @@ fn lines(alloc: Global, found: &[Mismatch]) -> Result<String, AllocError> {
     Ok(text)
 }
 
-// What is not in the lock file asks for nothing.
+// A folder that is not in the lock file has no dependencies.
 const OTHER_LOCKS: [&str; 4] = [
     "{}",
     "[]",

@@ -11,7 +11,7 @@ use std::alloc::{AllocError, Global};
 // package that asks if that is not the root.
 const ROWS: [(&str, &str, &str); 16] = [
     ("", "{}", ""),
-    // What the root asks for is in the manifest alone.
+    // The dependencies of the root are in the manifest alone.
     (r#""a": {"version": "1.0.0"}"#, "{}", ""),
     (
         r#""a": {"version": "1.0.0"}"#,
@@ -23,7 +23,7 @@ const ROWS: [(&str, &str, &str); 16] = [
         r#"{"optionalDependencies": {"a": "^1"}, "peerDependencies": {"b": "^1"}}"#,
         "missing b",
     ),
-    // What a package requires: missing, and satisfied or not by what is found in the root.
+    // `requires` of a package: a missing package, and packages in the root that satisfy the range or not.
     (
         r#""a": {"version": "1.0.0", "requires": {"b": "^1", "c": "^1", "d": "^1"}}, "b": {"version": "2.0.0"},
             "c": {"version": "1.2.0"}"#,
@@ -223,7 +223,7 @@ fn refuses_what_is_no_version_one(rt: HostRuntime) {
     }
 }
 
-// A version may be written as `1.0`, and a file may say none. With no manifest the root asks for nothing.
+// A version may be written as `1.0`, and a file may say none. With no manifest the root has no dependencies.
 const VERSIONS: [&str; 4] = [
     r#"{"lockfileVersion": 1.0, "dependencies": {"a": {"requires": {"b": "^1"}}}}"#,
     r#"{"dependencies": {"a": {"requires": {"b": "^1"}}}}"#,
@@ -285,7 +285,7 @@ const CONVERTED: &str =
 // A lock file, its manifest, the file that it becomes or the fault, and what a check of that file finds.
 const CONVERSIONS: [(&str, &str, &str, &str); 4] = [
     (OLD, MANIFEST, CONVERTED, "invalid b of node_modules/a"),
-    // Aliases: with a scope, of a name alone, of no name, and of what is in no registry.
+    // Aliases: with a scope, of a name alone, of no name, and of a package in no registry.
     (
         r#"{"dependencies": {"a": {"version": "npm:@s/c@1.0.0"}, "b": {"version": "npm:c"}, "c": {"version": "npm:^1"},
             "d": {"version": "npm:@s/c"}, "e": {"version": "NPM:c@"}, "f": {"version": "npm:c@github:b/c"}}}"#,

@@ -89,7 +89,7 @@ pub slashed_some : (folder : List ℕ) → length folder ≢ 0 → slashed folde
 slashed_some [] some = absurd (some refl)
 slashed_some (b ∷ folder) some = refl
 
--- what is not empty, and does not end with a `/`, is no folder with its `/`
+-- a text that is not empty, and does not end with a `/`, is no folder with its `/`
 pub no_slash_at : (modules folder : List ℕ) → modules ≡ slashed folder → length modules ≢ 0
     → ((front : List ℕ) → modules ≢ front ++ (47 ∷ [])) → ⊥
 no_slash_at modules [] is some none = some (ap (λ t. length t) is)
@@ -211,7 +211,7 @@ pub scoped_end : (path above part last front rest : List ℕ) → path ≡ above
 scoped_end path above part last front rest whole is_part is_rest = append_cancel_left front rest (part ++ (47 ∷ last))
     (sym is_rest ∙ whole ∙ ap (λ t. t ++ (47 ∷ last)) is_part ∙ append_assoc front part (47 ∷ last))
 
--- what is above ends with its last part
+-- a path ends with its last part
 pub front_of_last : (above part : List ℕ) → IsLast above part → (front : List ℕ) × (above ≡ front ++ part)
 front_of_last above part is = elim is.whole [
   | inl same ↦ ([], same)

@@ -22,7 +22,7 @@ absent key [] below = refl
 absent key (e ∷ entries) below = rw below.0 (absent key entries below.1)
 
 module _ {X : Type 0} (f : List ℕ → List ℕ → X) where
-  -- what these members of a group ask for by a name
+  -- the value for the spec of this name among these members of a group
   abbrev pub among : (name : List ℕ) → Members → Option X
   among name members = option_map (f name) (option_and_then as_str (get_member name members))
 
@@ -54,7 +54,7 @@ module _ {X : Type 0} (f : List ℕ → List ℕ → X) where
       rw (is, is_text, gone) refl
   no_text Greater name key value rest old is is_text none = rw is refl
 
--- what is inserted under a key, seen by its value
+-- the value of an entry after it is inserted under a key
 pub seen_update : {X Y : Type 0} (g : X → Y) (here : Bool) (made : X) (old : Option X)
     → option_map g (cond here (Some made) old) ≡ cond here (Some (g made)) (option_map g old)
 seen_update g true made old = refl

@@ -1,4 +1,4 @@
--- The last folder up to some bytes, and what each folder above begins with.
+-- The last folder up to some bytes, and the text that each folder above begins with.
 use Rattle.std.proofs.Common.{◌≡◌, ◌∙◌, ◌⊎◌, ◌<◌, ◌≤◌, ◌-◌, ℕ, zero, suc, List, [], ◌∷◌, ◌++◌, true, false, Ordering}
 use Rattle.std.proofs.Common.{Less, Equal, Greater, ap, append-nil, arith, inl, inr, length, nat_cmp, refl, slice_index, nat_lt, sym, take, Bool, None, Some}
 use Rattle.std.proofs.lemmas.Bool.Decides.{nat_tests}

@@ -55,7 +55,7 @@ module _ (packages : Data) (from name left : List ℕ) (index : Index) (h : Hit)
       | inr less ↦ less
     ]
 
-    -- what is left begins with each folder of the name as before
+    -- the rest begins with each folder of the name as before
     pub still_begins : (IsReached from h.folder.now → ⊥) → (next : List ℕ)
         → ((start : List ℕ) → BeginsWith left start → BeginsWith h.folder.now start → length start < length h.folder.now
         → length start < length left → BeginsWith next start)

@@ -32,7 +32,7 @@ pub two_added : (first second third a b rest : Option RuleValue) → second ≡ 
 two_added first second third a b rest one two =
     rw (two, one) (both_grouped (both first a) b rest ∙ both_grouped first a (both b rest))
 
--- what was there for a name, and what is put there
+-- the rule that a name had, and the one that it gets
 abbrev pub IsPut : (there : Option RuleValue) → (rule made : RuleValue) → Type 0
 IsPut None rule made = made ≡ rule
 IsPut (Some x) rule made = made ≡ unread
@@ -45,7 +45,7 @@ rule_added false old new there rule made is same put = is ∙ (rw both_none refl
 rule_added true old new None rule made is same put = is ∙ rw (← same refl, put) refl
 rule_added true old new (Some x) rule made is same put = is ∙ rw (← same refl, put) refl
 
--- what is put for a name that has a rule, and for one that has none
+-- the rule that is put for a name that has one, and for a name that has none
 pub put_again : (there : Option Rule) (old made : Rule) (rule : RuleValue) → Some old ≡ there → made ≡ Unread
     → IsPut (option_map rule_value there) rule (rule_value made)
 put_again there old made rule is same = rw (← is, same) refl

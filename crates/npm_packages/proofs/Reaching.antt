@@ -1,4 +1,4 @@
--- The folders in which a name is looked up from another, and what is found there.
+-- The folders in which a name is looked up from another, and the package that is found there.
 use Rattle.std.proofs.Common.{◌≡◌, ◌≢◌, ◌∙◌, ◌⊎◌, ◌<◌, ◌≤◌, ◌+◌, ℕ, List, [], ◌∷◌, ◌++◌, false, Some}
 use Rattle.std.proofs.Common.{None, ap, append_assoc, arith, codes, inl, inr, length, refl, sym}
 use Rattle.std.proofs.lemmas.List.{length-append}
@@ -137,7 +137,7 @@ reached_within (above folder parent to is rest) (itself _) last = absurd (no_abo
 reached_within (above folder parent to is rest) (above _ second outermost is_second others) last =
     reached_within rest (rw (same_above folder second parent is_second is) at others) last
 
--- ---- what is found
+-- ---- the package that is found
 
 module _ (packages : Data) (name : List ℕ) where
   -- the name is passed in all folders that are nearer

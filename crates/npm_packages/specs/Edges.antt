@@ -1,4 +1,4 @@
--- The dependencies of a lock file, and what is installed for each: npm's "npm outdated".
+-- The dependencies of a lock file, and the package that is installed for each: npm's "npm outdated".
 use Rattle.std.specs.Prelude.{◌≡◌, ◌↔◌, ℕ, List, [], ◌++◌, Bool, IsTrue, Option, Some, codes, option_and_then, option_map}
 use Rattle.std.specs.Bool.{MatchBool}
 use Rattle.std.specs.List.{AllZip}
@@ -11,8 +11,8 @@ use Rattle.npm_packages.specs.Overrides.{overridden}
 use Rattle.npm_packages.specs.Packages.{IsFound, Package, is_link}
 use Rattle.npm_packages.specs.declared.edges.Edge.{Edge}
 
--- A dependency of the package in a folder: its name and what is asked for, and the folder and the version of the package
--- that is found
+-- A dependency of the package in a folder: its name and its spec, and the folder and the version of the package that is
+-- found
 pub record EdgeValue : Type 0 where
   pub from : List ℕ
   pub name : List ℕ
@@ -28,7 +28,7 @@ pub record EdgeValue : Type 0 where
 abbrev pub version_of : (entry : Data) → Option (List ℕ)
 version_of entry = option_and_then as_str (get (codes "version") entry)
 
--- the dependency on a name, if this is asked for and this is found
+-- the dependency on a name by this spec, for which this package is found
 abbrev pub edge_of : (folder name : List ℕ) → AskedValue → Option Package → EdgeValue
 edge_of folder name asked found = record {
   from = folder;
@@ -42,7 +42,7 @@ edge_of folder name asked found = record {
   version = option_and_then (λ there. version_of there.member) found;
 }
 
--- the dependency of the package in this folder on a name, as `overrides` change it, and what is found for it
+-- the dependency of the package in this folder on a name, as `overrides` change it, with the package that is found
 pub data IsEdge (packages : Data) (folder : List ℕ) (asker : Data) (is_installed : Bool) (name : List ℕ)
     : EdgeValue → Type 0 where
   dependency : (asked : AskedValue) (found : Option Package) → asked_of asker is_installed name ≡ Some asked

@@ -1,5 +1,5 @@
--- The folders of packages that links name: workspaces of the root, and packages that a `file:` spec asks for. npm reads
--- the manifests of these beside the lock file: npm's "workspaces", and "package.json", "Local Paths".
+-- The folders of packages that links name: workspaces of the root, and packages of `file:` specs. npm reads the manifests
+-- of these beside the lock file: npm's "workspaces", and "package.json", "Local Paths".
 use Rattle.std.specs.Prelude.{◌≡◌, ◌≢◌, ◌↔◌, ℕ, List, [], true, false, Some, codes}
 use Rattle.std.specs.Cmp.Lexicographic.{slice_cmp}
 use Rattle.std.specs.List.{Contains}

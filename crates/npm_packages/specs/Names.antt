@@ -1,4 +1,4 @@
--- What a map of the names has that a package asks for.
+-- What the map of the dependencies of a package has for a name.
 use Rattle.std.specs.Prelude.{ℕ, List, Option, option_map}
 use Rattle.std.specs.BTreeMap.{BTreeMap, get_by}
 use Rattle.std.specs.Cmp.Lexicographic.{slice_cmp}

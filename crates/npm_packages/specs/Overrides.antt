@@ -73,8 +73,8 @@ rule_for packages name = option_and_then (rule_among name) (overrides_of package
 
 -- ---- a dependency
 
--- The root, and what is in its `node_modules`. Of other packages, as those of workspaces, not all commands of npm read
--- `overrides`.
+-- The root, and the packages in its `node_modules`. Of other packages, as those of workspaces, not all commands of npm
+-- read `overrides`.
 abbrev pub is_in_root : (folder : List ℕ) → Bool
 is_in_root folder = (length folder == 0) || starts_with nat_eq folder (codes "node_modules/")
 

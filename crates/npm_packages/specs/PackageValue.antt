@@ -1,4 +1,4 @@
--- What is seen of a lock file, of a package, and of what it asks for.
+-- A lock file, a package and a dependency as values.
 use Rattle.serde_json.specs.Data.{Data, object}
 use Rattle.serde_json.specs.View.{members_view, view}
 use Rattle.npm_packages.specs.Asked.{AskedValue}
@@ -15,7 +15,7 @@ packages_data lock = object (members_view lock.members.now.entries)
 abbrev pub package_value : Package → Packages.Package
 package_value found = record { folder = found.folder.now; member = view found.member.now }
 
--- the spec, and what else is asked
+-- a dependency: its spec and its flags
 abbrev pub asked_value : Asked → AskedValue
 asked_value asked = record {
   spec = asked.spec.now;

@@ -9,7 +9,7 @@ use Rattle.npm_packages.specs.Overrides.{RuleValue, in_place, rule_for, unread}
 use Rattle.npm_packages.specs.declared.overrides.Rule.{Rule}
 use Rattle.npm_packages.specs.declared.overrides.Rule.TheVariants as Rules
 
--- what is seen of a rule
+-- a rule as a value
 abbrev pub rule_value : Rule → RuleValue
 rule_value (Rules.InPlace spec) = in_place spec.now
 rule_value Rules.Unread = unread

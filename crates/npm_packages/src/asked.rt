@@ -12,7 +12,7 @@ use serde_json::Value;
 use std::alloc::Global;
 use std::collections::BTreeMap;
 
-/// What a package asks for by a name.
+/// A dependency of a package on a name: the spec and its flags.
 #[derive(Clone, Copy)]
 pub struct Asked<'v> {
     pub spec: &'v str,
@@ -25,7 +25,7 @@ pub struct Asked<'v> {
     pub is_overridden: bool,
 }
 
-/// What a package asks for, by name.
+/// The dependencies of a package, by name.
 pub type Names<'v> = BTreeMap<&'v str, Asked<'v>>;
 
 /// Returns what a package depends on, by name. `peerDependencies`, `dependencies`, `optionalDependencies` and
@@ -57,7 +57,7 @@ pub fn asked_of(alloc: Global, asker: &Value, is_installed: bool) -> Result<Name
     Ok(all)
 }
 
-/// Adds what a package asks for in one group.
+/// Adds the dependencies in one group of a package.
 fn add_group<'v>(
     all: &mut Names<'v>,
     asker: &'v Value,
@@ -100,8 +100,7 @@ pub fn is_optional_peer(asker: &Value, name: &str) -> bool
         .is_some_and(|peer| has_true(peer, "optional"))
 }
 
-/// Returns the spec that a package accepts beside the one that it asks for, as `acceptDependencies` says. Does not
-/// allocate.
+/// Returns the second spec that a package accepts for a name: the one in `acceptDependencies`. Does not allocate.
 pub fn accepted_of<'v>(asker: &'v Value, name: &str) -> Option<&'v str>
     ensures { option_map (λ text. text.now) result ≡ Asks.accepted_of (view asker.now) name.now }
 {

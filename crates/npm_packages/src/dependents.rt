@@ -1,4 +1,4 @@
-//! The range texts by which installed packages are asked for.
+//! The range texts by which packages depend on installed packages.
 ghost use Rattle.std.specs.Prelude.{◌≡◌, ◌↔◌, ◌∷◌, [], ℕ, Bool, List, Option, IfOk, IsErrOf, OnOk, Some, map};
 ghost use Rattle.std.specs.Option.{option_map_or, option_to_list};
 ghost use Rattle.serde_json.specs.View.{members_view, view};
@@ -28,9 +28,9 @@ use serde_json::Value;
 use std::alloc::Global;
 use std::collections::BTreeMap;
 
-/// The range texts by which other packages of a lock file ask for each installed package, as `overrides` change them. A spec that
-/// is no range and no tag counts as the text `no range`, which is no range, and so does one that `overrides` change in a way
-/// that is not read here.
+/// The range texts by which other packages of a lock file depend on each installed package, as `overrides` change them. A
+/// spec that is no range and no tag counts as the text `no range`, which is no range, and so does one that `overrides` change
+/// in a way that is not read here.
 #[derive(Drop)]
 pub struct Dependents<'v> {
     by_folder: BTreeMap<&'v str, Vec<&'v str>>,
@@ -53,8 +53,8 @@ impl<'v> Dependents<'v> {
         dependents_of(lock).map_err(|_| CheckError::Memory)
     }
 
-    /// The texts by which the package in a folder is asked for: of the packages in the order of their folders' bytes,
-    /// of each by the names. `None` if nobody asks for it.
+    /// The texts by which other packages depend on the package in a folder: in the order of their folders' bytes, for each of
+    /// them in the order of the names. `None` if no package depends on it.
     pub fn texts(&self, folder: &'v str) -> Option<&[&'v str]>
         ensures { option_map_or (λ list. map (λ text. text.now) list.now) result [] ≡ texts_at self.now folder.now }
     {
@@ -69,7 +69,7 @@ impl<'v> Dependents<'v> {
         }
     }
 
-    /// Adds a text by which the package in a folder is asked for.
+    /// Adds a text by which a package depends on the one in this folder.
     fn add(&mut self, alloc: Global, to: &'v str, text: &'v str) -> Result<()>
         ensures { OnOk result (AddsRequests self.old self.new (record { to = to.now; text = text.now } ∷ [])) }
     {
@@ -79,7 +79,7 @@ impl<'v> Dependents<'v> {
     }
 }
 
-/// What all packages ask for.
+/// The dependents of all packages of a lock file that has no fault.
 fn dependents_of(lock: Lock<'_>) -> Result<Dependents<'_>>
     ensures { IfOk result (λ dependents. (requests : List Request)
         × AreRequests (packages_data lock.entry) (members_view lock.entry.members.now.entries) requests
@@ -96,7 +96,7 @@ fn dependents_of(lock: Lock<'_>) -> Result<Dependents<'_>>
     Ok(dependents)
 }
 
-/// Adds what one member of `packages` asks for.
+/// Adds the requests of one member of `packages`.
 fn add_requests<'v>(
     lock: Lock<'v>,
     index: &Index<'v>,
@@ -123,7 +123,7 @@ fn add_requests<'v>(
     Ok(())
 }
 
-/// Adds what a package asks for by a name, if a package is found for it.
+/// Adds the request of a package by a name, if a package is found for it.
 fn add_request<'v>(
     lock: Lock<'v>,
     asker: Package<'v>,
@@ -160,7 +160,7 @@ fn request_text(asked: Asked<'_>) -> &str
     }
 }
 
-/// The range or the tag that a spec asks for, or a text that is no range.
+/// The range or the tag of a spec, or a text that is no range.
 fn asked_text(spec: &str) -> &str
     ensures { result.now ≡ asked_text spec.now }
 {

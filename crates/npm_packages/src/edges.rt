@@ -1,4 +1,4 @@
-//! The dependencies of all packages, and what is installed for each.
+//! The dependencies of all packages, and the package that is installed for each.
 ghost use Rattle.std.specs.Prelude.{◌≡◌, ◌↔◌, ◌++◌, Bool, IfOk, IsErrOf, List, OnOk, Some, map, option_and_then, option_map};
 ghost use Rattle.serde_json.specs.View.{members_view, view};
 ghost use Rattle.npm_packages.specs.Asked.{AskedValue, asked_of as asked_by};
@@ -43,8 +43,8 @@ pub struct Edge<'v> {
     pub version: Option<&'v str>,
 }
 
-/// Returns the dependencies of all packages of a lock file, and what is found for each: of the packages in the order of their
-/// folders' bytes, of each by the names.
+/// Returns the dependencies of all packages of a lock file, and the package that is found for each: of the packages in the
+/// order of their folders' bytes, of each by the names.
 ///
 /// # Errors
 ///
@@ -57,7 +57,7 @@ pub struct Edge<'v> {
 ///
 /// # Examples
 ///
-/// Where the root asks for `a` by `^1`, and `node_modules/a` has the version 1.2.0: an edge from the empty folder to
+/// If the root depends on `a` by `^1`, and `node_modules/a` has the version 1.2.0: an edge from the empty folder to
 /// `node_modules/a`, with the spec `^1` and the version 1.2.0.
 ///
 /// # Source
@@ -115,7 +115,7 @@ fn add_package<'v>(
     Ok(())
 }
 
-/// What a package asks for by a name, and what is found for it.
+/// The dependency of a package on a name, and the package that is found for it.
 fn edge_of<'v>(
     lock: Lock<'v>,
     asker: Package<'v>,

@@ -39,7 +39,7 @@ pub enum Fault {
     /// A group of dependencies of a package is no object.
     #[error("the dependencies of a package are no object")]
     Dependencies,
-    /// What a package asks for by a name is no string.
+    /// The spec of a dependency is no string.
     #[error("a dependency of a package is no string")]
     Spec,
 }
@@ -55,7 +55,7 @@ pub enum CheckError {
     Memory,
 }
 
-/// Returns the packages of a lock file. Does not allocate: `alloc` is for what is made of them later.
+/// Returns the packages of a lock file. Does not allocate: `alloc` is for later calls that do.
 ///
 /// # Errors
 ///

@@ -120,7 +120,7 @@ fn last_of(path: &str) -> &str
     }
 }
 
-/// The path without what comes before this part, which is the last one of what is above.
+/// The path without all that comes before this part, which is the last part of the path `above`.
 fn without_front<'v>(path: &'v str, above: &str, part: &str) -> &'v str
     requires { IsLast above.now part.now × ((last : List ℕ) × (path.now ≡ above.now ++ (47 ∷ last))) }
     ensures { (front : List ℕ) × (above.now ≡ front ++ part.now) × (path.now ≡ front ++ result.now) }

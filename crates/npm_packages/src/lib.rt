@@ -1,8 +1,8 @@
-//! The packages of a lock file, `package-lock.json`: what each depends on, and which package a name is found to be.
+//! The packages of a lock file, `package-lock.json`: their dependencies, and which package is found for a name.
 //!
-//! [`edges_of`] returns the dependencies of all packages with what is found for each, [`Dependents`] the range texts by
-//! which each package is asked for, and [`linked_folders`] the folders that links name. A check that goes over the packages
-//! itself takes [`lock_of`], [`Index`], [`rules_of`] and [`asked_of`]; [`Lock::find`] looks a name up.
+//! [`edges_of`] returns the dependencies of all packages with the package that is found for each, [`Dependents`] the range
+//! texts by which other packages depend on each, and [`linked_folders`] the folders that links name. A check that goes over
+//! the packages itself uses [`lock_of`], [`Index`], [`rules_of`] and [`asked_of`]; [`Lock::find`] looks a name up.
 #![tactic(auto)]
 
 mod asked;

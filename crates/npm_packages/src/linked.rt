@@ -16,7 +16,7 @@ use std::collections::BTreeMap;
 /// Folders, each once, in the order of their bytes.
 type Folders<'v> = BTreeMap<&'v str, ()>;
 
-/// Returns the folders of the packages that links of the lock file name: its workspaces, and what a `file:` spec asks for.
+/// Returns the folders of the packages that links of the lock file name: its workspaces, and the packages of `file:` specs.
 /// The root and the folders in a `node_modules` are left out. Each folder is there once, in the order of their bytes.
 ///
 /// # Errors

@@ -144,7 +144,7 @@ fn without_range<'v>(key: &'v str, range: &str) -> &'v str
     &key[..key.len() - range.len() - 1]
 }
 
-/// Returns what a package in this folder asks for by a name, as the rules change it. Does not allocate.
+/// Returns the dependency of a package in this folder on a name, as the rules change it. Does not allocate.
 pub fn overridden<'v>(rules: &Rules<'v>, folder: &str, name: &'v str, asked: Asked<'v>) -> Asked<'v>
     ensures { asked_value result ≡ Overrides.changed_by (rule_at rules.now name.now) folder.now
         (asked_value asked.entry) }

@@ -1,4 +1,4 @@
-//! Tests of what a package asks for.
+//! Tests of the dependencies of a package.
 use npm_packages::{
     Names, accepted_of, asked_of, check_package, check_specs, has_text_version, is_optional_peer,
 };
@@ -20,7 +20,8 @@ const ROWS: [(&str, &str, bool, bool, bool); 5] = [
     ("q", "^3", false, true, false),
 ];
 
-// Whether a name is asked for by this spec, and is needed, a peer, and for development.
+// Returns `true` if the package depends on the name by this spec, and the name is needed, a peer, and for development, as the
+// flags say.
 fn asks_for(all: &Names<'_>, name: &str, spec: &str, flags: (bool, bool, bool)) -> bool {
     match all.get(name) {
         Some(asked) => {

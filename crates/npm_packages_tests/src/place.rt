@@ -13,8 +13,8 @@ const LOCK: &str =
     "node_modules/w": {"link": true, "resolved": "./w"}, "node_modules/c/d": {}, "w": {}, "../x": {}}}"#;
 
 // A lock file, and rows: a folder, a name, the folder of the package that is found, if one is, and whether it is in the folder's
-// own `node_modules`. A link stands for the package that it names; a name that no registry has is found too; nothing is looked up
-// in the root from a folder outside of it. npm: "folders", "Cycles, Conflicts, and Folder Parsimony".
+// own `node_modules`. For a link the package that it names is found; a name that no registry has is found too; nothing is looked
+// up in the root from a folder outside of it. npm: "folders", "Cycles, Conflicts, and Folder Parsimony".
 const TEXT: &str =
     r#"{"lock": {"lockfileVersion": 3, "packages": {"": {}, "node_modules/a": {"version": "1.0.0"},
     "node_modules/a/node_modules/b": {"version": "2.0.0"}, "node_modules/b": {"version": "1.0.0"},

@@ -2,7 +2,7 @@
 use npm_texts::registry_spec;
 use std::test::Fail;
 
-// Specs of the dependency `n`, and the package and the text that a registry is asked for. npm: `npm-package-arg`.
+// Specs of the dependency `n`, and the package and the range or tag that npm looks up in a registry. npm: `npm-package-arg`.
 const SPECS: [(&str, Option<(&str, &str)>); 10] = [
     ("^1", Some(("n", "^1"))),
     ("latest", Some(("n", "latest"))),

@@ -38,7 +38,7 @@ two_invalid_ones = refl
 pub the_first_reason_counts : better (Unchecked Location) (Unchecked Tag) ≡ Unchecked Location
 the_first_reason_counts = refl
 
--- ---- what is told of a dependency
+-- ---- the value of a dependency
 
 -- an asker that the lock file marks
 abbrev marked : Data
@@ -60,7 +60,7 @@ the_version_of_the_asker = refl
 
 -- ---- a rule of `overrides` that is not read
 
--- what is not known is no problem
+-- a dependency that is not checked is no problem
 pub no_problem_where_the_rule_is_not_read : (found : Package)
     → ¬ IsVerdictOn (codes "node_modules/z") nothing (codes "b") (changed_by (Some unread) (codes "node_modules/z") asked)
     found Invalid

@@ -1,4 +1,4 @@
--- What is left of the members of a group, and what one step takes of it.
+-- The members of a group that are left, and which of them one step takes.
 use Rattle.std.specs.Prelude.{◌≡◌, ◌≢◌, ◌⊎◌, ◌<◌, ◌≤◌, ℕ, List, length, Option, Some, None, String, string_bytes}
 use Rattle.std.specs.Prelude.{IsTrue, ⊤}
 use Rattle.std.specs.Cmp.Lexicographic.{slice_cmp}
@@ -49,7 +49,7 @@ pub record IsFirstOf (name : List ℕ) (specs locked : Members) : Type 0 where
   pub first_locked : IsFirst name locked
   pub is : (first_key specs ≡ Some name) ⊎ (first_key locked ≡ Some name)
 
--- what is left once this name is taken: it is gone, and the others are there
+-- the members that are left after this name is taken: it is gone, and the others are there
 pub record IsLeft (name : List ℕ) (old new : Members) : Type 0 where
   pub sorted : AreSorted new
   pub above : AllByRecursion (λ key. slice_cmp nat_cmp name key ≡ Less) (keys_of new)

@@ -1,4 +1,4 @@
--- The names that a package depends on are the keys of the map of what it asks for.
+-- The names that a package depends on are the keys of the map of its dependencies.
 use Rattle.std.proofs.Common.{◌≡◌, ◌∙◌, ℕ, zero, suc, List, [], ◌∷◌, Bool, true, false, cond, Option, Some, BTreeMap}
 use Rattle.std.proofs.Common.{String, Global, string_bytes, string_cmp, nat_cmp, Less, Ordering, ap, arith}
 use Rattle.std.proofs.Common.{bytes_eq, is_eq, map, option_map, refl, sym}
@@ -27,7 +27,7 @@ use Rattle.npm_packages.specs.declared.asked.Asked.{Asked}
 abbrev pub names_of : List (Bor (List ℕ) × Asked) → List (List ℕ)
 names_of entries = map (λ e. e.0.now) entries
 
--- each entry is what the package asks for by its name
+-- each entry is the dependency of the package on its name
 abbrev pub AreAsked : (asker : Data) → (is_installed : Bool) → List (Bor (List ℕ) × Asked) → Type 0
 AreAsked asker is_installed entries =
     AllByRecursion (λ e. asked_of asker is_installed e.0.now ≡ Some (asked_value e.1)) entries

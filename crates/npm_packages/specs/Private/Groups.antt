@@ -8,7 +8,7 @@ use Rattle.npm_packages.specs.Asked.{AskedValue, is_optional_peer}
 abbrev pub is_needed_in : (asker : Data) → (is_needed is_peer : Bool) → (name : List ℕ) → Bool
 is_needed_in asker is_needed is_peer name = is_needed && not (is_peer && is_optional_peer asker name)
 
--- what these members of a group ask for by a name
+-- the dependency on a name, if one of these members of a group has it
 abbrev pub asked_among : (asker : Data) → (is_needed is_peer is_dev : Bool) → (name : List ℕ) → Members → Option
     AskedValue
 asked_among asker is_needed is_peer is_dev name members = option_map

@@ -1,4 +1,4 @@
--- What one call adds to the index of a lock file, and what is the last folder up to some bytes.
+-- What one call adds to the index of a lock file, and which folder is the last one up to some bytes.
 use Rattle.std.specs.Prelude.{◌≡◌, ℕ, List, Some, IsSome, ◌&&◌, false, bytes_eq, if◌then◌else◌}
 use Rattle.std.specs.Cmp.Lexicographic.{slice_cmp}
 use Rattle.std.specs.Option.{IfSome}

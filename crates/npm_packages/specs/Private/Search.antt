@@ -1,4 +1,4 @@
--- What two paths have in common, and what is found nearest to a folder.
+-- The common start of two paths, and the package that is found nearest to a folder.
 use Rattle.std.specs.Prelude.{◌≡◌, ◌⊎◌, ◌≤◌, ℕ, List, [], ◌∷◌, ◌++◌, Option, Some, length}
 use Rattle.std.specs.Option.{IfSome}
 use Rattle.serde_json.specs.Data.{Data}

@@ -1,4 +1,4 @@
--- What is found out about the names that are left, after what was found out, is found out about all.
+-- The findings so far, followed by those of the names that are left, are the findings of all names.
 use Rattle.std.proofs.Common.{List}
 use Rattle.std.specs.List.{AllZip}
 use Rattle.serde_json.specs.View.{view}

@@ -1,4 +1,4 @@
--- What is found out about the members that are left, after what was found out, is found out about all.
+-- The findings so far, followed by those of the members that are left, are the findings of all members.
 use Rattle.std.proofs.Common.{List, option_map}
 use Rattle.serde_json.specs.View.{members_view}
 use Rattle.npm_lock.specs.Findings.{AreFindings, Finding, IsReport}

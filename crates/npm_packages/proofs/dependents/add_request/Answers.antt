@@ -1,4 +1,4 @@
--- A package that is found is asked for, and nothing is where none is.
+-- There is a request if a package is found, and none otherwise.
 use Rattle.std.proofs.Common.{◌≡◌, ℕ, List, Bool, None, Some}
 use Rattle.std.proofs.lemmas.Result.{on_ok_weaker}
 use Rattle.serde_json.specs.Data.{Data}

@@ -1,4 +1,4 @@
--- What is asked for by the names that are left, after what was asked for, is what all names ask for.
+-- The requests so far, followed by those of the names that are left, are the requests of all names.
 use Rattle.std.proofs.Common.{List, Option}
 use Rattle.std.specs.List.{AllZip, filter_map}
 use Rattle.serde_json.specs.View.{view}

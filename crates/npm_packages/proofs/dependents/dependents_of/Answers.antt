@@ -1,4 +1,4 @@
--- What a member asks for comes before what the members that are left ask for.
+-- The requests of a member come before those of the members that are left.
 use Rattle.std.proofs.Common.{◌≡◌, ◌∙◌, ◌++◌, [], ap, refl}
 use Rattle.npm_packages.specs.Dependents.{texts_of}
 use Rattle.npm_packages.proofs.Requesting.{both-requests, no-requests}

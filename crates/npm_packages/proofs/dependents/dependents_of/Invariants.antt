@@ -1,4 +1,4 @@
--- What the members that are left ask for, after what was asked for, is what all ask for.
+-- The requests so far, followed by those of the members that are left, are the requests of all members.
 use Rattle.std.proofs.Common.{List}
 use Rattle.serde_json.specs.View.{members_view}
 use Rattle.npm_packages.specs.Dependents.{AreRequests, Request}

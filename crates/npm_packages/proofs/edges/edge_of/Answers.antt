@@ -1,4 +1,4 @@
--- What is asked for and what is found make the dependency.
+-- The spec and the package that is found make the dependency.
 use Rattle.std.proofs.Common.{◌≡◌, ℕ, List, Bool, Option, Some, option_and_then, option_map}
 use Rattle.serde_json.specs.Data.{Data}
 use Rattle.npm_packages.specs.Asked.{AskedValue, asked_of}

@@ -1,4 +1,4 @@
--- The nearest package is what is found.
+-- The nearest package is found.
 use Rattle.std.proofs.Common.{None, Some, length, refl}
 use Rattle.npm_packages.specs.PackageValue.{packages_data}
 use Rattle.npm_packages.proofs.Nearest.{equal_lengths, found_by, own_by}

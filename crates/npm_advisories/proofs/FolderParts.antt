@@ -26,7 +26,7 @@ pub scoped_end : (path above part last front rest : List ℕ) → path ≡ above
 scoped_end path above part last front rest whole is_part is_rest = append_cancel_left front rest (part ++ (47 ∷ last))
     (sym is_rest ∙ whole ∙ ap (λ t. t ++ (47 ∷ last)) is_part ∙ append_assoc front part (47 ∷ last))
 
--- what is above ends with its last part
+-- a path ends with its last part
 pub front_of_last : (above part : List ℕ) → IsLast above part → (front : List ℕ) × (above ≡ front ++ part)
 front_of_last above part is = elim is.whole [
   | inl same ↦ ([], same)

@@ -73,7 +73,7 @@ adds-both is_wanted a b c first second one other = record {
       };
 }
 
--- what was added to an empty index is all that it has
+-- an index that was empty has the added advisories alone
 pub adds-all : (is_wanted : List ℕ → Bool) (old new : Index) (values : List AdvisoryValue)
     → ((name : List ℕ) → at_name old name ≡ []) → Adds is_wanted old new values → IsIndex is_wanted values new
 adds-all is_wanted old new values empty adds = λ name is.

@@ -64,7 +64,7 @@ module _ (advisories : List Advisory) (installed : VersionValue) (spans : List (
 
 -- ---- the range texts of dependents
 
--- the element at a place, whatever stands for an absent one
+-- the element at a place within a list, with any two defaults
 pub same-at : {X : Type 0} (xs : List X) (i : ℕ) (d e : X) → i < length xs → get_or xs i d ≡ get_or xs i e
 same-at [] i d e lt = absurd (omega arith)
 same-at (x ∷ xs) zero d e lt = refl

@@ -55,7 +55,7 @@ module _ (cuts : List (Cut VersionValue)) (sorted : AreSorted cuts) where
 module _ (cuts : List (Cut VersionValue)) (from : Cut VersionValue) (place : ℕ)
     (parts : IsPartitionPoint (λ c. is_le (cut_cmp version_cmp c from) ≡ true)
     (λ c. is_le (cut_cmp version_cmp c from) ≡ false) cuts place) where
-  -- one that is after the cut stands at the place or behind it
+  -- one that is after the cut is at the place or later
   behind : (other : Cut VersionValue) (k : ℕ) → get_or cuts k other ≡ other → IsCutBelow version_cmp from other
       → ¬ (k < place)
   behind other k is later within = below-not-at_most version_total from other later
@@ -89,7 +89,7 @@ module _ (cuts : List (Cut VersionValue)) (from : Cut VersionValue) (place : ℕ
   }
 
 module _ (E : Cut VersionValue → Type 0) (from end : Cut VersionValue) (next : IsNextEnd E from end) where
-  -- a fault lasts until what is before the next end
+  -- a fault lasts until each cut before the next end
   pub lasts-next : (to : Cut VersionValue) → IsCutBelow version_cmp to End → Lasts E from to
       → IsCutBelow version_cmp to end
   lasts-next to before lasts = elim next.found [
@@ -149,11 +149,11 @@ module _ (S E : Cut VersionValue → Type 0) (cut : Cut VersionValue) where
     lasts = next-lasts E from end next cut later;
   }
 
--- the greatest start before a cut tells whether one of them lasts until there
+-- a start before a cut lasts until there exactly if the greatest of them does
 module _ (starts : List (Cut VersionValue)) (sorted : AreSorted starts) (E : Cut VersionValue → Type 0)
     (cut : Cut VersionValue) (place : ℕ) (parts : IsPartitionPoint (λ c. is_lt (cut_cmp version_cmp c cut) ≡ true)
     (λ c. is_lt (cut_cmp version_cmp c cut) ≡ false) starts place) (most : place ≤ length starts) where
-  -- a start before the cut stands before the place
+  -- a start before the cut has an index below the place
   ahead : (reached : IsReachedBefore (Contains starts) E cut) → reached.introduced.0 < place
   ahead reached =
       let is = reached.introduced in

@@ -48,7 +48,7 @@ module _ (entries : List Value) (i : ℕ) (one : Value) (lt : i < length entries
       before ∙ ap (osv_list_fault is_version is_wanted i) (left [] entries i one lt is_at) ∙ (rw is refl)
   osv-found is_wanted whole Errors.Memory is before = tt
 
-  -- what is read of one value more
+  -- the values so far, with those of one entry more
   pub read-passed : {X : Type 0} (f : Items → List X) (part : Data → List X)
       → ((d : Data) (others : Items) → f (item d others) ≡ part d ++ f others) → (whole front : List X)
       → whole ≡ front ++ f (items_view (drop i entries))

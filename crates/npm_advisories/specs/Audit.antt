@@ -9,7 +9,7 @@ use Rattle.npm_advisories.specs.declared.found.Found.{Found}
 use Rattle.npm_advisories.specs.declared.found.Installed.{Installed}
 use Rattle.npm_advisories.specs.declared.severity.Severity.{Severity}
 
--- an installed package: the text of its version, and the range texts by which other packages ask for it
+-- an installed package: the text of its version, and the range texts of its dependents
 pub record InstalledValue : Type 0 where
   pub folder : List ℕ
   pub name : List ℕ
@@ -67,7 +67,7 @@ abbrev pub version_or_least : Option VersionValue → VersionValue
 version_or_least (Some v) = v
 version_or_least None = least_of 0 0 0
 
--- what is found of the package, whose version is read as this, among the advisories about its name
+-- the entry for a package with this version, from the advisories about its name
 pub record IsFound (level : Severity) (advisories : List AdvisoryValue) (installed : InstalledValue)
     (v : Option VersionValue) (found : FoundValue) : Type 0 where
   pub folder : found.folder ≡ installed.folder
@@ -86,7 +86,7 @@ IsSpared level advisories installed =
 
 -- ---- all packages
 
--- what is found of the installed packages, in their order
+-- the installed packages that are hit, in their order
 pub data IsAudit (level : Severity) (advisories : List AdvisoryValue)
     : List InstalledValue → List FoundValue → Type 0 where
   none : IsAudit level advisories [] []

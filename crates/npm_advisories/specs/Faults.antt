@@ -46,7 +46,7 @@ is_nothing (x ∷ xs) = false
 abbrev pub is_no_range : (text : List ℕ) → Bool
 is_no_range text = is_nothing (alternatives_of advisory_options (with_plain_spaces text))
 
--- `vulnerable_versions` is a string or absent, and what stands there is a range
+-- `vulnerable_versions` is absent, or a string that is a range
 abbrev pub range_fault : (entry : Data) → Option FaultKind
 range_fault entry = option_or (text_fault (codes "vulnerable_versions") Faults.RangeText entry)
     (if is_no_range (npm_range_text entry) then Some Faults.Range else None)
@@ -66,7 +66,7 @@ list_fault name place (item entry others) = option_or
     (list_fault name (place + 1) others)
 
 module _ (is_wanted : List ℕ → Bool) where
-  -- the first fault of what stands under a name. What stands under a name that is not wanted is not looked at
+  -- the first fault of the advisories under a name. Those under a name that is not wanted are not read
   abbrev pub member_fault : (name : List ℕ) → (list : Data) → Option FaultValue
   member_fault name list = if is_wanted name then option_map_or (list_fault name 0) (as_array list)
       (Some (record { kind = Faults.List; name = name; place = 0 })) else None
@@ -83,6 +83,6 @@ module _ (is_wanted : List ℕ → Bool) where
 
 -- ---- as a contract sees it
 
--- what is wrong with which advisory
+-- the fault of an advisory
 abbrev pub fault_value : Fault → FaultValue
 fault_value fault = record { kind = fault.kind; name = fault.name.now; place = fault.place }

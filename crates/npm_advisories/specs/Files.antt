@@ -21,8 +21,8 @@ abbrev pub advisories_of : (file : Data) → List AdvisoryValue
 advisories_of file = option_map_or osv_list (as_array file)
     (if is_osv file then osv_advisories file else option_map_or npm_members (as_object file) [])
 
--- The fault of a file, if it has one: what is about packages that are not wanted is not looked at. That of a list has the place
--- in it, that of one OSV object the place 0
+-- The fault of a file, if it has one: advisories about packages that are not wanted are not read. The fault has the
+-- place of the advisory in a list, and for one OSV object the place 0
 abbrev pub file_fault : (is_version is_wanted : List ℕ → Bool) → (file : Data) → Option FaultValue
 file_fault is_version is_wanted file = option_map_or (osv_list_fault is_version is_wanted 0) (as_array file)
     (if is_osv file then option_map (λ kind. record { kind = kind; name = told_name is_wanted file; place = 0 })

@@ -5,7 +5,7 @@ use Rattle.npm_advisories.specs.Advisories.{AboutValue, AdvisoryValue, Affected,
 use Rattle.npm_advisories.specs.Severities.{is_at_least}
 use Rattle.npm_advisories.specs.declared.severity.Severity.{Severity}
 
--- what is seen of those elements of a list for which something holds, in the list's order
+-- the elements of a list for which something holds, in the list's order, each by its value
 pub data AreKept {A B : Type 0} (Holds : A → Type 0) (seen : A → B) : List A → List B → Type 0 where
   none : AreKept Holds seen [] []
   kept : (x : A) (xs : List A) (ys : List B) → Holds x → AreKept Holds seen xs ys

@@ -1,6 +1,6 @@
 -- What the contracts of this crate say: all of it that is trusted, in reading order.
 -- `IsAudit` of Audit is the claim of `audit`, `file_fault` of Files says what it refuses, and `found_data` of FoundJson
--- is what is written for a package. All other words are there for these three.
+-- is the JSON object for a package. All other words are there for these three.
 
 -- ---- the advisories of a file
 pub mod Severities  -- how severe an advisory is
@@ -14,7 +14,7 @@ pub mod Files  -- which form a file has
 pub mod Hits  -- the advisories that hit a version
 pub mod Offers  -- the versions that are offered in place of one that is hit
 -- ---- all installed packages
-pub mod Audit  -- what is found of them, in their order
+pub mod Audit  -- those that are hit, in their order
 pub mod FoundJson  -- a package that is hit as a JSON object
 -- ---- a lock file
 pub mod FolderNames  -- the names of packages by their folders

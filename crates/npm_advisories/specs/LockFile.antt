@@ -39,7 +39,7 @@ pub data AreInstalled (texts_at : (folder : List ℕ) → List (List ℕ)) : Mem
   other : (folder : List ℕ) (entry : Data) (others : Members) (all : List InstalledValue) → IsOther folder entry
       → AreInstalled texts_at others all → AreInstalled texts_at (member folder entry others) all
 
--- the installed packages of a lock file, each with the range texts by which the others ask for it
+-- the installed packages of a lock file, each with the range texts of its dependents
 pub record AreInstalledOf (lock : Data) (installed : List InstalledValue) : Type 0 where
   pub members : Members
   pub packages : get (codes "packages") lock ≡ Some (object members)

@@ -1,8 +1,8 @@
 -- The versions that are offered in place of one that is hit: the least release above it that no advisory hits, and the
--- least such release that satisfies all ranges by which other packages ask for it.
+-- least such release that satisfies the ranges of all its dependents.
 --
--- Both are releases, since nobody asks for a prerelease that he does not name: for 4.17.20 and `<=4.17.20` the offered
--- version is 4.17.21, and not 4.17.21-0, which is less.
+-- Both are releases, since a range admits a prerelease only if it has one of the same triple: for 4.17.20 and
+-- `<=4.17.20` the offered version is 4.17.21, and not 4.17.21-0, which is less.
 use Rattle.std.specs.Prelude.{◌≡◌, ◌↔◌, ℕ, List, [], Option, IfSome, IsNone, true, false}
 use Rattle.std.specs.List.{AllByRecursion}
 use Rattle.node_semver.specs.Least.{IsLeastOf, IsNoneOf}

@@ -79,7 +79,7 @@ module _ (is_wanted : List ℕ → Bool) where
   abbrev pub is_about_wanted : (one : Data) → Bool
   is_about_wanted one = option_map_or is_wanted (npm_name one) false
 
-  -- it is, or nobody can tell which package it is about
+  -- it is, or its package cannot be read
   abbrev pub may_concern : (one : Data) → Bool
   may_concern one = is_some (package_fault one) || is_about_wanted one
 
@@ -98,21 +98,21 @@ module _ (is_wanted : List ℕ → Bool) where
   first_wanted (item one others) = option_map_or (λ name. if is_wanted name then name else first_wanted others)
       (npm_name one) (first_wanted others)
 
-  -- the name under which a fault of an OSV object is told
+  -- the name in the fault of an OSV object
   abbrev pub told_name : (entry : Data) → List ℕ
   told_name entry = first_wanted (items_at (codes "affected") entry)
 
 module _ (is_version is_wanted : List ℕ → Bool) where
   -- ---- an element of `affected`
 
-  -- what is about a package that is not wanted, or of another ecosystem, is not looked at
+  -- an element about a package that is not wanted, or of another ecosystem, is not read
   abbrev pub affected_fault : (one : Data) → Option FaultKind
   affected_fault one = option_or (package_fault one) (if is_about_wanted is_wanted one
       then option_or (ranges_fault is_version one) (items_fault (codes "versions") Faults.Versions one) else None)
 
   -- ---- an OSV object
 
-  -- what is withdrawn is not looked at
+  -- a withdrawn object is not read further
   abbrev pub present_fault : (entry : Data) → Option FaultKind
   present_fault entry = if is_withdrawn entry then None
       else option_or (items_fault (codes "affected") Faults.Affected entry)

@@ -38,11 +38,11 @@ pub struct Installed<'v> {
     pub folder: &'v str,
     pub name: &'v str,
     pub version: &'v str,
-    /// The range texts by which other packages ask for it.
+    /// The range texts of its dependents.
     pub asked: Vec<&'v str>,
 }
 
-/// An installed package that is hit: what is borrowed of the advisories, and of the installed package.
+/// An installed package that is hit. Borrows from the advisories and from the installed package.
 #[derive(Drop)]
 pub struct Found<'f, 'v> {
     pub folder: &'v str,

@@ -36,7 +36,7 @@ pub enum LockError<'f> {
 /// Returns the installed packages of a lock file that an advisory hits, in the order of their folders' bytes.
 ///
 /// Each member of `packages` counts that is neither the root nor a link, and has a version. The name is `name`, which an
-/// alias has, or else the last part of the folder with its scope: `w` for `packages/w`. [`audit`] says what is found.
+/// alias has, or else the last part of the folder with its scope: `w` for `packages/w`. [`audit`] says which are hit.
 ///
 /// # Errors
 ///
@@ -128,7 +128,7 @@ fn installed_as<'v>(
     }))
 }
 
-/// The range texts by which the package in a folder is asked for.
+/// The range texts of the dependents of the package in a folder.
 fn asked_at<'v>(alloc: Global, dependents: &Dependents<'v>, folder: &'v str) -> Result<Vec<&'v str>>
     ensures { IfOk result (λ asked. map (λ text. text.now) asked.items ≡ texts_at dependents.now folder.now) }
 {

@@ -36,7 +36,7 @@ fn last_of(path: &str) -> &str
     }
 }
 
-/// The path without what comes before this part, which is the last one of what is above.
+/// The path from this part on, where the part is the last one of the folder above.
 fn without_front<'v>(path: &'v str, above: &str, part: &str) -> &'v str
     requires { IsLast above.now part.now × ((last : List ℕ) × (path.now ≡ above.now ++ (47 ∷ last))) }
     ensures { (front : List ℕ) × (above.now ≡ front ++ part.now) × (path.now ≡ front ++ result.now) }

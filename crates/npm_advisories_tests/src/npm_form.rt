@@ -1,4 +1,4 @@
-//! Advisories in npm's form, installed packages, and what is found.
+//! Advisories in npm's form, installed packages, and the packages that are hit.
 
 use crate::checks::{finds, has_fault, is_text};
 use npm_advisories::{Found, Installed, LockError, Severity, audit_lock};
@@ -18,7 +18,7 @@ pub(crate) const FILE: &str = r#"{
   ]
 }"#;
 
-// A package with its folder, which is its name, its version, and the ranges by which others ask for it.
+// A package with its folder, which is its name, its version, and the ranges of its dependents.
 fn finds_of<'a>(
     alloc: Global,
     level: Severity,
@@ -165,7 +165,7 @@ const FAULTS: [(&str, &str); 19] = [
         r#"{"a": [{"id": 1}, {"id": 1, "vulnerable_versions": null}]}"#,
         "",
     ),
-    // Of several faults the first is told: of the names in their order, of the advisories, and of the members.
+    // The error has the first fault: by the order of the names, of the advisories, and of the members.
     (
         r#"{"b": 1, "a": [{"id": 1, "url": 1, "title": 1, "vulnerable_versions": "foo"}, 1]}"#,
         "Title a 0",
@@ -223,7 +223,7 @@ const LINKED: &str = r#"{"lockfileVersion": 3, "packages": {"": {"workspaces": [
 const WORKSPACES: &str =
     r#"{"w": [{"id": 1}], "@s/w": [{"id": 2, "vulnerable_versions": "<1"}], "x": [{"id": 3}]}"#;
 
-// Advisories, a lock file, and what is found: the folder and the name of each package that is hit, and what is offered.
+// Advisories, a lock file, and the packages that are hit: folder, name, and the two versions that are offered.
 const LOCKS: [(&str, &str, &str); 4] = [
     (
         WORKSPACES,

@@ -25,7 +25,7 @@ fn word(answer: Result<Vec<Found<'_, '_>>, AuditError<'_>>) -> &'static str {
     }
 }
 
-// Returns `true` if this is the answer for each of these versions, with blanks between.
+// Returns `true` if each of these versions, with blanks between, gives this text.
 fn answers_each(alloc: Global, file: &Value, versions: &str, wanted: &str) -> bool {
     for version in versions.split_ascii_whitespace() {
         if answer(alloc, file, version) != wanted {
@@ -107,7 +107,7 @@ const EVENTS: [(&str, &str, &str); 19] = [
         "1.0.0 2.0.0",
         "1.5.0 2.5.0",
     ),
-    // The end may be that of the earlier fault alone, so what is introduced at it is not ended.
+    // The end may belong to the earlier fault alone, so a fault that is introduced at it has no end.
     (
         r#"{"introduced": "1.0.0"}, {"last_affected": "2.0.0"}, {"introduced": "2.0.0"}"#,
         "1.0.0 2.0.0 2.0.1-0 2.5.0",

@@ -38,7 +38,7 @@ enum Name {
     Patterns,
     /// Of the name in the second value, in the folder of the text.
     Workspace,
-    /// The texts by which the package in the folder of the text is asked for.
+    /// The range texts of the dependents of the package in the folder of the text.
     Dependents,
     /// The dependencies of all packages.
     Edges,

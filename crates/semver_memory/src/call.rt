@@ -264,7 +264,7 @@ fn call_of_value(alloc: Global, name: &str, one: &str, other: &str) -> Result<Ca
     }
 }
 
-/// The same for calls on what is made of a text, and for questions.
+/// The same for calls on values that are made of a text, and for questions.
 fn call_of_made(alloc: Global, name: &str, one: &str, other: &str) -> Result<Call, CallError> {
     match name {
         "VersionRef::to_version"

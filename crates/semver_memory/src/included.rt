@@ -1,4 +1,4 @@
-//! Calls of a range that is asked with prereleases included.
+//! Calls of a range with prereleases included.
 use crate::answer;
 use crate::answer::Answer;
 use memory_trials::CallError;

@@ -1,4 +1,4 @@
--- What is read of some files in npm's form and in OSV's, and what is refused.
+-- The advisories of some files in npm's form and in OSV's, and the faults of others.
 use Rattle.std.proofs.Common.{◌≡◌, ◌∷◌, [], List, ℕ, Some, None, codes, false, map, refl, true}
 use Rattle.serde_json.specs.Data.{Data, Items, array, item, member, no_items, no_members, null, object, string}
 use Rattle.node_semver.specs.Versions.{release}
@@ -78,7 +78,7 @@ pub the_database_gives_the_severity : advisories_of (object (member (codes "affe
     } ∷ []
 the_database_gives_the_severity = refl
 
--- ---- what is passed over
+-- ---- elements that are passed over
 
 pub another_ecosystem_is_passed_over : advisories_of (osv_of (item (element (codes "PyPI") no_items) no_items)) ≡ []
 another_ecosystem_is_passed_over = refl
@@ -152,7 +152,7 @@ pub two_members_are_no_event : IsFileFault installed (osv_of (item (element (cod
     no_items)) no_members))) no_items)) no_items)) (Some (record { kind = Faults.Event; name = codes "a"; place = 0 }))
 two_members_are_no_event is_version told = refl
 
--- ---- what is not about an installed package
+-- ---- advisories about packages that are not installed
 
 -- neither an object without `id` about `a`, nor one that names no package
 pub about_none_has_no_fault : IsFileFault (codes "b" ∷ []) (array (item (only (codes "affected")

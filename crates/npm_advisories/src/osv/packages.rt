@@ -12,7 +12,7 @@ use crate::member::{items_at, text_at};
 use crate::names::Names;
 use serde_json::Value;
 
-/// Returns `true` if an OSV object is about an installed package, or if nobody can tell which packages it is about.
+/// Returns `true` if an OSV object is about an installed package, or if its packages cannot be read.
 pub(crate) fn concerns(names: &Names<'_>, entry: &Value) -> bool
     ensures { result ≡ Faults.concerns (has_name names.now) (view entry.now) }
 {
@@ -34,7 +34,7 @@ fn any_concerns(names: &Names<'_>, affected: &[Value]) -> bool
     false
 }
 
-/// Returns `true` if an element of `affected` is about an installed package, or if nobody can tell which package it is about.
+/// Returns `true` if an element of `affected` is about an installed package, or if its package cannot be read.
 fn may_concern(names: &Names<'_>, one: &Value) -> bool
     ensures { result ≡ Faults.may_concern (has_name names.now) (view one.now) }
 {

@@ -100,7 +100,7 @@ const MEMBERS: [(&str, &str); 13] = [
         r#""ranges": [{"type": "semver", "events": []}]"#,
         "Type a 0",
     ),
-    // Of two faults the first is told.
+    // The error has the first of two faults.
     (r#""ranges": [{"type": 1}], "versions": 1"#, "Type a 0"),
     (r#""versions": "1.0.0""#, "Versions a 0"),
 ];

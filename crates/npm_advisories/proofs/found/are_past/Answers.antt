@@ -1,4 +1,4 @@
--- A version that is read, outside what is known.
+-- A version text that is read, and a version outside the union.
 use Rattle.npm_advisories.proofs.found.are_past.Goals as goal
 
 pub returns-in-Some : goal.returns-in-Some

@@ -1,4 +1,4 @@
--- What lies outside the spans is what is offered.
+-- The least release outside the spans is offered.
 use Rattle.std.proofs.Common.{map}
 use Rattle.npm_advisories.proofs.Offering.{contain-joined, outside-admitted, outside-unhit}
 use Rattle.npm_advisories.proofs.Results.{same-offer}

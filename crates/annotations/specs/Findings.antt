@@ -2,14 +2,21 @@
 use Rattle.std.specs.Prelude.{ℕ, List, codes, map}
 use Rattle.annotations.specs.declared.finding.Finding.{Finding}
 use Rattle.annotations.specs.declared.finding.Level.{Level}
-use Rattle.annotations.specs.declared.finding.Level.TheVariants.{Error, Warning}
+use Rattle.annotations.specs.declared.finding.Level.TheVariants.{Error, Note, Warning}
 use Rattle.annotations.specs.declared.finding.Rule.{Rule}
 use Rattle.annotations.specs.declared.finding.Tool.{Tool}
 
--- the word for a level
+-- SARIF's word for a level
 abbrev pub level_word : Level → List ℕ
 level_word Error = codes "error"
 level_word Warning = codes "warning"
+level_word Note = codes "note"
+
+-- GitHub's workflow command for a level
+abbrev pub command_word : Level → List ℕ
+command_word Error = codes "error"
+command_word Warning = codes "warning"
+command_word Note = codes "notice"
 
 -- a kind of finding
 pub record RuleValue : Type 0 where

@@ -1,22 +1,36 @@
 //! What a checker finds.
 ghost use Rattle.std.specs.Prelude.{◌≡◌};
-ghost use Rattle.annotations.specs.Findings.{level_word};
+ghost use Rattle.annotations.specs.Findings.{command_word, level_word};
 
 /// How much a finding counts.
 #[derive(Clone, Copy, Debug, PartialEq, Eq, Drop)]
 pub enum Level {
     Error,
     Warning,
+    /// What is worth knowing and is no fault.
+    Note,
 }
 
 impl Level {
-    /// The word for it, which GitHub and SARIF share.
+    /// Returns SARIF's word for the level.
     pub fn as_str(self) -> &'static str
         ensures { result.now ≡ level_word self }
     {
         match self {
             Level::Error => "error",
             Level::Warning => "warning",
+            Level::Note => "note",
+        }
+    }
+
+    /// Returns the workflow command of GitHub for the level.
+    pub fn command(self) -> &'static str
+        ensures { result.now ≡ command_word self }
+    {
+        match self {
+            Level::Error => "error",
+            Level::Warning => "warning",
+            Level::Note => "notice",
         }
     }
 }

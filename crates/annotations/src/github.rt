@@ -16,7 +16,7 @@ pub fn push_annotation(out: &mut Vec<u8>, finding: &Finding<'_>) -> Result<(), A
     ensures { OnOk result (out.new.items ≡ out.old.items ++ annotation (finding_value finding.now)) }
 {
     out.extend_from_slice(b"::")?;
-    out.extend_from_slice(finding.level.as_str().as_bytes())?;
+    out.extend_from_slice(finding.level.command().as_bytes())?;
     out.extend_from_slice(b" file=")?;
     push_property(out, finding.file.as_bytes())?;
     out.extend_from_slice(b",line=")?;

@@ -12,8 +12,8 @@ use npm_manifests::Mismatch;
 use std::alloc::{AllocError, Global};
 
 /// Returns the findings of a lock file at this path, with this text: the mismatches first, and then the problems. A mismatch is an error
-/// if it is `exact`, and else a warning. The line and the column are those of the dependency in the group of the package that asks for
-/// it, of `engines.node` of a package, of the package itself if these are not in the text, and else those of the beginning.
+/// if it is `exact`, and else a warning. The line and the column are those of the dependency in the group of its dependent, of
+/// `engines.node` of a package, of the package itself if these are not in the text, and else those of the beginning.
 ///
 /// # Errors
 ///

@@ -19,7 +19,7 @@ pub enum AnnotationFormat {
     Sarif,
 }
 
-/// Adds what is written for findings of this version of the program `npm_lock_check`.
+/// Adds the text of findings in a format, as this version of the program `npm_lock_check` writes it.
 ///
 /// # Errors
 ///
@@ -27,7 +27,7 @@ pub enum AnnotationFormat {
 ///
 /// # Memory
 ///
-/// Allocates what is added.
+/// Allocates the text that is added.
 pub fn push_findings(
     out: &mut Vec<u8>,
     format: AnnotationFormat,

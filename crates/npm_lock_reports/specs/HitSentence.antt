@@ -24,15 +24,15 @@ abbrev pub joined : (before : List ℕ) → List AboutValue → List ℕ
 joined before [] = []
 joined before (about ∷ others) = before ++ (advisory_words about ++ joined (codes ", and by ") others)
 
--- the version that is offered: the least that no advisory hits and all that ask for the package admit, or else the
--- least that no advisory hits
+-- the version that is offered: the least that no advisory hits and that satisfies each dependent, or else the least that
+-- no advisory hits
 abbrev pub offer_words : (least admitted : Option VersionValue) → List ℕ
 offer_words least (Some v) = codes "; " ++ (version_text v ++ codes " is not, and satisfies all that ask for it")
 offer_words (Some v) None = codes "; " ++ (version_text v ++ codes " is not, but may not satisfy all that ask for it")
 offer_words None None = codes "; each later release is hit too"
 
--- the sentence: `a 1.0.0 is hit by 7 (high): Bad, and by 9 (low); 1.0.1 is not, and satisfies all that ask for it
--- (node_modules/a)`, in one line
+-- the sentence, in one line: `a 1.0.0 is hit by 7 (high): Bad, and by 9 (low);
+-- 1.0.1 is not, and satisfies all that ask for it (node_modules/a)`
 abbrev pub hit_sentence : FoundValue → List ℕ
 hit_sentence found = shown found.name ++ (codes " " ++ (shown found.version ++ (joined (codes " is hit by ") found.hits
     ++ (offer_words found.least found.admitted ++ (codes " (" ++ (shown found.folder ++ codes ")"))))))

@@ -2,4 +2,4 @@
 
 pub mod HitSentence  -- a package that is hit as a sentence
 pub mod Unread  -- a manifest that was not read, as a sentence and as a JSON object
-pub mod Report  -- what is found out about a lock file, and the lines of it
+pub mod Report  -- the report of a lock file, and its lines

@@ -1,4 +1,4 @@
--- What is found out about a lock file, and what is written about it.
+-- The report of a lock file, and its lines.
 use Rattle.std.specs.Prelude.{◌≡◌, ◌≤◌, ℕ, List, [], ◌∷◌, ◌++◌, false, if◌then◌else◌, Some, map, string_bytes, true}
 use Rattle.serde_json.specs.Data.{Data, depth}
 use Rattle.serde_json.specs.Read.{max_depth, read}
@@ -21,8 +21,8 @@ use Rattle.npm_lock_reports.specs.declared.report.Report.{Report}
 abbrev pub folder_text : FolderName → List ℕ
 folder_text name = string_bytes name.text
 
--- A report of nothing that counts for the status. `npm ci` installs a lock file that does not ask for the same as the
--- manifest, if it has what the manifest asks for. So mismatches count only if that is asked for.
+-- A report with nothing in it that counts for the status. `npm ci` installs a lock file whose specs differ from those of
+-- the manifest, if its packages satisfy the manifest. So mismatches count only with `--exact`.
 pub record IsClean (report : Report) : Type 0 where
   pub mismatches : report.exact ≡ true → report.mismatches.items ≡ []
   pub problems : report.problems.list.items ≡ []
@@ -71,7 +71,7 @@ pub data AreLines {V : Type 0} (IsLine : V → List ℕ → Type 0) : List V →
   one_more : (one : V) (line : List ℕ) (others : List V) (text : List ℕ) → IsLine one line → AreLines IsLine others text
       → AreLines IsLine (one ∷ others) (line ++ (10 ∷ text))
 
--- All that is written: a line for each mismatch, for each problem, for each package that is hit and, if they are listed,
+-- The whole text: a line for each mismatch, for each problem, for each package that is hit and, if they are listed,
 -- for each dependency that is not checked, and for each manifest that was not read.
 abbrev pub report_text : ReportFormat → Report → (hit_lines : List ℕ) → List ℕ
 report_text format report hit_lines = lines (mismatch_text format) (map mismatch_value report.mismatches.items)
@@ -80,7 +80,7 @@ report_text format report hit_lines = lines (mismatch_text format) (map mismatch
     then lines (unchecked_text format) (map unchecked_value report.problems.unchecked.items)
     ++ lines (unread_text format) (map folder_text report.unread.items) else [])))
 
--- the text of a report, with the lines of what is hit
+-- the text of a report, with the lines of the packages that are hit
 abbrev pub IsReportText : ReportFormat → Report → List FoundValue → (text : List ℕ) → Type 0
 IsReportText format report found text = (hit_lines : List ℕ) × AreLines (IsHitLine format) found hit_lines
     × (text ≡ report_text format report hit_lines)

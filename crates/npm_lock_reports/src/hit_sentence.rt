@@ -106,7 +106,7 @@ fn push_offer(
     }
 }
 
-/// Adds a version, and what is said of it.
+/// Adds a version, and these words about it.
 fn push_version(
     alloc: Global,
     line: &mut Vec<u8>,

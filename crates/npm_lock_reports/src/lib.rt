@@ -1,6 +1,6 @@
-//! What is found out about a lock file, and the lines that are written about it.
+//! The report of a lock file, and its lines.
 //!
-//! [`Report`] is what is found, and prints its counts. [`lines_of`] writes a line for each thing that is found, in a
+//! [`Report`] has the mismatches and the problems, and prints their counts. [`lines_of`] writes a line for each, in a
 //! [`ReportFormat`]: a sentence, or a JSON object.
 #![tactic(auto)]
 

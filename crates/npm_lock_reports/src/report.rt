@@ -1,4 +1,4 @@
-//! What was written about a lock file, and the line that counts it.
+//! The report of a lock file, and the line of its counts.
 ghost use Rattle.std.specs.Prelude.{◌≡◌, ◌↔◌, IsTrue};
 ghost use Rattle.npm_lock_reports.specs.Report.{IsClean};
 
@@ -7,7 +7,7 @@ use npm_lock::Problems;
 use npm_manifests::Mismatch;
 use std::fmt;
 
-/// What was written about a lock file.
+/// The report of a lock file.
 #[derive(Debug, PartialEq, Eq, Drop)]
 pub struct Report {
     /// The manifest and the lock file were compared.

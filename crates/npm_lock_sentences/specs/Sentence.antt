@@ -17,7 +17,7 @@ abbrev pub shown_spec : (spec : List ℕ) → List ℕ
 shown_spec [] = codes "\"\""
 shown_spec (byte ∷ spec) = shown (byte ∷ spec)
 
--- what is wrong
+-- the words for a kind of problem
 abbrev pub verdict : Kind → List ℕ
 verdict Missing = codes " is not installed, so nothing satisfies "
 verdict Invalid = codes " does not satisfy "
@@ -52,17 +52,17 @@ abbrev pub asker : (folder : List ℕ) → (version : Option (List ℕ)) → Lis
 asker [] version = codes "the root asks for"
 asker (byte ∷ folder) version = named_asker (last_name (byte ∷ folder)) (byte ∷ folder) version
 
--- a dependency, with this verdict on what was found for it
+-- a dependency, and this verdict on the version that is installed
 abbrev pub said : (verdict : List ℕ) → DependencyValue → List ℕ
 said verdict dependency = shown dependency.name ++ after (codes " ") dependency.version ++ verdict
     ++ shown_spec dependency.spec ++ codes ", which " ++ asker dependency.from dependency.from_version
 
--- the sentence of a problem: `a 1.0.0 does not satisfy ^2, which b 3.0.0 asks for (node_modules/b)`
+-- a problem: `a 1.0.0 does not satisfy ^2, which b 3.0.0 asks for (node_modules/b)`
 abbrev pub sentence : ProblemValue → List ℕ
 sentence problem = said (verdict problem.kind) problem.dependency
 
--- the sentence of a dependency that is not checked: `a 1.0.0 is not checked against latest, which the root asks for: a
--- tag`
+-- a dependency that is not checked:
+-- `a 1.0.0 is not checked against latest, which the root asks for: a tag`
 abbrev pub unchecked_sentence : UncheckedValue → List ℕ
 unchecked_sentence unchecked =
     said (codes " is not checked against ") unchecked.dependency ++ reason unchecked.reason

@@ -72,7 +72,7 @@ fn push_side(line: &mut Vec<u8>, spec: Option<&String>) -> Result<(), AllocError
     }
 }
 
-/// Adds a dependency, with this verdict on what was found for it.
+/// Adds a dependency, and this verdict on the version that is installed.
 fn push_said(line: &mut Vec<u8>, verdict: &[u8], dependency: &Dependency) -> Result<(), AllocError>
     ensures { OnOk result (line.new.items
         ≡ line.old.items ++ Sentence.said verdict.now (dependency_value dependency.now)) }
@@ -89,7 +89,7 @@ fn push_said(line: &mut Vec<u8>, verdict: &[u8], dependency: &Dependency) -> Res
     )
 }
 
-/// What is wrong, in words.
+/// Returns the words for a kind of problem.
 fn verdict(kind: Kind) -> &'static [u8]
     ensures { result.now ≡ Sentence.verdict kind }
 {
@@ -100,7 +100,7 @@ fn verdict(kind: Kind) -> &'static [u8]
     }
 }
 
-/// Why a dependency is not checked, in words.
+/// Returns the words for why a dependency is not checked.
 fn reason(reason: Reason) -> &'static [u8]
     ensures { result.now ≡ Sentence.reason reason }
 {
@@ -170,14 +170,14 @@ fn push_package(
     line.extend_from_slice(b")")
 }
 
-/// What follows the last `node_modules/` of a folder.
+/// Returns the part of a folder after the last `node_modules/`.
 fn last_name(folder: &str) -> Option<&str>
     ensures { option_map (λ name. name.now) result ≡ Sentence.last_name folder.now }
 {
     after_modules(folder)
 }
 
-/// The same, as `rsplit_once` finds it.
+/// The same, in the words of `rsplit_once`.
 fn after_modules(folder: &str) -> Option<&str>
     ensures { MatchOption result (RFindsText (codes "node_modules/") folder.now None)
         (λ name. (front : List ℕ) × SplitsAroundMatch (RFindsText (codes "node_modules/")) folder.now front name.now) }

@@ -66,7 +66,7 @@ an_override = refl
 pub control_characters : shown (27 ∷ codes "[2J" ++ (10 ∷ 194 ∷ 155 ∷ 127 ∷ [])) ≡ codes "\\x1b[2J\\x0a\\xc2\\x9b\\x7f"
 control_characters = refl
 
--- what is escaped cannot be written by the file itself
+-- a file cannot hold an escape that a reader takes for one of the program
 pub a_backslash : shown (codes "\\x1b\"") ≡ codes "\\\\x1b\\\""
 a_backslash = refl
 

@@ -2,14 +2,14 @@
 use Rattle.std.proofs.Common.{◌∷◌, [], codes, decimal, refl}
 use Rattle.std.specs.List.{flat_map}
 use Rattle.annotations.specs.Escapes.{data_byte, property_byte}
-use Rattle.annotations.specs.Findings.{level_word}
+use Rattle.annotations.specs.Findings.{command_word}
 use Rattle.annotations.proofs.Parts.{eleven}
 use Rattle.annotations.proofs.github.push_annotation.Goals as goal
 
 pub returns : goal.returns
 returns c = let finding = c.args.finding.now in
     eleven c.extend_from_slice-7.result c.extend_from_slice-7.new.self.items c.push_data.new.out.items c.args.out.now.items
-    (codes "::") (level_word finding.level) (codes " file=") (flat_map property_byte finding.file.now) (codes ",line=")
+    (codes "::") (command_word finding.level) (codes " file=") (flat_map property_byte finding.file.now) (codes ",line=")
     (decimal finding.line) (codes ",col=") (decimal finding.column) (codes "::")
     (flat_map data_byte finding.message.items) (10 ∷ [])
     (rw (
@@ -25,7 +25,7 @@ returns c = let finding = c.args.finding.now in
       c.in_ok-extend_from_slice-3.ensures.items,
       c.in_ok-extend_from_slice-2.ensures.items,
       c.as_bytes.ensures.value,
-      c.as_str.ensures,
+      c.command.ensures,
       c.in_ok-extend_from_slice.ensures.items,
     ) refl)
     c.extend_from_slice-7.ensures.items

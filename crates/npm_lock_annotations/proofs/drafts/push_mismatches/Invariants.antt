@@ -1,4 +1,4 @@
--- The drafts so far, and those of what is left, are all.
+-- The drafts so far, and those of the mismatches that are left, are all.
 use Rattle.std.proofs.Common.{◌≡◌, ◌++◌, drop, map}
 use Rattle.json_findings.specs.Drafts.{draft_value}
 use Rattle.npm_manifests.specs.Mismatches.{mismatch_value}

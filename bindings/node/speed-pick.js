@@ -38,7 +38,7 @@ function least(one, other) {
     return best;
 }
 
-// What is asked: a range with the default tag's version, one without it, a tag, a version, and with options.
+// The questions: a range with the default tag's version, one without it, a tag, a version, and with options.
 const QUESTIONS = {
     'a range with the version of `latest`': ['*', {}],
     'a range without it': ['^2', {}],

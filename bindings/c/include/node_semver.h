@@ -234,7 +234,7 @@ bool node_semver_range_contains(const node_semver_range *range, const node_semve
 
 /* Write whether the version of a text satisfies the range, or lies inside one of its sets. The text is read by the grammar of
  * SemVer 2.0.0, as node_semver_version_parse_strict reads it, and nothing is allocated. Return NODE_SEMVER_REFUSED if it is
- * no version, and NODE_SEMVER_NOT_UTF8 for other bytes; then the answer stays as it was. */
+ * no version, and NODE_SEMVER_NOT_UTF8 for other bytes; then nothing is written. */
 #define NODE_SEMVER_HAS_SATISFIES_STRICT 1
 node_semver_status node_semver_satisfies_strict(const node_semver_range *range, const char *text, size_t length,
                                                 bool *answer);
@@ -379,7 +379,7 @@ bool node_semver_interval_is_of_prereleases(const node_semver_intervals *interva
 
 /* Writes whether the version of one text satisfies the range of the other. If one of the texts is not UTF-8, returns
  * NODE_SEMVER_NOT_UTF8. Otherwise the range is parsed first, so if both texts are refused, the fault is that of the
- * range. If the status is not NODE_SEMVER_OK, the answer stays as it was. */
+ * range. If the status is not NODE_SEMVER_OK, the bool keeps its value. */
 node_semver_status node_semver_satisfies_text(const char *range, size_t range_length, const char *version,
                                               size_t version_length, bool *answer, node_semver_fault *fault);
 

@@ -31,7 +31,7 @@ extern "C" {
 /* Returns the version of the library that the program runs with, as "1.0.0". It ends with a zero and is never freed. */
 const char *npm_pick_library_version(void);
 
-/* What a call returns. npm's code of an error stands in brackets. */
+/* What a call returns, with npm's code of an error in brackets. */
 typedef uint32_t npm_pick_status;
 
 #define NPM_PICK_OK 0u             /* a version is picked */
@@ -47,13 +47,13 @@ typedef uint32_t npm_pick_status;
 #define NPM_PICK_NOT_UTF8 10u      /* one of the texts is not UTF-8 */
 #define NPM_PICK_INVALID_OPTION 11u /* `before` is no time, or `node` or `npm` is no version */
 
-/* A text of an option. An empty text stands for an option that is not there. */
+/* A text of an option. An empty text counts as an absent option. */
 typedef struct npm_pick_text {
     const char *bytes;
     size_t length;
 } npm_pick_text;
 
-/* What is asked beside the version, the tag or the range. */
+/* The options of a pick. */
 typedef struct npm_pick_options {
     npm_pick_text default_tag; /* the version of this tag is preferred; none: `latest` */
     npm_pick_text avoid;       /* a range: its versions are picked only if no other version is left */

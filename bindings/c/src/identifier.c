@@ -2,7 +2,7 @@
 /*
  * The call that takes an identifier, with a pointer that may be NULL.
  *
- * The proved call reads the identifier through a pointer that is not null, and the empty text stands for none. The
+ * The proved call reads the identifier through a pointer that is not null, and the empty text is none. The
  * Makefile gives the proved call the name that is declared here.
  */
 #include "node_semver.h"

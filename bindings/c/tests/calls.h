@@ -16,7 +16,7 @@ static void free_read(struct read *read) {
     }
 }
 
-/* Returns false, with the status in `answer` and nothing kept, if a text is refused. */
+/* Returns false, with the status written and nothing kept, if a text is refused. */
 static bool read_texts(struct read *read, const char *kinds, const char *const *texts, struct answer *answer) {
     *read = (struct read){{NODE_SEMVER_EMPTY, NODE_SEMVER_EMPTY}, {NODE_SEMVER_EMPTY, NODE_SEMVER_EMPTY}};
     for (int i = 0; kinds[i] != '\0'; i++) {
@@ -113,7 +113,7 @@ static void run_choice(choice *call, const char *const *texts, struct answer *an
     node_semver_range_free(range);
 }
 
-/* Makes the call with this truth in the place of the answer, which must stay if the call does not succeed. */
+/* Makes the call with a bool of this value, which must keep it if the call does not succeed. */
 static void run_texts_over(bool before, const char *const *texts, struct answer *answer) {
     node_semver_fault fault = UNTOLD;
     bool satisfies = before;

@@ -1,5 +1,5 @@
 /* SPDX-License-Identifier: Apache-2.0 */
-/* What a test of long lists holds, and how it says what is wrong. */
+/* The values of a test of long lists, and how it reports a failure. */
 #include "node_semver.h"
 
 #include <stdio.h>
@@ -21,7 +21,7 @@ static char text[ROOM], print[ROOM];
 static const char *wrong;
 static bool is_out;
 
-/* Notes what is wrong, and returns whether the test may go on. */
+/* Keeps the first failure, and returns whether the test may go on. */
 static bool is(bool fact, const char *what) {
     if (!fact && wrong == NULL && !is_out) {
         wrong = what;
@@ -53,7 +53,7 @@ static bool parse_version(node_semver_version *version, const char *of) {
     return done(node_semver_version_parse(of, strlen(of), version, NULL), "a version is not parsed");
 }
 
-/* Returns whether this is what was printed; 0 bytes are out of memory. */
+/* Returns whether this text was printed; 0 bytes mean out of memory. */
 static bool is_print(size_t length, const char *wanted) {
     is_out = is_out || length == 0;
     return is(length == strlen(wanted) && memcmp(print, wanted, length) == 0, "another print");

@@ -235,7 +235,7 @@ static const struct row rows[] = {
     {"least_common", "rr", {"=1.2.3+a", "1"}, "1.2.3"},
     {"least_common", "rr", {"1 - 2", "3"}, "none"},
     {"least_common", "rr", {">=1.0.0-a <1.0.0", ">=0.9"}, "none"},
-    /* The intersection admits what one of its two ranges refuses. */
+    /* The intersection admits a version that one of its two ranges does not. */
     {"intersect", "rr", {"^2.0.0-rc.1", ">=1.5"}, ">=2.0.0-rc.1 <3.0.0-0"},
     {"satisfies", "rv", {">=2.0.0-rc.1 <3.0.0-0", "2.0.0-rc.4"}, "true"},
     {"satisfies", "rv", {">=1.5", "2.0.0-rc.4"}, "false"},

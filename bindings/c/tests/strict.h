@@ -18,7 +18,7 @@ static void run_coerce(coercion call, const char *text, bool rtl, struct answer 
 /* A call of a range and a text. */
 typedef node_semver_status question(const node_semver_range *, const char *, size_t, bool *);
 
-/* Makes the call with each truth in the place of the answer, which must stay if the call does not succeed. */
+/* Makes the call with a bool of each value, which must keep it if the call does not succeed. */
 static void run_question(question *call, const node_semver_range *range, const char *text, struct answer *answer) {
     bool answers[2] = {false, true};
     node_semver_status status = call(range, text, strlen(text), &answers[0]);

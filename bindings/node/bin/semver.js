@@ -15,7 +15,7 @@ const WRITTEN = 0;
 const NOTHING = 1;
 const STOPPED = 2;
 
-// ---- what is read ----
+// ---- reading ----
 
 const decoder = new TextDecoder('utf-8', { fatal: true, ignoreBOM: true });
 
@@ -67,7 +67,7 @@ function* versionsOf(asked, ranges, output) {
     }
 }
 
-// ---- what is written ----
+// ---- writing ----
 
 // Of the versions those that are listed, in their order.
 function listed(versions, { listing, reverse }) {
@@ -122,7 +122,7 @@ function writeIncrement(asked, output) {
     return writeList([{ version }], asked, output);
 }
 
-// Writes the sets of the ranges. The first one that is refused, or missing, decides what is said at the end.
+// Writes the sets of the ranges. The first one that is refused, or missing, decides the error at the end.
 function writeExplained(asked, output) {
     const isOther = asked.versions.length > 0 || asked.increment !== undefined || asked.ranges.length === 0;
     const texts = isOther ? [undefined] : asked.ranges;

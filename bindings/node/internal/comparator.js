@@ -13,7 +13,7 @@ const { LONGEST_VERSION } = require('./texts.js');
 // What npm takes for the form of a comparator, by which it chooses what it says of a long text.
 const [FORM, LOOSE_FORM] = [safeRe[t.COMPARATOR], safeRe[t.COMPARATORLOOSE]];
 
-// What stands for any version.
+// The `semver` of a comparator that admits any version.
 const ANY = Symbol('SemVer ANY');
 
 // Marks a constructor's call that passes an operator and a version.

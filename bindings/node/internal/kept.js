@@ -24,7 +24,7 @@ let older = emptyHalf();
 let newer = emptyHalf();
 let next = 0;
 
-// The print of the range at each place, which is made when it is asked for.
+// The print of the range at each place, which is made at its first use.
 const prints = new Map();
 
 // The place of a range text that is read with such options, from now on if it was not kept; or -1; or `undefined` for a

@@ -1,5 +1,5 @@
 // SPDX-License-Identifier: Apache-2.0
-// The class Range, and the keys of what is passed for a range.
+// The class Range, and the keys of values that are passed as ranges.
 'use strict';
 
 const native = require('./native.js');
@@ -14,7 +14,7 @@ const { readAlternative, readSet, refusal, setOf } = require('./words.js');
 // The kinds of cuts, by their numbers in node_semver.h.
 const KINDS = ['start', 'before', 'after', 'end'];
 
-// What stands for `||` in a text without alternatives, and in no comparator.
+// Replaces `||` in a text that is read as one alternative. No comparator has it.
 const BAR = '\0';
 
 // A word with it, whose operator is joined with a partial that follows.
@@ -25,7 +25,7 @@ let callKey;
 let rangeOfKey;
 let own;
 
-// The Ranges that stand in for copies.
+// The Ranges that replace copies.
 const standIns = new WeakMap();
 
 // Marks a constructor's call that passes a key, and not what a user passed.
@@ -77,7 +77,7 @@ class Range {
 
     static {
         // A deep copy, an object that inherits from a Range and a proxy have no private fields: a Range of their text
-        // stands in.
+        // replaces them.
         own = (range) => (#text in range ? range : standIn(range));
         callKey = (range) => {
             const mine = own(range);

@@ -1,5 +1,5 @@
 // SPDX-License-Identifier: Apache-2.0
-// The class SemVer, and the keys of what is passed for a version.
+// The class SemVer, and the keys of values that are passed as versions.
 'use strict';
 
 const native = require('./native.js');
@@ -229,7 +229,7 @@ function compareSemVers(one, other) {
 
 const compareSemVersWithBuilds = (one, other) => compareSemVers(one, other) || compareBuilds(one, other);
 
-// Of texts the library is asked, others are compared as SemVers. Throws where one of the two is no version.
+// The library compares texts; other values are compared as SemVers. Throws if one of the two is no version.
 function compareBy(one, other, options, call, compareThem) {
     if (typeof one === 'string' && typeof other === 'string') {
         const order = call(trimmedVersion(one), trimmedVersion(other));

@@ -150,7 +150,7 @@ const BUILD = '[a-zA-Z0-9-]{1,250}';
 const MORE = `(?:-?${IDENTIFIER}(?:\\.${IDENTIFIER})*)?(?:\\+${BUILD}(?:\\.${BUILD})*)?`;
 const PARTIAL = `${MARKS}${NUMBER}(?:\\.${NUMBER}(?:\\.${NUMBER}${MORE})?)?`;
 
-// Blanks between an operator and what it stands before, which npm takes out before it divides a text. Marks are looked at
+// Blanks between an operator and its partial, which npm takes out before it divides a text. Marks are looked at
 // from the first of them alone: if no number follows from there, none follows from a later one.
 const OPERATOR = new RegExp(`(\\s?)(?:([<>]=?)|(?<![v=]\\s?)(=?))\\s?(${MARKS}${DIGITS}\\.${DIGITS}\\.${DIGITS}${MORE}|${PARTIAL})`,
     'g');

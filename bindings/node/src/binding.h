@@ -114,7 +114,7 @@ struct state {
 bool make_state(napi_env env, napi_value exports);
 struct state *state_of(napi_env env);
 
-/* Frees the state when its last user lets it go. */
+/* Frees the state when its last user is done. */
 void let_state_go(struct state *state);
 
 /* ---- kept.c ---- */

@@ -42,7 +42,7 @@ static void free_items(struct items *items) {
 }
 
 /* Reads each line. Where `is_each` is true, stops at the first that is no version: its number is in `line`. Otherwise
- * leaves out what is no version. */
+ * leaves out each line that is no version. */
 static node_semver_status read_lines(const struct text *text, bool is_each, struct items *items, uint32_t *line) {
     const char *begin = text->bytes, *end = text->bytes + text->length, *stop;
     for (*line = 0; (stop = memchr(begin, '\n', (size_t)(end - begin))) != NULL; ++*line) {

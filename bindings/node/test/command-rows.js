@@ -6,7 +6,7 @@
 const written = (...versions) => ({ status: 0, output: versions.map((version) => `${version}\n`).join(''), error: '' });
 const NOTHING = { status: 1, output: '', error: '' };
 
-// Words, standard input, and what is written. npm's command reads no standard input.
+// Words, standard input, and the output. npm's command reads no standard input.
 
 const VERSIONS = '1.10.0\nv1.2.3\r\n\nlatest\n2.0.0-rc.1\n 1.4.2 \n2.0.0+5';
 const text = (output, status = 0) => ({ status, output, error: '' });
@@ -40,7 +40,7 @@ const READ_ROWS = [
     [['--json', '-i', 'prerelease', '--preid', 'beta', '-n', 'false', '1.2.3-beta'], '', text('[null]\n')],
 ];
 
-// `--explain`: words, what is written, and what is said. No row reads standard input.
+// `--explain`: words, the output, and the errors. No row reads standard input.
 const lines = (status, output, error = []) => ({ status, output: output.map((line) => `${line}\n`).join(''),
     error: error.map((line) => `${line}\n`).join('') });
 const NO_EXPLANATION = lines(1, [], ['--explain can only be used on ranges, with no version']);
@@ -85,7 +85,7 @@ const EXPLAIN_ROWS = [
 // Bytes that are no UTF-8 make a line that is no version.
 const NO_UTF8 = [['-'], Buffer.from([0x31, 0x2e, 0x32, 0x2e, 0x33, 0xff, 0x0a, 0x31, 0x2e, 0x30, 0x2e, 0x30, 0x0a]), written('1.0.0')];
 
-// Words, standard input, and what is written.
+// Words, standard input, and the output.
 const ROWS = [...READ_ROWS, NO_UTF8, ...EXPLAIN_ROWS.map(([words, answer]) => [words, '1.2.3\n', answer])];
 
 module.exports = { ROWS };

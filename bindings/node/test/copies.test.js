@@ -22,7 +22,7 @@ function deepCopy(value) {
     return copy;
 }
 
-// As `reactive` of Vue: what is read through it is a proxy too.
+// As `reactive` of Vue: an object that is read through it is a proxy too.
 const reactive = (value) => (!isObject(value) ? value
     : new Proxy(value, { get: (target, key, self) => reactive(Reflect.get(target, key, self)) }));
 

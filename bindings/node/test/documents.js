@@ -1,5 +1,5 @@
 // SPDX-License-Identifier: Apache-2.0
-// Made documents of packages, and what is asked of them: small ones with odd members, and large ones as registries serve them.
+// Made documents of packages, and questions about them: small ones with odd members, and large ones as registries serve them.
 'use strict';
 
 // A generator of numbers, the same for the same seed.
@@ -144,7 +144,7 @@ class Documents {
         };
     }
 
-    // A document, what is wanted of it, and options.
+    // A document, the wanted text, and options.
     question() {
         const keys = this.keys(9);
         return [this.packument(keys), this.wanted(keys), this.options()];

@@ -1,7 +1,7 @@
 // SPDX-License-Identifier: Apache-2.0
 // Every function on generated texts, here and in npm's `semver`: the two agree, or a row of the README's table of
-// differences covers the texts. Texts that differ are made as small as they get first, and the row must cover what is
-// left. Two generators make the texts: one by the grammar, and one that changes texts as people write them.
+// differences covers the texts. Texts that differ are made as small as they get first, and the row must cover
+// those. Two generators make the texts: one by the grammar, and one that changes texts as people write them.
 // NPM_PAIRS: how many pairs of a version and a range each generator makes, 10,000 if it is not set; NPM_SEED: others.
 'use strict';
 

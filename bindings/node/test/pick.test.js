@@ -76,7 +76,7 @@ const forbidden = { policyRestrictions: { versions: { '2.0.0': versions['2.0.0']
 const staged = { stagedVersions: { versions: { '3.0.0': { name: 'one', version: '3.0.0' } } } };
 const time = { time: { '1.2.0': '2020-01-01T00:00:00.000Z', '1.3.0': '2021-01-01T00:00:00.000Z', '2.0.0': '2022-01-01T00:00:00.000Z' } };
 
-// A document, what is wanted, options, and the version that is picked or the code of the error.
+// A document, the wanted text, options, and the version that is picked or the code of the error.
 const ROWS = [
     [made(), '^1', {}, '1.2.0'],
     [made(), '>=1.3 <2', {}, '1.3.0'],

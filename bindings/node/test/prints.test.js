@@ -1,6 +1,6 @@
 // SPDX-License-Identifier: Apache-2.0
 // The print of a range admits the versions that the range admits. The print is made of comparators, which JavaScript
-// finds, and the range is asked by the library. A row of the table covers what npm drops from a print.
+// finds, and the library tests the range. A row of the table covers what npm drops from a print.
 'use strict';
 
 const assert = require('node:assert');

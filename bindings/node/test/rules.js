@@ -1,7 +1,7 @@
 // SPDX-License-Identifier: Apache-2.0
 // Where this package differs from npm's `semver`: the rows of the README's table. Each has a predicate of the texts
-// that it is about: `version` of a version text, `range` of a range text as npm trims it, and of its options. It is asked
-// about the smallest texts that differ, so it says what stands in them and no more. `calls` are the functions that a row
+// that it is about: `version` of a version text, `range` of a range text as npm trims it, and of its options. It is called
+// with the smallest texts that differ, so it describes those and no more. `calls` are the functions that a row
 // is about, where it is not about all. `example` is a call.
 'use strict';
 

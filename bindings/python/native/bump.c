@@ -43,7 +43,7 @@ static int read_release(PyObject *release, uint32_t *bump)
     return -1;
 }
 
-/* The number of a base: 0, or -1 with an exception. `False` stands for no base in npm, and is refused. */
+/* The number of a base: 0, or -1 with an exception. `False` is no base in npm, and is refused. */
 static int read_base(PyObject *base, uint32_t *number)
 {
     long value;

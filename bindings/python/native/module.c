@@ -116,7 +116,7 @@ static int clear_module(PyObject *module)
     native_state *state = PyModule_GetState(module);
     if (state == NULL)
         return 0;
-    Py_CLEAR(state->range_type); /* first: full_state asks for it */
+    Py_CLEAR(state->range_type); /* first: full_state reads it */
     Py_CLEAR(state->version_type);
     Py_CLEAR(state->error_type);
     Py_CLEAR(state->bump_error_type);

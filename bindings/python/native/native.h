@@ -90,7 +90,7 @@ typedef size_t printer(const void *value, size_t place, char *room, size_t size)
 PyObject *printed(printer *print, const void *value, size_t place);
 
 /* The items of an iterable in a tuple, which no other code changes; NULL with an exception. A str is refused, although
- * its characters could be iterated: `name` says what was wanted. */
+ * its characters could be iterated: `name` begins the error. */
 PyObject *items_of(PyObject *iterable, const char *name);
 
 /* The UTF-8 of a str, valid as long as the str; NULL with a TypeError that starts with `wanted`, or with a

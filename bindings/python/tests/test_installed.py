@@ -84,7 +84,7 @@ const answers = rows.map(([range, version, options]) => semver.satisfies(version
 process.stdout.write(JSON.stringify(answers));
 """
 
-# What packages ask of Node, and versions of Node that end a range or are a prerelease.
+# Ranges of `engines`, and versions of Node that end a range or are a prerelease.
 ENGINES = ["", "*", ">=18", "<=20", "^18.17.0 || >=20.5.0", "14 || >=16.10", ">= 0.8", "^1 ||", "18.x.3", ">20 <18"]
 NODES = ["16.0.0-rc.1", "16.10.0", "18.0.0-rc.1", "18.17.0", "20.0.0", "20.5.0", "20.5.1-a", "21.0.0-0", "22.1.0"]
 

@@ -28,7 +28,7 @@ DOCUMENT: Dict[str, Any] = {
 STAGED: Dict[str, Any] = {"stagedVersions": {"versions": {"1.0.0": {}}}}
 RESTRICTED: Dict[str, Any] = {"policyRestrictions": {"versions": {"1.0.0": {}}, "message": "no"}}
 
-# A document, what is wanted, options, and the version with `!` if it is one to avoid, `^` if it is outside and `*` if it was
+# A document, the wanted text, options, and the version with `!` if it is one to avoid, `^` if it is outside and `*` if it was
 # picked of all; or npm's code and the kind of the error.
 ROWS: List[Tuple[Any, str, Dict[str, Any], str]] = [
     (DOCUMENT, "^1", {}, "1.2.0"),

@@ -54,7 +54,7 @@ STRICT = ["1.2.3", "0.0.0", "1.2.3-a.1+01", "1.2.3-0a", "1.2.3--", "1.2.3-0", "1
 Base = Literal[0, 1, None]
 
 # A version, a release type, an identifier, a base and the result: npm's README, "Functions", "Prerelease Identifiers"
-# and "Prerelease Identifier Base", and what its `semver` 7.6.2 answers.
+# and "Prerelease Identifier Base", and the results of its `semver` 7.6.2.
 BUMPS: List[Tuple[str, ReleaseType, Optional[str], Base, str]] = [
     ("1.2.3", "prerelease", "beta", 0, "1.2.4-beta.0"),
     ("1.2.4-beta.0", "prerelease", None, 0, "1.2.4-beta.1"),

@@ -105,8 +105,8 @@ static void answer_satisfies(sqlite3_context *context, const node_semver_range *
     }
 }
 
-/* SQLite keeps the range of a constant text from row to row. It may free what it is given at once, so it is given the
- * range after the answer. */
+/* SQLite keeps the range of a constant text from row to row. It may free a range at once, so it gets the range
+ * after the result is set. */
 static void semver_satisfies(sqlite3_context *context, int count, sqlite3_value **arguments) {
     (void)count;
     if (is_null(arguments[0]) || is_null(arguments[1])) {

@@ -1,5 +1,5 @@
 /* SPDX-License-Identifier: Apache-2.0 */
-/* Texts are read, and what is wrong with one becomes a message. */
+/* Reads texts, and writes messages about their faults. */
 #include "texts.h"
 
 #include <stdio.h>

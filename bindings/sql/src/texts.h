@@ -1,7 +1,7 @@
 /* SPDX-License-Identifier: Apache-2.0 */
 /*
- * What both databases share: texts are read, and what is wrong with one becomes a message. Nothing here calls a
- * database, so no call of a database can leave what is allocated here.
+ * What both databases share: texts are read, and their faults become messages. Nothing here calls a database, so no
+ * error of a database can leak memory that is allocated here.
  *
  * A version is read by the grammar of SemVer 2.0.0, as a registry has it, and a range as npm's `semver` reads it without
  * options.

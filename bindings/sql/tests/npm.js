@@ -3,8 +3,8 @@
 // standard input: `v VERSION` and `r RANGE`. Prints the versions in npm's order, or without `order` RANGE|VERSION for each
 // version that satisfies its range.
 //
-// Left out is what docs/DIFFERENCES.md lists: npm compares identifiers above 9007199254740991 as doubles, and drops what
-// stands beside a range of all versions.
+// Left out is what docs/DIFFERENCES.md lists: npm compares identifiers above 9007199254740991 as doubles, and drops
+// the alternatives beside one of all versions.
 'use strict';
 
 const { execSync } = require('node:child_process');

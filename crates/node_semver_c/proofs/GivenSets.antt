@@ -1,4 +1,4 @@
--- Sets that C gives: what is given stands for one list of sets at most, and a loop that reads them keeps that list.
+-- Sets that C passes: they are one list of sets at most, and a loop that reads them keeps that list.
 use Rattle.std.proofs.Common.{◌≡◌, ◌↔◌, zero, suc, ◌+◌, ◌<◌, ◌∙◌, ℕ, List, [], ◌∷◌, ◌++◌, Option, Some, None, length}
 use Rattle.std.proofs.Common.{get_or}
 use Rattle.std.proofs.Common.{take, refl, sym, ap, subst, inl, inr, arith}
@@ -104,7 +104,7 @@ none-given given k first lt at never sets a is =
     let held = given-at given k first sets lt a is.each in
     never held.0 (subst (λ (g : SetRef). IsSetGiven g held.0) (sym at) held.1) held.2.holds
 
--- a range of the sets that are given is one of what is given
+-- a range of the sets is a range of the references to them
 pub range-of : (given : List SetRef) (sets : List (Ends VersionValue)) (answer : Option (List (Ends VersionValue)))
     → AreSetsGiven given sets → IsRangeWith sets answer → IsRangeOf given answer
 range-of given sets None a is = record {

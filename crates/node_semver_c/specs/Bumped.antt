@@ -1,4 +1,4 @@
--- What a call asks of a bump, by numbers and a text, and what it returns.
+-- The arguments of a bump, as numbers and a text, and its result.
 use Rattle.std.specs.Prelude.{◌≡◌, ◌≢◌, ◌⊎◌, ℕ, List, [], Option, Some, None}
 use Rattle.node_semver_c.specs.Compared.{code_of_bump}
 use Rattle.node_semver_c.specs.declared.status.TheConstants.{INVALID_BUMP, INVALID_IDENTIFIER, NO_IDENTIFIER}
@@ -14,7 +14,7 @@ use Rattle.npm_semver.specs.declared.bump.BumpError.TheVariants.{NumberTooLarge,
 use Rattle.npm_semver.specs.declared.bump.IdentifierBase.{IdentifierBase}
 use Rattle.npm_semver.specs.declared.bump.IdentifierBase.TheVariants.{Absent, One, Zero}
 
--- ---- what is asked
+-- ---- the arguments
 
 -- the code of a base: the number itself, and 2 for none
 abbrev pub code_of_base : IdentifierBase → ℕ
@@ -45,7 +45,7 @@ pub record IsBumpedAs (bump : ℕ) (text : List ℕ) (base : ℕ) (v w : Version
   pub given : IsIdentifierGiven text identifier
   pub bumped : IsBumped by identifier start v w
 
--- ---- what is returned
+-- ---- the result
 
 -- the status of an error of `npm_semver::inc`
 abbrev pub status_of : BumpError → ℕ

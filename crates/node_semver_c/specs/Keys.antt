@@ -2,6 +2,6 @@
 use Rattle.std.specs.Prelude.{[], false}
 use Rattle.semver_keys.specs.Intervals.{IntervalValue}
 
--- what stands for the interval at a place past the last one, in clauses on the others
+-- the default for a place past the last interval, in clauses on the places before it
 abbrev pub no_interval : IntervalValue
 no_interval = record { lower = []; upper = []; prereleases = false }

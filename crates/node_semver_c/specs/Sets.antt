@@ -13,7 +13,7 @@ use Rattle.semver_texts.specs.Comparison.{version_cmp}
 use Rattle.semver_sets.specs.RangeSets.{IsRangeValue}
 use Rattle.semver_texts.specs.Version.{VersionValue}
 
--- ---- what is written
+-- ---- writing
 
 -- a cut that is written: its kind, and its version, or an empty handle
 abbrev pub IsCutWritten : Cut VersionValue → ℕ → Option VersionValue → Type 0
@@ -42,7 +42,7 @@ abbrev pub IsSetReported : Option (Ends VersionValue) → ℕ → SetHandle → 
 IsSetReported set status written =
     IsSetOrNone set status written ⊎ ((status ≡ OUT_OF_MEMORY) × IsEmptySet written)
 
--- ---- what is read
+-- ---- reading
 
 -- a cut that is given: its kind, and the handle of its version if it has one
 abbrev pub IsCutGiven : CutRef → Cut VersionValue → Type 0

@@ -18,7 +18,7 @@ use semver_texts::identifier::read::read_identifier;
 use std::alloc::Global;
 
 /// `npm_semver::inc`, by the code of the bump, the text of the identifier and the code of the base: puts the bumped version
-/// into the handle. The empty text stands for no identifier.
+/// into the handle. The empty text is no identifier.
 #[unsafe(no_mangle)]
 pub extern "C" fn node_semver_version_bump(
     alloc: Global,

@@ -1,4 +1,4 @@
-//! The laws of the numbers that stand for statuses, faults, bumps and cuts. Each function here does nothing: its
+//! The laws of the numbers of statuses, faults, bumps and cuts. Each function here does nothing: its
 //! contract is the law.
 ghost use Rattle.std.specs.Prelude.{◌≡◌, ℕ, List};
 ghost use Rattle.semver_versions.specs.Error.{context, incomplete, max_int, max_length, no_valid_ranges, other};

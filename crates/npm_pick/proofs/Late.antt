@@ -1,4 +1,4 @@
--- Whether all versions of lists were published too late, and what is picked by rank of a document.
+-- Whether all versions of lists were published too late, and which version is picked by rank.
 use Rattle.std.proofs.Common.{◌≡◌, ◌↔◌, ◌&&◌, ℕ, List, [], ◌∷◌, ◌++◌, Bool, true, false, IsTrue, Result, refl}
 use Rattle.semver_cuts.specs.Lemmas.Lists.{all-append}
 use Rattle.serde_json.specs.Data.{Data}

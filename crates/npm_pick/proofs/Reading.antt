@@ -1,4 +1,4 @@
--- What was read of a range, and what stands under a key.
+-- A range that was read, and the value of a key.
 use Rattle.std.proofs.Common.{◌≡◌, ◌∙◌, ◌↔◌, ℕ, List, Option, Some, None, Result, Ok, Err, IfNone, IfOk, IfSome, false, true}
 use Rattle.std.proofs.Common.{Equal, ap, is_eq, sym}
 use Rattle.std.proofs.lemmas.Slice.Eq.{bytes_eq-Decides}

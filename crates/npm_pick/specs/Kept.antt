@@ -18,7 +18,7 @@ use Rattle.npm_pick.specs.Times.{is_published}
 use Rattle.npm_pick.specs.declared.error.PickError.{PickError}
 use Rattle.npm_pick.specs.declared.options.Options.{Options}
 
--- ---- what is picked, and what the ranges admit
+-- ---- the keys that are picked or admitted
 
 -- the keys that are picked for the texts, one after the other; a text for which none is picked adds none
 pub data ArePicked (packument : Data) (options : Options) : (texts keys : List (List ℕ)) → Type 0 where
@@ -71,7 +71,7 @@ pub record IsInOrder (keys : List (List ℕ)) : Type 0 where
   pub read : All (λ (k : KeyValue). IsReadAs k.text k.version) listed
   pub ordered : IsStrictlySortedBy key_cmp listed
 
--- ---- what is kept
+-- ---- the keys that are kept
 
 -- The keys that a mirror keeps for these texts: each that is picked for one of them, and, if all are kept, each key of the
 -- document that is admitted. There are no others.

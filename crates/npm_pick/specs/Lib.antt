@@ -3,7 +3,7 @@
 pub mod Packument  -- the document of a package
 pub mod Times  -- when a version was published
 pub mod Rank  -- which of the versions in a range is picked
-pub mod Pick  -- what is picked for a version, a tag or a range
+pub mod Pick  -- which version is picked for a version, a tag or a range
 pub mod Kept  -- which versions of a document a mirror keeps
 -- ---- not part of any public contract: what private functions compute
 pub mod Private

@@ -1,4 +1,4 @@
--- The document of a package, as a registry serves it: npm's "Package metadata". What stands in it is not checked.
+-- The document of a package, as a registry serves it: npm's "Package metadata". Its content is not checked.
 use Rattle.std.specs.Prelude.{ℕ, List, [], ◌∷◌, ◌++◌, Bool, Option, None, codes, if◌then◌else◌, is_some, option_and_then}
 use Rattle.std.specs.Option.{option_map_or, option_or}
 use Rattle.serde_json.specs.Data.{Data, Members, member, no_members}
@@ -28,7 +28,7 @@ manifest_in listed key = option_and_then (get_member key) listed
 abbrev pub versions_of : (packument : Data) → Option Members
 versions_of packument = option_and_then as_object (get (codes "versions") packument)
 
--- the versions that are staged: `{"stagedVersions": {"versions": {"2.0.0": {}}}}`. They count only if they are asked for.
+-- the versions that are staged: `{"stagedVersions": {"versions": {"2.0.0": {}}}}`. They count only with `include_staged`.
 abbrev pub staged_of : (include_staged : Bool) → (packument : Data) → Option Members
 staged_of include_staged packument =
     if include_staged then option_and_then versions_of (get (codes "stagedVersions") packument) else None
@@ -43,7 +43,7 @@ restricted_of packument = option_and_then versions_of (get (codes "policyRestric
 abbrev pub manifest_of : (packument : Data) → (key : List ℕ) → Option Data
 manifest_of packument key = manifest_in (versions_of packument) key
 
--- its manifest in `versions`, or else in the list of what is staged, or else in that of what is restricted
+-- its manifest in `versions`, or else among the staged versions, or else among the restricted ones
 abbrev pub candidate_of : (include_staged : Bool) → (packument : Data) → (key : List ℕ) → Option Data
 candidate_of include_staged packument key =
     option_or (manifest_of packument key)
@@ -61,7 +61,7 @@ tagged packument tag = option_and_then as_str (option_and_then (get tag) (get (c
 
 -- ---- all of them
 
--- what can be picked of a document: all of `versions`, then what is staged, and then what is restricted
+-- the versions that can be picked: all of `versions`, then the staged ones, and then the restricted ones
 abbrev pub candidates_of : (include_staged : Bool) → (packument : Data) → List Release
 candidates_of include_staged packument =
     (releases_in (versions_of packument) ++ releases_in (staged_of include_staged packument))

@@ -16,8 +16,8 @@ use Rattle.npm_pick.specs.declared.error.PickError.TheVariants as Errors
 use Rattle.npm_pick.specs.declared.options.Options.{Options}
 use Rattle.npm_pick.specs.declared.picked.Picked.{Picked}
 
--- The version that is picked: its key, its manifest, and whether it should be avoided. Of what stands in place of a
--- version to avoid, also that it is outside what was wanted, and whether all versions were tried.
+-- The version that is picked: its key, its manifest, and whether it should be avoided. `is_outside` means that it
+-- replaces a version to avoid, and `is_major` that it was also picked for `*`.
 pub record PickedValue : Type 0 where
   pub key : List ℕ
   pub manifest : Data
@@ -34,7 +34,7 @@ picked_value picked = record {
   is_major = picked.is_major;
 }
 
--- what is picked of that which was wanted
+-- a version that replaces no other
 abbrev pub inside : (key : List ℕ) → (manifest : Data) → (is_avoided : Bool) → PickedValue
 inside key manifest is_avoided = record {
   key = key;
@@ -44,12 +44,12 @@ inside key manifest is_avoided = record {
   is_major = false;
 }
 
--- what is seen of an answer
+-- the value of a result
 abbrev pub answer_value : Result Picked PickError → Result PickedValue PickError
 answer_value (Ok picked) = Ok (picked_value picked)
 answer_value (Err error) = Err error
 
--- the text of what is avoided
+-- the range to avoid
 abbrev pub avoid_of : Options → Option (List ℕ)
 avoid_of options = option_map (λ text. text.now) options.avoid
 
@@ -64,7 +64,7 @@ IsInRange range key = (bytes_eq range (codes "*") ≡ true)
 
 -- ---- one key
 
--- what is picked where only this key will do
+-- the result of a pick of this key and no other
 pub data IsPickedAt (packument : Data) (options : Options) (key : List ℕ) : Result PickedValue PickError → Type 0 where
   there : (manifest : Data) (is_avoided : Bool) → is_published options.before packument key ≡ true
       → candidate_of options.include_staged packument key ≡ Some manifest
@@ -87,7 +87,7 @@ pub record IsSuitable (packument : Data) (options : Options) (range key : List �
   pub lasting : is_deprecated manifest ≡ false
   pub fitting : FitsEngines options manifest
 
--- the version of the default tag is picked: it stands in `versions`, and is suitable
+-- the version of the default tag is picked: it is in `versions`, and is suitable
 pub record IsDefault (packument : Data) (options : Options) (range key : List ℕ) (manifest : Data) : Type 0 where
   pub tag : tagged packument options.default_tag.now ≡ Some key
   pub there : manifest_of packument key ≡ Some manifest
@@ -117,7 +117,7 @@ pub data IsPickedIn (packument : Data) (options : Options) (range : List ℕ) : 
         → HasNone packument options range (candidates_of options.include_staged packument)
         → IsPickedIn packument options range (Err Errors.NoneInRange)
 
--- ---- what is wanted
+-- ---- the wanted text
 
 -- the text is no version
 abbrev pub IsNoVersion : (text : List ℕ) → Type 0
@@ -127,8 +127,8 @@ IsNoVersion text = (v : VersionValue) → ¬ IsInstalledVersion text v
 abbrev pub up_to : (key : List ℕ) → List ℕ
 up_to key = codes "<=" ++ key
 
--- What is picked for a tag: the version that it names. If that was published too late, what is picked for the range of
--- it and of all below it.
+-- The version that is picked for a tag: the one that it names, as `1.2.3`. If that was published too late, the one that
+-- is picked for `<=1.2.3`.
 pub data IsPickedByTag (packument : Data) (options : Options) (tag : List ℕ) : Result PickedValue PickError → Type 0
   where
     named : (key : List ℕ) (answer : Result PickedValue PickError) → tagged packument tag ≡ Some key
@@ -141,8 +141,8 @@ pub data IsPickedByTag (packument : Data) (options : Options) (tag : List ℕ) :
         → IsNoRange of_dependencies (up_to key) → IsPickedByTag packument options tag (Err Errors.Wanted)
     no_tag : tagged packument tag ≡ None → IsPickedByTag packument options tag (Err Errors.NoTag)
 
--- What is picked for a text that is a version, a range or a tag. For a version that is the key without its build: for
--- `=v1.2.3+a` the key `1.2.3`.
+-- The version that is picked for a version, a range or a tag. For a version its key has no build: for `=v1.2.3+a` it is
+-- `1.2.3`.
 pub data IsPickedFor (packument : Data) (options : Options) (wanted : List ℕ) : Result PickedValue PickError → Type 0
   where
     version : (v : VersionValue) (answer : Result PickedValue PickError) → IsInstalledVersion wanted v
@@ -158,7 +158,7 @@ pub data IsPickedFor (packument : Data) (options : Options) (wanted : List ℕ) 
 
 -- ---- in place of a version to avoid
 
--- the range of what is compatible with a version: `^1.2.3`
+-- the caret range of a version: `^1.2.3`
 abbrev pub caret_of : (key : List ℕ) → List ℕ
 caret_of key = codes "^" ++ key
 
@@ -173,7 +173,7 @@ PicksOther packument options wanted (Ok picked) =
     IsPickedFor packument options wanted (Ok picked) × (picked.is_avoided ≡ false)
 PicksOther packument options wanted (Err error) = IsPickedFor packument options wanted (Err error)
 
--- the same version, outside what was wanted
+-- the same version, which replaces a version to avoid
 abbrev pub outside : (is_major : Bool) → Result PickedValue PickError → Result PickedValue PickError
 outside is_major (Ok picked) = Ok (record {
   key = picked.key;
@@ -184,14 +184,14 @@ outside is_major (Ok picked) = Ok (record {
 })
 outside is_major (Err error) = Err error
 
--- what is picked of all versions: for `*`, if that is no version to avoid
+-- the version that is picked for `*`, if it is not one to avoid
 pub data IsPickedOfAll (packument : Data) (options : Options) : Result PickedValue PickError → Type 0 where
   other : (answer : Result PickedValue PickError) → PicksOther packument options (codes "*") answer
       → IsPickedOfAll packument options (outside true answer)
   avoided : (key : List ℕ) → PicksAvoided packument options (codes "*") key
       → IsPickedOfAll packument options (Err Errors.Avoided)
 
--- what is picked beside a version to avoid: what is compatible with it, or else any version
+-- the version that replaces one to avoid: a compatible one, or else any
 pub data IsPickedBeside (packument : Data) (options : Options) (key : List ℕ) : Result PickedValue PickError → Type 0
   where
     compatible : (answer : Result PickedValue PickError) → PicksOther packument options (caret_of key) answer
@@ -200,8 +200,8 @@ pub data IsPickedBeside (packument : Data) (options : Options) (key : List ℕ) 
         → PicksAvoided packument options (caret_of key) second → IsPickedOfAll packument options answer
         → IsPickedBeside packument options key answer
 
--- What is picked if no version to avoid will do: what is picked for the text or, if that is one to avoid, what is picked
--- beside it
+-- The version that is picked with `avoid_strict`: the one for the text or, if that is one to avoid, the one that
+-- replaces it
 pub data IsPickedStrictly (packument : Data) (options : Options) (wanted : List ℕ)
     : Result PickedValue PickError → Type 0 where
   as_wanted : (answer : Result PickedValue PickError) → PicksOther packument options wanted answer
@@ -209,9 +209,9 @@ pub data IsPickedStrictly (packument : Data) (options : Options) (wanted : List 
   beside : (key : List ℕ) (answer : Result PickedValue PickError) → PicksAvoided packument options wanted key
       → IsPickedBeside packument options key answer → IsPickedStrictly packument options wanted answer
 
--- ---- the answer
+-- ---- the result
 
--- what is picked, whether a policy restricts it or not
+-- the version that is picked, even if a policy restricts it
 abbrev pub IsChosen : (avoid_strict : Bool) → (packument : Data) → Options → (wanted : List ℕ)
     → Result PickedValue PickError → Type 0
 IsChosen true packument options wanted answer = IsPickedStrictly packument options wanted answer
@@ -229,6 +229,6 @@ pub record IsPicked (packument : Data) (options : Options) (wanted : List ℕ) (
   pub so : IsChosen options.avoid_strict packument options wanted chosen
   pub permitted : answer ≡ allowed packument chosen
 
--- the answer, unless an allocation failed
+-- the result, unless an allocation failed
 abbrev pub IsAnswer : (Result PickedValue PickError → Type 0) → Result PickedValue PickError → Type 0
 IsAnswer Holds answer = (answer ≡ Err Errors.Memory) ⊎ Holds answer

@@ -18,11 +18,11 @@ use Rattle.npm_pick.specs.declared.options.Options.{Options}
 
 -- ---- what counts for a version
 
--- npm reads the range of what is avoided in loose form, with prereleases included
+-- npm reads the range to avoid in loose form, with prereleases included
 abbrev pub of_avoided : NpmOptions
 of_avoided = record { loose = true; include_prerelease = true }
 
--- the version is in the range of what is avoided
+-- the version is in the range to avoid
 abbrev pub IsAvoided : Option (List ℕ) → VersionValue → Type 0
 IsAvoided None v = ⊥
 IsAvoided (Some avoided) v = Admits of_avoided avoided v

@@ -9,7 +9,7 @@ use Rattle.jiff_core.specs.declared.timestamp.Timestamp.{Timestamp}
 use Rattle.jiff_core.specs.declared.error.Error.{Error}
 use Rattle.npm_texts.specs.Truth.{is_true}
 
--- what stands in `time` for a version
+-- the member of `time` for a version
 abbrev pub time_of : (packument : Data) → (key : List ℕ) → Option Data
 time_of packument key = option_and_then (get key) (get (codes "time") packument)
 
@@ -18,16 +18,16 @@ abbrev pub is_at_most : (before : Option Timestamp) → (nanosecond : ℤ) → B
 is_at_most None nanosecond = true
 is_at_most (Some before) nanosecond = int_le nanosecond before.nanosecond
 
--- the same of what was read of a text; what is no time is in no time
+-- the same of the result of parsing a text; an error is not in time
 abbrev pub is_read_in_time : (before : Option Timestamp) → Result ℤ Error → Bool
 is_read_in_time before (Ok nanosecond) = is_at_most before nanosecond
 is_read_in_time before (Err _) = false
 
--- The same of a text: `2024-03-01T12:00:00.000Z`. The text of no time is not in time, even if no time is asked for.
+-- The same of a text: `2024-03-01T12:00:00.000Z`. A text that is no time is not in time, even without `before`.
 abbrev pub is_text_in_time : (before : Option Timestamp) → (text : List ℕ) → Bool
 is_text_in_time before text = is_read_in_time before (parse_timestamp text)
 
--- The same of what stands for a version. What JavaScript counts as false counts as no time.
+-- The same of the member for a version. A member that JavaScript counts as false is in time.
 abbrev pub is_in_time : (before : Option Timestamp) → (time : Data) → Bool
 is_in_time before time = not (is_true time) || option_map_or (is_text_in_time before) (as_str time) false
 

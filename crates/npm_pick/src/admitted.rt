@@ -19,7 +19,7 @@ use npm_texts::{OF_DEPENDENCIES, filled, installed_version, range_of};
 use serde_json::{Map, Value};
 use std::alloc::Global;
 
-/// What is asked of the keys of a document.
+/// A document, and what decides which keys of it are admitted.
 #[derive(Drop)]
 pub(crate) struct Admitting<'v, 'o> {
     pub(crate) packument: &'v Value,

@@ -1,4 +1,4 @@
-//! The ranges that versions are asked by.
+//! The ranges that versions are ranked by.
 ghost use Rattle.std.specs.Prelude.{◌≡◌, ◌↔◌, IfOk, IsTrue, codes, option_map};
 ghost use Rattle.serde_json.specs.View.{view};
 ghost use Rattle.node_semver.specs.RangeAlgebra.{sets_of_answer};
@@ -14,7 +14,7 @@ use npm_texts::{OF_ENGINES, is_true, range_of};
 use serde_json::{Map, Value};
 use std::alloc::Global;
 
-/// What is asked of the versions of a document: a range, and the options.
+/// The range and the options that the versions of a document are ranked by.
 #[derive(Drop)]
 pub(crate) struct Asked<'v, 'o> {
     pub(crate) packument: &'v Value,
@@ -24,7 +24,7 @@ pub(crate) struct Asked<'v, 'o> {
     pub(crate) wanted: Range,
     /// `None` if no version is avoided.
     pub(crate) avoid: Option<Range>,
-    /// The versions that are staged, if they are asked for.
+    /// The staged versions, with `include_staged`.
     pub(crate) staged: Option<&'v Map<String, Value>>,
     /// The versions that a policy restricts.
     pub(crate) restricted: Option<&'v Map<String, Value>>,

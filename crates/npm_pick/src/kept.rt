@@ -24,7 +24,7 @@ use std::alloc::{AllocError, Global};
 /// The keys are in the order of their versions. Equal versions are in the order of their bytes, and keys that are no
 /// versions, which only a tag can name, come first. No key is there twice.
 ///
-/// `avoid` counts for what is picked alone: with `all` a version to avoid is kept if it is in a range.
+/// `avoid` counts only for a pick: with `all` a version to avoid is kept if it is in a range.
 ///
 /// # Errors
 ///

@@ -13,7 +13,7 @@ pub(crate) fn versions_of(packument: &Value) -> Option<&Map<String, Value>>
     packument.get("versions")?.as_object()
 }
 
-/// The versions that are staged, if they are asked for.
+/// The staged versions, with `include_staged`.
 pub(crate) fn staged_of(packument: &Value, include_staged: bool) -> Option<&Map<String, Value>>
     ensures { option_map (λ members. members_view members.now.entries) result
         ≡ Documents.staged_of include_staged (view packument.now) }

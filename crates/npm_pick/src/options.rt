@@ -3,7 +3,7 @@
 use jiff::Timestamp;
 use node_semver::VersionRef;
 
-/// What is asked beside the version, the tag or the range.
+/// The options of a pick.
 #[derive(Drop)]
 pub struct Options<'o> {
     /// The version of this tag is preferred: `latest` in npm.

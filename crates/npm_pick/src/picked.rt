@@ -22,7 +22,7 @@ use std::alloc::{AllocError, Global};
 pub struct Picked<'v> {
     /// The version, as it is written in the document.
     pub key: &'v str,
-    /// What stands for it in `versions`, or else in `stagedVersions`.
+    /// Its value in `versions`, or else in `stagedVersions`.
     pub manifest: &'v Value,
     /// It is in the range of the versions to avoid, and no other version was left. npm: `_shouldAvoid`.
     pub is_avoided: bool,
@@ -43,8 +43,8 @@ pub struct Picked<'v> {
 /// For a version or a tag only that version will do. If the version of a tag was published after `before`, the highest
 /// version at or below it is picked. The empty text is `*`.
 ///
-/// With `avoid_strict` a version to avoid is not picked. In its place comes what is picked for `^` and that version, with
-/// `is_outside`, or else what is picked for `*`, also with `is_major`.
+/// With `avoid_strict` a version to avoid, as `1.2.3`, is replaced: by the version picked for `^1.2.3`, with
+/// `is_outside`, or else by the one picked for `*`, also with `is_major`.
 ///
 /// # Errors
 ///
@@ -58,7 +58,7 @@ pub struct Picked<'v> {
 ///
 /// # Memory
 ///
-/// Allocates the ranges while they are asked, and for a version its text. The answer borrows the document.
+/// Allocates the ranges while it runs, and for a version its text. The result borrows the document.
 ///
 /// # Examples
 ///

@@ -61,7 +61,7 @@ fn pick_of_all<'v>(
     }
 }
 
-/// The range of what is compatible with a version.
+/// The caret range of a version.
 fn caret_of(alloc: Global, key: &str) -> Result<String, AllocError>
     ensures { IfOk result (λ text. string_bytes text ≡ Picks.caret_of key.now) }
 {
@@ -70,7 +70,7 @@ fn caret_of(alloc: Global, key: &str) -> Result<String, AllocError>
     Ok(text)
 }
 
-/// The same version, outside what was wanted.
+/// The same version, which replaces a version to avoid.
 fn outside<'v>(picked: Picked<'v>, is_major: bool) -> Picked<'v>
     ensures { Ok (picked_value result) ≡ Picks.outside is_major (Ok (picked_value picked.entry)) }
 {

@@ -3,8 +3,8 @@
 //! Each line of the input is a JSON object with the members `packument` and `wanted`, and maybe `tag`, `before`, `avoid`,
 //! `node` and `npm`, which are texts, and `avoidStrict` and `includeStaged`, which are `true` or `false`. The program writes
 //! a line for each: the key that is picked, or `!` and the name of the error. Before the key is `*` if it should be
-//! avoided, `>` if it is outside what was wanted, and `>>` if all versions were tried. It exits with status 2 if it cannot
-//! answer.
+//! avoided, `>` if it replaces a version to avoid, and `>>` if it was also picked for `*`. It exits with status 2 if it
+//! fails.
 #![tactic(auto)]
 
 use jiff::Timestamp;
@@ -51,7 +51,7 @@ fn mark_of(picked: &Picked<'_>) -> &'static str {
     }
 }
 
-/// What is picked for a case.
+/// The version that is picked for a case.
 fn answer_of(alloc: Global, case: &Value) -> Result<Picked<'_>, PickError> {
     let Some(packument) = case.get("packument") else {
         return Err(PickError::NoVersions);

@@ -1,4 +1,4 @@
--- What C is told: a status, and of a version that is picked its key, the length of the key, and its marks.
+-- What C gets: a status, and of a version that is picked its key, the length of the key, and its marks.
 use Rattle.std.specs.Prelude.{◌≡◌, ◌≢◌, ◌⊎◌, ◌++◌, ◌<◌, ◌≤◌, ℕ, List, Option, Some, None, Result, Ok, Err}
 use Rattle.std.specs.Prelude.{IsUtf8, drop, length}
 use Rattle.serde_json.specs.Data.{Data}
@@ -33,7 +33,7 @@ pub record IsPut (key old new : List ℕ) (count : ℕ) : Type 0 where
   pub fits : length key ≤ length old → new ≡ key ++ drop (length key) old
   pub kept : length old < length key → new ≡ old
 
--- the version that is picked is told, with its marks
+-- the version that is picked is written, with its marks
 pub record IsVersionTold (picked : PickedValue) (status : ℕ) (old new : List ℕ) (told : Told) : Type 0 where
   pub status_is : status ≡ OK
   pub key : IsPut picked.key old new told.length
@@ -41,12 +41,12 @@ pub record IsVersionTold (picked : PickedValue) (status : ℕ) (old new : List �
   pub outside : told.is_outside ≡ picked.is_outside
   pub major : told.is_major ≡ picked.is_major
 
--- the answer is told: the version, or the status of the error and nothing else
+-- the result is written: the version, or the status of the error and nothing else
 abbrev pub IsTold : Result PickedValue PickError → (status : ℕ) → (old new : List ℕ) → (before told : Told) → Type 0
 IsTold (Ok picked) status old new before told = IsVersionTold picked status old new told
 IsTold (Err error) status old new before told = (status ≡ status_of error) × (new ≡ old) × (told ≡ before)
 
--- What is told of a document, of what is wanted and of these options
+-- What C gets for a document, a wanted text and these options
 pub data IsPickedOf (document wanted : List ℕ) (options : Options) (status : ℕ) (old new : List ℕ) (before told : Told)
     : Type 0 where
   no_memory : status ≡ OUT_OF_MEMORY → new ≡ old → told ≡ before
@@ -57,7 +57,7 @@ pub data IsPickedOf (document wanted : List ℕ) (options : Options) (status : �
       → IsPicked value options (filled wanted) answer → IsTold answer status old new before told
       → IsPickedOf document wanted options status old new before told
 
--- What is told of all that is asked
+-- What C gets for these arguments
 pub data IsAnswered (asked : Asked) (status : ℕ) (old new : List ℕ) (before told : Told) : Type 0 where
   not_utf8 : ¬ (IsUtf8 asked.document × IsUtf8 asked.wanted × AreUtf8 asked.texts) → status ≡ NOT_UTF8 → new ≡ old
       → told ≡ before → IsAnswered asked status old new before told

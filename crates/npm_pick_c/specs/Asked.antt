@@ -1,4 +1,4 @@
--- What C asks: a document, what is wanted of it, and options.
+-- What C passes: a document, the wanted text, and options.
 use Rattle.std.specs.Prelude.{◌≡◌, ◌∷◌, ℕ, List, [], Bool, Option, Some, None, Ok, IsUtf8, codes, option_map}
 use Rattle.jiff.specs.Words.{parse_timestamp}
 use Rattle.jiff_core.specs.declared.timestamp.Timestamp.{Timestamp}
@@ -39,7 +39,7 @@ pub record AreUtf8 (texts : Texts) : Type 0 where
   pub node : IsUtf8 texts.node
   pub npm : IsUtf8 texts.npm
 
--- an empty text stands for none
+-- an empty text counts as absent
 abbrev pub given : (text : List ℕ) → Option (List ℕ)
 given [] = None
 given (byte ∷ text) = Some (byte ∷ text)

@@ -10,7 +10,7 @@ use jiff::Timestamp;
 use node_semver::VersionRef;
 use npm_pick::Options;
 
-/// The texts of the options. An empty text stands for an option that is not there.
+/// The texts of the options. An empty text counts as an absent option.
 #[derive(Drop)]
 pub(crate) struct Texts<'t> {
     pub(crate) default_tag: &'t str,

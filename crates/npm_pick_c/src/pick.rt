@@ -13,7 +13,7 @@ use std::alloc::Global;
 /// `npm_pick::pick`: writes the key of the version that is picked to the room, if it fits, and tells its length and its
 /// marks.
 ///
-/// The document is a text in JSON. An empty text of an option stands for none: `latest` is then the default tag.
+/// The document is a text in JSON. An empty text counts as an absent option: then `latest` is the default tag.
 #[unsafe(no_mangle)]
 pub extern "C" fn npm_pick_version(
     alloc: Global,

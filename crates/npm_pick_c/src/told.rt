@@ -1,4 +1,4 @@
-//! What C is told of the version that is picked.
+//! What C gets of the version that is picked.
 ghost use Rattle.std.specs.Prelude.{◌≡◌};
 ghost use Rattle.std.specs.Prelude.{Ok};
 ghost use Rattle.npm_pick.specs.Pick.{answer_value, picked_value};

@@ -4,7 +4,7 @@ use npm_pick::{Options, PickError, Picked, pick};
 use serde_json::Value;
 use std::alloc::Global;
 
-// What is asked beside the version, as texts; an empty text is nothing.
+// The options of a pick, as texts; an empty text is an absent option.
 #[derive(Clone, Copy)]
 pub(crate) struct Asks {
     pub(crate) before: &'static str,
@@ -54,7 +54,7 @@ pub(crate) fn options_of(asks: Asks) -> Options<'static> {
     }
 }
 
-// What is told of the version that is picked, as a word after its key.
+// The marks of the version that is picked, as a word after its key.
 fn mark_of(picked: &Picked<'_>) -> &'static str {
     match (picked.is_avoided, picked.is_outside, picked.is_major) {
         (false, false, false) => "",

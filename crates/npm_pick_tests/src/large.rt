@@ -24,7 +24,7 @@ fn picks_the_greatest(alloc: Global) -> bool {
     }
 }
 
-// A body that always gave up for want of memory would be proved: there is enough here.
+// A body that always ran out of memory would be proved too. Here there is enough.
 #[test]
 fn picks_of_many_versions_with_ample_memory(rt: HostRuntime) {
     assert!(rt; picks_the_greatest(rt.alloc()));
@@ -41,7 +41,7 @@ fn kept_count(alloc: Global, all: bool) -> Result<usize, AllocError> {
     Ok(keep(alloc, packument, &texts, &options_of(NOTHING), all)?.len())
 }
 
-// A body that always gave up for want of memory would be proved: there is enough here.
+// A body that always ran out of memory would be proved too. Here there is enough.
 #[test]
 fn keeps_many_versions_with_ample_memory(rt: HostRuntime) {
     assert_eq!(rt; kept_count(rt.alloc(), false).ok(), Some(2));

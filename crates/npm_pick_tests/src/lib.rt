@@ -1,5 +1,5 @@
-//! Tests of the public calls of `npm_pick`: ranges, tags and versions, ranks, times, what is staged, restricted or to be
-//! avoided, what is kept, odd documents and errors.
+//! Tests of the public calls of `npm_pick`: ranges, tags and versions, ranks, times, versions that are staged,
+//! restricted, avoided or kept, odd documents and errors.
 #![tactic(auto)]
 
 #[cfg(test)]

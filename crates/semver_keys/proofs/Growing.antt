@@ -36,7 +36,7 @@ grown_twice old middle new g h =
 pub grown_after : (old added middle new : List ℕ) → middle ≡ old ++ added → IsGrown middle new → IsGrown old new
 grown_after old added middle new e g = grown_twice old middle new (grown_added old added middle e) g
 
--- what is left if the bytes that were added are taken away
+-- the bytes before those that were added
 pub grown_taken : (old new : List ℕ) → IsGrown old new → take (length old) new ≡ old
 unfolding IsGrown
 grown_taken old new g = g

@@ -30,7 +30,7 @@ low-read second others rest some few e = let back : second - 1 + 1 ≡ second = 
     ap (λ k. k ++ others) (low-byte (second - 1) (omega arith)) ∙ ap (λ n. 1 ∷ n ∷ others) back
     ∙ ap (λ k. 1 ∷ k) (sym e)
 
--- what is written as two bytes
+-- a byte that is written as two
 record IsLow (b : ℕ) (r rest : List ℕ) : Type 0 where
   low : b < 2
   second : (b + 1) ∷ r ≡ rest
@@ -98,7 +98,7 @@ text-read text rest others key e z =
       whole = ap (λ k. k ++ 0 ∷ others) (sym front) ∙ ap (λ k. written text ++ k) (sym z) ∙ e;
     }
 
--- what is left is no text and no end of one
+-- the rest begins with no text and no end of one
 pub none-text : (text rest key : List ℕ) → written text ++ rest ≡ key → BeginsWithNoByte rest
     → ((r : List ℕ) → 0 ∷ r ≢ rest) → BeginsWithNoText key
 none-text text rest key e none end other r k = end r (written-parted other text (0 ∷ r) rest

@@ -2,7 +2,7 @@
 
 -- the first byte that differs
 pub mod FirstBytes
--- keys of numbers, of identifiers, and of versions and cuts stand in the order of what they are keys of
+-- keys of numbers, identifiers, versions and cuts have the order of these values
 pub mod NumberOrder
 pub mod IdentifierOrder
 pub mod VersionOrder

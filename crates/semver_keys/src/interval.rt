@@ -70,7 +70,7 @@ pub fn range_intervals(alloc: Global, range: &Range) -> Result<Vec<KeyInterval>,
     Ok(intervals)
 }
 
-/// Returns the intervals of a range that is asked with prereleases included. A version, release or prerelease, lies inside
+/// Returns the intervals of a range with prereleases included. A version, release or prerelease, lies inside
 /// a set of the range exactly if its key lies in one of the intervals.
 ///
 /// `prereleases` is true in each of them, and releases are meant too. The intervals ascend, and no two of them touch. There

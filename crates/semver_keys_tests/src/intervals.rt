@@ -2,7 +2,7 @@ use node_semver::{Range, Version};
 use semver_keys::{KeyInterval, range_intervals, range_intervals_with_prereleases, version_key};
 use std::alloc::Global;
 
-// Each pair is asked both ways.
+// Each range is tried with each version, without prereleases and with them.
 const RANGES: [&str; 15] = [
     "*",
     "^1.2.3",

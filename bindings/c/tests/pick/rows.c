@@ -1,12 +1,12 @@
 /* SPDX-License-Identifier: Apache-2.0 */
 /*
- * Tests of npm_pick.h: documents, and what is picked of them.
+ * Tests of npm_pick.h: documents, and the versions picked of them.
  *
  *     rows           makes each call
  *     rows refuse    also makes each call with each request for memory refused in turn
  *
  * To be linked with -Wl,--wrap=malloc -Wl,--wrap=realloc -Wl,--wrap=free. Where the library is the static one, its requests
- * are counted too: each call gives back each block that it got. Ends with status 0 where each answer is as it should be.
+ * are counted too: each call gives back each block that it got. Ends with status 0 if each result is right.
  */
 #include "../memory.h"
 
@@ -139,7 +139,7 @@ static int run_rows(void) {
     return failed;
 }
 
-/* Each request refused in turn: the status says so, or the answer is as ever; and no block is left. */
+/* Each request refused in turn: the status says so, or the result is the same; and no block is left. */
 static int run_refused(unsigned long *made) {
     char answer[64];
     int failed = 0, i;

@@ -1,5 +1,5 @@
 // SPDX-License-Identifier: Apache-2.0
-// What the words of a command line ask for, as npm's command reads them.
+// The request of a command line, as npm's command reads its words.
 'use strict';
 
 const LEVELS = ['major', 'minor', 'patch', 'prerelease', 'premajor', 'preminor', 'prepatch'];
@@ -27,7 +27,7 @@ function addVersion(asked, text) {
     }
 }
 
-// Adds what the option of this name asks for. The words after it are left, the next one last.
+// Adds the option of this name. The words after it are left, the next one last.
 function add(asked, name, left) {
     switch (name) {
         case '-r': case '--range': asked.ranges.push(left.pop()); break;
@@ -46,7 +46,7 @@ function add(asked, name, left) {
     }
 }
 
-// What the words ask for. A word is divided at its first `=`, and what is after it is the next word.
+// The request of the words. A word is divided at its first `=`, and the part after it is the next word.
 function readWords(words) {
     const asked = {
         versions: [], ranges: [], listing: 'ordered', loose: false, includePrerelease: false, coerce: false, rtl: false,

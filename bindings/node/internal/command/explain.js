@@ -89,7 +89,7 @@ function refusedLines(text, offset) {
 
 // ---- ranges ----
 
-// The lines of the range of a text, or what is said if it is refused.
+// The lines of the range of a text, or the error if it is refused.
 function explained(text, options) {
     const offset = native.refusedAt(textKey(text, flagsOf(options)));
     if (offset !== null) {

@@ -26,7 +26,7 @@ const textOfTime = (time) => new Date(Math.min(Math.max(time, FIRST), LAST)).toI
 // ---- versions ----
 
 // The member of `engines` for an engine of this version: undefined if it is not known, null if the text is no version. No
-// range is `true`: as in npm, a text that is no version fits none, and no version fits what is no text.
+// range is `true`: as in npm, a text that is no version fits none, and no version fits a range that is no text.
 function engineText(name, range, version) {
     if (version === undefined || !range) {
         return '';

@@ -31,7 +31,7 @@ function invalidTag(name, wanted) {
 
 const UNSUPPORTED = 'Only tag, version, and range are supported';
 
-// Where a tag's version was published too late, npm asks for what is at or below it.
+// Where a tag's version was published too late, npm picks from the versions at or below it.
 const below = ({ packument, wanted }) => `<=${packument['dist-tags'][wanted]}`;
 
 function noVersions(asked) {

@@ -48,7 +48,7 @@ function tagsOf(tags, names) {
     return found;
 }
 
-// All that is asked, as the library reads it.
+// The arguments, as the library reads them.
 function questionOf({ packument, wanted, options, staged, restricted }) {
     const { time: times, versions } = packument;
     const defaultTag = String(options.defaultTag);
@@ -69,11 +69,11 @@ function questionOf({ packument, wanted, options, staged, restricted }) {
     };
 }
 
-// ---- the answer ----
+// ---- the result ----
 
 const timeOf = (before) => (before === null || Number.isNaN(before) ? '' : textOfTime(before));
 
-// An engine whose text is no version is asked for as 0.0.0, which nothing fits in such a document.
+// An engine whose text is no version is passed as 0.0.0, which nothing fits in such a document.
 const engineOf = (version) => (version === null ? '0.0.0' : version || '');
 
 // Asks the library for the version of these keys, and maybe one more.
@@ -95,7 +95,7 @@ function few({ versions, staged, restricted }, keys) {
 // against that.
 const twin = (key) => `${key}${key.includes('+') ? '.' : '+'}twin`;
 
-// The answer, if few versions decide it. A version or a tag is asked for by one key; and for a range the default tag's version
+// The result, if few versions decide it. For a version or a tag one key decides; and for a range the default tag's version
 // is picked exactly if nothing counts against it, and so exactly if it is picked beside its twin and has no mark.
 function quickAnswer(question) {
     const { text, defaultTag, tags } = question;

@@ -1,5 +1,5 @@
 /* SPDX-License-Identifier: Apache-2.0 */
-/* These stand in the place of the functions of the C library, which they call. The program has one thread. */
+/* These replace functions of the C library, and call them. The program has one thread. */
 #include "requests.h"
 
 #include <errno.h>

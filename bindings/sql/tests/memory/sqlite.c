@@ -2,7 +2,7 @@
 /*
  * Runs statements in SQLite with the extension, and refuses each request for memory of each statement in turn: it alone, and
  * it with all later ones. SQLite must say that memory is out, or give the right result: of an error it may have no memory for
- * the message. What a statement was given must be back at its end. Then a range of a million alternatives is asked for.
+ * the message. At its end a statement must have freed its memory. Then a range of a million alternatives is tried.
  *
  *     sqlite EXTENSION
  *

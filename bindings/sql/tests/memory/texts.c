@@ -11,7 +11,7 @@
 #include <stdio.h>
 #include <string.h>
 
-/* Makes a call: 'y' or 'n' for its answer, 'r' for a refused text, 'm' if memory is out, '?' for a wrong result. */
+/* Makes a call: 'y' or 'n' for its result, 'r' for a refused text, 'm' if memory is out, '?' for a wrong result. */
 typedef char call(struct text range, struct text version);
 
 static char told(bool is_made, bool answer, const struct failure *failure) {

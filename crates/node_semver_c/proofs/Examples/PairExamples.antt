@@ -1,4 +1,4 @@
--- Worked examples: the status, the answer and the fault of one call with two texts.
+-- Worked examples: the status, the result and the fault of one call with two texts.
 use Rattle.std.proofs.Common.{◌≡◌, ◌↔◌, ℕ, List, Bool, IsTrue, subst}
 use Rattle.node_semver_c.specs.Pair.{IsAnswered, answered, refused}
 use Rattle.node_semver_c.specs.Status.{IsFaultReported}

@@ -1,4 +1,4 @@
--- What private functions say of what is picked.
+-- What private functions compute of a pick.
 use Rattle.std.specs.Prelude.{◌≡◌, ℕ, List, false, Option, Some, None, Result, Ok, Err}
 use Rattle.std.specs.List.{AllByRecursion}
 use Rattle.semver_cuts.specs.Ends.{Ends}
@@ -31,7 +31,7 @@ abbrev pub AreLate : (packument : Data) → Options → List Release → Type 0
 AreLate packument options releases =
     AllByRecursion (λ (release : Release). is_published options.before packument release.key ≡ false) releases
 
--- what is picked by rank
+-- the result of a pick by rank
 pub data IsRankedIn (packument : Data) (options : Options) (range : List ℕ)
     : Result PickedValue PickError → Type 0 where
   best : (best : Release) (rank : Rank)

@@ -27,7 +27,7 @@ rank_value rank = record {
   version = rank.version;
 }
 
--- the range of what is avoided was read
+-- the range to avoid was read
 abbrev pub IsAvoidRead : Option (List ℕ) → Option (List (Ends VersionValue)) → Type 0
 IsAvoidRead text range = (v : VersionValue) → RangeContains (sets_of_answer range) v ↔ IsAvoided text v
 

@@ -1,4 +1,4 @@
--- Keys of cuts stand in the order of the cuts.
+-- Keys of cuts have the order of the cuts.
 use Rattle.std.proofs.Common.{◌≡◌, ◌++◌, ℕ, List, [], ◌∷◌, refl, sym, ap, ◌∙◌}
 use Rattle.std.proofs.lemmas.List.{append-nil}
 use Rattle.std.specs.Ordering.{ordering_then}

@@ -1,4 +1,4 @@
--- Keys of texts, identifiers and prereleases stand in their order, whatever follows them.
+-- Keys of texts, identifiers and prereleases have their order, whatever follows them.
 use Rattle.std.proofs.Common.{◌≡◌, ◌≤◌, ◌<◌, ◌+◌, ◌++◌, ℕ, List, [], ◌∷◌, refl, sym, ap, ◌∙◌}
 use Rattle.std.proofs.Common.{inl, inr, arith, append_assoc}
 use Rattle.std.proofs.lemmas.Bool.{cases_lt}

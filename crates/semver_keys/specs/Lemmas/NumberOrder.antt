@@ -1,4 +1,4 @@
--- Keys of numbers stand in the order of the numbers, whatever follows them.
+-- Keys of numbers have the order of the numbers, whatever follows them.
 use Rattle.std.proofs.Common.{◌≡◌, ◌≤◌, ◌<◌, ◌/◌, ◌%◌, ◌+◌, ◌^◌, ◌++◌, ◌==◌, Bool, true, false, ℕ, zero, suc, List, [], ◌∷◌, refl, sym, ap, ◌∙◌}
 use Rattle.std.proofs.Common.{subst, inl, inr, arith, append_assoc, add-one, if◌then◌else◌}
 use Rattle.std.proofs.lemmas.Bool.{cases_lt}
@@ -34,7 +34,7 @@ digits-order m n = elim (number-cases m n) [
   ]
 ]
 
--- as many bytes of two numbers stand in the order of the numbers, if they hold them
+-- as many bytes of two numbers have the order of the numbers, if they hold them
 pub lowest-order : (count m n : ℕ) (r s : List ℕ) → Fits count m → Fits count n
     → key_cmp (lowest_bytes count m ++ r) (lowest_bytes count n ++ s) ≡ ordering_then (nat_cmp m n) (key_cmp r s)
 unfolding lowest_bytes

@@ -1,4 +1,4 @@
--- Keys of versions stand in the order of the versions, whatever follows them.
+-- Keys of versions have the order of the versions, whatever follows them.
 use Rattle.std.proofs.Common.{◌≡◌, ◌++◌, ℕ, List, ap, ◌∙◌, append_assoc, arith}
 use Rattle.std.specs.Ordering.{nat_cmp, ordering_then}
 use Rattle.semver_texts.specs.Comparison.{prerelease_cmp, version_cmp}

@@ -8,7 +8,7 @@ use crate::read::text::{read_text, text_of};
 use node_semver::Identifier;
 use std::alloc::{AllocError, Global};
 
-/// An identifier as it stands in a key.
+/// An identifier of a key.
 #[derive(Clone, Copy)]
 pub(crate) enum Part<'a> {
     /// a number

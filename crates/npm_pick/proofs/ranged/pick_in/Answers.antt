@@ -1,4 +1,4 @@
--- The default tag's version, or what is picked by rank.
+-- The default tag's version, or the one picked by rank.
 use Rattle.std.proofs.Common.{inl, inr}
 use Rattle.serde_json.specs.View.{view}
 use Rattle.npm_pick.specs.Pick.{answer_value, by_default}

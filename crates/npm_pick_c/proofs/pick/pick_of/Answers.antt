@@ -1,4 +1,4 @@
--- An allocation failed, or the answer is told.
+-- An allocation failed, or the result is written.
 use Rattle.std.proofs.Common.{inl, inr}
 use Rattle.serde_json.specs.View.{view}
 use Rattle.npm_pick.specs.Pick.{answer_value}

@@ -2,7 +2,7 @@
 // node large_lock_file.js advisories COUNT: writes advisories that hit each second package of such a file.
 // node large_lock_file.js events COUNT, or askers COUNT: writes advisories about `hit`. With events they are one OSV range of
 // twice COUNT events, the last first; with askers one advisory. The same with `-lock` writes a lock file with that package, which
-// COUNT packages ask for with askers.
+// COUNT packages depend on with askers.
 // Without `tree` a package has six dependencies, mostly on packages that come after it: about 12,000 in all, at random.
 // With `tree` the graph is like a real one: a package is a dependency of one package before it, each second package
 // depends also on one of 200 packages that many share, and each hundredth on a package before it, which makes a cycle.

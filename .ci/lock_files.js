@@ -6,7 +6,7 @@
 // node lock_files.js PROGRAM made-old COUNT: on COUNT lock files of version 1 that are made here, each with a manifest.
 // node lock_files.js PROGRAM rows-old: on the rows of version 1.
 // node lock_files.js PROGRAM made-manifest COUNT: on COUNT lock files of version 3 that are made here, each with a manifest.
-// node lock_files.js PROGRAM rows-manifest: on the rows with a manifest; also whether the two ask for the same.
+// node lock_files.js PROGRAM rows-manifest: on the rows with a manifest; also whether the two have the same dependencies.
 // Both of these also with the manifests of packages that links name, on disk.
 const { spawnSync } = require('node:child_process')
 const fs = require('node:fs')
@@ -43,7 +43,7 @@ const group = () => {
   return made
 }
 
-// What may stand before a version, and texts that npm reads as versions or not.
+// Texts that may be before a version, and texts that npm reads as versions or not.
 const leads = [0, 1, 2, 3].reduce(all => ['', ...all.flatMap(lead => [...'vV= \t'].map(one => lead + one))], [''])
 const written = [...leads.map(lead => `${lead}1.2.3`), ...['1.2.3 ', '1.2.3\n\t', '\ufeff1.2.3\u00a0', '\u2028v\u205f1.2.3', '\r\v\f=1.2.3',
   '\u00851.2.3', '\u180e1.2.3', '1.2.3v', '1.2.3 +b', '1.2.3+b ', '01.2.3', '1.2.3b', '1.2.3-01', '1.2.3--', '1.2', '1.2.3.4', 'v', 'latest',
@@ -159,7 +159,7 @@ const rows = [
   ...['w', './w'].map(resolved => ({
     '': { dependencies: { w: '2' } }, 'node_modules/w': link(resolved), w: at('1.0.0')
   })),
-  // `npm:` in letters of either case, and before what is no name.
+  // `npm:` in letters of either case, and before a text that is no name.
   ...['NPM:b@^1', 'nPm:b@^2', 'npm:^1', 'npm:^2', 'npm:1', 'npm:>=1 <3', 'npm:>=1 <2', 'npm:', 'npm:*', 'npm:b'].map(
     spec => ({ '': { dependencies: { a: spec } }, 'node_modules/a': at('2.0.0') })),
   // Versions with leads and white space.
@@ -226,11 +226,11 @@ const manifestRows = [
   ]),
   [{ dependencies: { a: '1' }, optionalDependencies: { a: '2' } }, { '': { optionalDependencies: { a: '2' } }, ...installed }],
   [{ dependencies: { a: '1' }, optionalDependencies: { a: '2' } }, { '': { optionalDependencies: { a: '1' } }, ...installed }],
-  // What other packages ask for stays.
+  // The dependencies of other packages stay.
   [asks('2'), { '': asks('2'), 'node_modules/a': at('1.0.0', asks('3')), 'node_modules/a/node_modules/a': at('2.0.0') }],
   [{ dependencies: { a: '^2' }, acceptDependencies: { a: '^1' } }, { '': asks('^2'), ...installed }],
-  // `overrides` with a rule for all versions of a name: of peers too, and of what is missing. What a rule says of the root is
-  // what the root asks for, or npm refuses it.
+  // `overrides` with a rule for all versions of a name: of peers and missing packages too. A rule for a dependency of the
+  // root has the root's own spec, or npm refuses it.
   ...[{ b: '2.0.0' }, { b: '^2', '@s/c': '2' }, { b: '3.0.0' }, { b: '', '@s/c': '*' }, { b: ' * ', '@s/c': ' ' }, { b: 'npm:x@2' },
     { '@s/c': '^2', q: '7' }, { a: '^1', b: '>=2' }, { B: '2', s: '2', c: '2' }, { '.': '2' }, {}].map(overrides => [
     { ...asks('^1'), overrides }, {
@@ -251,7 +251,7 @@ const manifestRows = [
       { '': { dependencies: { a: '^1', w: '^1' } }, ...installed, 'node_modules/w': link(resolved), v: at('1.0.0'),
         [folder]: at('1.0.0', asks('^1')) },
       linked])),
-  // Two links to one package, and a workspace that asks for another.
+  // Two links to one package, and a workspace with another dependency.
   [asks('^1'), { '': asks('^1'), ...installed, 'node_modules/v': link('w'), 'node_modules/w': link('w'), w: at('1.0.0') },
     { w: { name: 'w', ...at('1.1.0', asks('^2')) } }],
   [{ dependencies: { v: '1' } }, { '': { dependencies: { v: '1' } }, 'node_modules/v': link('v'), 'node_modules/w': link('w'),
@@ -295,7 +295,7 @@ const npmProblems = async (folder, file) => {
       found.push(told(problem))
     }
   }
-  // Whether npm finds that the root's manifest and the lock file do not ask for the same.
+  // Whether npm finds that the root has other dependencies in its manifest than in the lock file.
   return { found, count, isSuspect: !!arborist[Symbol.for('flagsSuspect')] }
 }
 
@@ -311,7 +311,7 @@ const writeFolders = (root, packages) => {
 // A member of `packages` as a manifest, which has no marks.
 const manifestOf = ({ dev, optional, devOptional, peer, ...manifest }) => manifest
 
-// Manifests of the packages that links name, of which some are not there, and some ask for something else than the lock file.
+// Manifests of the packages that links name, of which some are not there, and some have other dependencies than in it.
 const linkedManifests = packages => {
   const linked = {}
   for (const { link, resolved } of Object.values(packages)) {
@@ -343,7 +343,7 @@ const withManifest = () => {
     if (below(2)) file.packages[`../x/node_modules/${pick(names)}`] = member()
   }
   const linked = linkedManifests(file.packages)
-  // npm refuses a rule that changes what the root asks for, and leaves workspaces out.
+  // npm refuses a rule that changes a dependency of the root, and leaves workspaces out.
   const isAsked = name => groups.some(group => manifest[group]?.[name] !== undefined)
   if (!Object.keys(file.packages).some(folder => /^(w|\.\.)\//.test(folder))) {
     manifest.overrides = Object.fromEntries(Object.entries(group()).filter(([name]) => !isAsked(name)))
@@ -407,7 +407,7 @@ const spoiled = file => {
   return file
 }
 
-// The lock files that the arguments ask for, with a manifest or without, and how many packages they have if that is told.
+// The lock files that the arguments name, with a manifest or without, and how many packages they have if they say it.
 const wanted = () => {
   const [kind, text, packages] = process.argv.slice(3)
   const alone = files => files.map(file => ({ file }))

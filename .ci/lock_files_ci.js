@@ -1,5 +1,5 @@
-// Compares the status of npm_lock_check --manifest with what `npm ci` checks before it installs: it builds the tree that
-// package.json and the lock file ask for, and looks for each of its packages in the lock file. npm's node_modules are in
+// Compares the status of npm_lock_check --manifest with what `npm ci` checks before it installs: it builds the tree of
+// package.json and the lock file, and looks for each of its packages in the lock file. npm's node_modules are in
 // NODE_PATH, and the packages come from a registry in this process.
 //
 //     node .ci/lock_files_ci.js PROGRAM COUNT

@@ -28,7 +28,7 @@ const withTime = time => ({
   packument: { name: 'a', time: { '1.0.0': time }, versions: { '1.0.0': { version: '1.0.0' } } }, wanted: '*',
 })
 
-// Where npm answers otherwise: the name of a rule, which cases it covers, and an example with the answers of npm and of npm_pick.
+// Where npm gives another result: the name of a rule, which cases it covers, and an example with the results of npm and of npm_pick.
 // crates/npm_pick/README.md has the rules by these names.
 const RULES = [
   {

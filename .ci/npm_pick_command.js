@@ -1,7 +1,7 @@
 // Runs the program npm_pick_command and npm's own code on the same files: node npm_pick_command.js PROGRAM LINES SEED ROOM.
-// The version that is picked is compared with npm-pick-manifest, as the installed npm has it, and what is outdated with npm outdated,
-// which asks a registry on the loopback that serves the same documents. What a mirror keeps is compared with npm-package-arg, which reads
-// the specs, and with npm-pick-manifest and semver.
+// The version that is picked is compared with npm-pick-manifest, as the installed npm has it, and the outdated dependencies with
+// npm outdated, which uses a registry on the loopback that serves the same documents. What a mirror keeps is compared with
+// npm-package-arg, which reads the specs, and with npm-pick-manifest and semver.
 'use strict';
 
 const { execFile, execSync, spawnSync } = require('node:child_process');
@@ -207,10 +207,10 @@ function isPublished(document, key, options) {
 
 const GROUPS = ['dependencies', 'devDependencies', 'optionalDependencies', 'peerDependencies'];
 
-// What a manifest or a package of a lock file asks for. Of one name in two groups both count for a manifest.
+// The dependencies of a manifest or of a package of a lock file. Of one name in two groups both count for a manifest.
 const asksOf = (manifest) => GROUPS.flatMap((group) => Object.entries(manifest[group] ?? {}));
 
-// What the packages of a lock file ask for: of one name the last group counts, and devDependencies do for the root alone.
+// The dependencies of the packages of a lock file: of one name the last group counts, and devDependencies do for the root alone.
 function asksOfLock(lock) {
     return Object.entries(lock.packages).flatMap(([folder, asker]) => Object.entries(Object.assign({}, asker.peerDependencies,
         asker.dependencies, asker.optionalDependencies, folder === '' ? asker.devDependencies : {})));

@@ -8,7 +8,7 @@ const path = require('path')
 const ROOT = execFileSync('npm', ['root', '-g'], { encoding: 'utf8' }).trim()
 const semver = require(path.join(ROOT, 'npm', 'node_modules', 'semver'))
 
-// Where npm answers otherwise: the name of a rule, which texts it covers, and an example: a text, a version, the options,
+// Where npm gives another result: the name of a rule, which texts it covers, and an example: a text, a version, the options,
 // and the letters of npm and of npm_semver::parse_range. docs/DIFFERENCES.md has the rules by these names.
 const pieces = text => text.split('||')
 const anyPiece = (text, test) => pieces(text).some(piece => test.test(piece))

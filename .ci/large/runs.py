@@ -105,7 +105,7 @@ def audit_runs():
         dependencies = sum(len(one.get("dependencies", {})) for one in lock["packages"].values())
         counts = f"{packages} packages, {dependencies} dependencies, "
         if "1.7.0" in text_of(lock):
-            # (the one that asks for more than is installed is a problem too; a row of npm_memory has this audit)
+            # (a dependency on a later version than the installed one is a problem too; a row of npm_memory has this audit)
             continue
         for form in ("json", "text"):
             lines = [text_of(one) if form == "json" else hit_sentence(one) for one in hits]

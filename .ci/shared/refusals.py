@@ -2,12 +2,12 @@
 import re
 
 REFUSED = "refused, as it must be: "
-# What a line tells of a clause: the source that does not meet it, or the goal of a proof that no longer shows it.
+# Lines that name a clause: the source that does not meet it, or the goal of a proof that no longer shows it.
 SOURCE = re.compile(r"(?:note: )?(?:\./)?src/\S+\.rt:\d+:\d+: .*not proved")
 GOAL = re.compile(r"(?:note: )?(?:\./)?proofs/\S+/(?:Answers|Invariants|Proof)\.antt:\d+:\d+: error: `[^`]+`: ")
 GONE = re.compile(r": record `|has no field|is not in scope|has no `|was not admitted|is no name|does not cover")
 
-# What is said of an edit, and whether it tells of a clause.
+# Lines about an edit, and whether they name a clause.
 SAMPLES = [
     ("refused, as it must be: note: src/lock_file.rt:50:82: it is not proved that what the function ensures holds when "
      "it returns (`returns-then-not-is_empty-clause-ascending`); `search` gav", True),

@@ -22,7 +22,7 @@ import sys
 
 SCHEMA = os.path.join(os.path.dirname(os.path.abspath(__file__)), "sarif.schema.json")
 
-# Where a member is an object, or a list of objects, of another class: the class and the member, and the class of what is there.
+# Where a member is an object, or a list of objects, of another class: the class and the member, and the class that is there.
 INSIDE = {
     ("SarifLog", "runs"): "Run",
     ("Run", "tool"): "Tool",
@@ -131,7 +131,7 @@ MADE_UP = {
 
 RESULT = ("runs", 0, "results", 0)
 REGION = (*RESULT, "locations", 0, "physicalLocation", "region")
-# Changes of the log above: where, and what stands there then, or `None` if nothing does.
+# Changes of the log above: where, and the new value there, or `None` if there is none.
 CHANGES = [
     (("version",), "2.1"),
     (("version",), None),

@@ -40,7 +40,7 @@ abbrev pub is_letter_or_digit : ℕ → Bool
 is_letter_or_digit byte = (nat_le 48 byte && nat_le byte 57) || (nat_le 65 byte && nat_le byte 90)
     || (nat_le 97 byte && nat_le byte 122)
 
--- a slash, and the unreserved characters of section 2.3, stand for themselves
+-- a slash, and the unreserved characters of section 2.3, are written as they are
 abbrev pub is_plain : ℕ → Bool
 is_plain byte = is_letter_or_digit byte || byte == 45 || byte == 46 || byte == 95 || byte == 126 || byte == 47
 

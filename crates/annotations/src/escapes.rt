@@ -116,7 +116,7 @@ fn push_uri_byte(out: &mut Vec<u8>, byte: u8) -> Result<(), AllocError>
     }
 }
 
-/// Whether a byte of a path stands for itself in a URI.
+/// Returns `true` if a byte of a path is written as it is in a URI.
 fn is_plain(byte: u8) -> bool
     ensures { result ≡ Escapes.is_plain byte }
 {

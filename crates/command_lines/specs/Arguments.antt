@@ -9,7 +9,7 @@ pub record ArgumentValue : Type 0 where
   pub word : List ℕ
   pub value : Option (List ℕ)
 
--- what stands before the first `=` of a word, and after it
+-- the text before the first `=` of a word, and the text after it
 pub record Parts : Type 0 where
   pub name : List ℕ
   pub text : List ℕ

@@ -19,7 +19,7 @@ IsTextOf bytes value = IsUtf8 bytes × (read bytes ≡ Some value)
 abbrev pub has_mark : (bytes : List ℕ) → Bool
 has_mark bytes = starts_with nat_eq bytes (239 ∷ 187 ∷ 191 ∷ [])
 
--- all that the reader had left was read, no call of it failed, and what was read is such
+-- all that the reader had left was read, no call of it failed, and the bytes are such
 pub record IsWholeInput {R : Type 0} (remaining : R → Option (List ℕ)) (old new : WatchedValue R)
     (IsSuch : List ℕ → Type 0)
     : Type 0 where
@@ -39,7 +39,7 @@ abbrev pub IsInputText : {R : Type 0} → (remaining : R → Option (List ℕ)) 
 IsInputText remaining old new text value =
     IsWholeInput remaining old new (λ bytes. IsTextOf bytes value × (bytes ≡ text))
 
--- Why no value was read: what was read begins with a byte order mark, or is not in UTF-8, or is no JSON text, or a read
+-- Why no value was read: the input begins with a byte order mark, or is not in UTF-8, or is no JSON text, or a read
 -- failed, or memory ran out. It ran out in a read whose error says so, or later: then all was read, and it is in UTF-8
 -- and not empty.
 abbrev pub IsUnread : {R : Type 0} → (remaining : R → Option (List ℕ)) → (old new : WatchedValue R) → InputError

@@ -1,3 +1,3 @@
 -- What private functions are said to compute.
 
-pub mod ShownBytes  -- what is written for one byte
+pub mod ShownBytes  -- the output for one byte

@@ -1,4 +1,4 @@
-//! What programs for a command line have in common.
+//! Parts that programs for a command line share.
 //!
 //! - [`words_of`] returns the words after the program's name, and [`first_argument`] divides them into arguments.
 //! - [`Quoted`], [`write_shown`] and [`push_shown`] write texts in printable ASCII alone, as a terminal gets them.

@@ -7,7 +7,7 @@ use Rattle.json_places.specs.Places.{ArePlacesOf}
 use Rattle.json_places.specs.declared.path.Path.{Path}
 use Rattle.json_places.specs.declared.place.Place.{Place}
 
--- what is known of a path at first
+-- at first no place of a path is known
 abbrev not_found : Path → Option Place
 not_found path = None
 

@@ -1,4 +1,4 @@
-//! Where members stand in a JSON text: the byte offset of a member's name, its line and its column.
+//! Places of members in a JSON text: the byte offset of a member's name, its line and its column.
 //!
 //! [`places_of`] finds the members of many paths in one pass, and [`chosen_places`] takes for each subject the place of the path that
 //! it prefers. See the crate's `README.md`.

@@ -120,7 +120,7 @@ impl Search {
         Ok(())
     }
 
-    /// Forgets what was found for the path at this index.
+    /// Forgets the place that was found for the path at this index.
     fn forget(&mut self, text: &str, paths: &[Path<'_>], index: usize)
         requires { IsSearch text.now paths.now self.old }
         ensures search { IsSearch text.now paths.now self.new }

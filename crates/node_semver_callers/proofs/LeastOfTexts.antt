@@ -1,4 +1,4 @@
--- The least version that two ranges admit, where a text admits what each of them does.
+-- The least version that two ranges admit, where each admits what a text admits.
 use Rattle.std.proofs.Common.{◌↔◌, ℕ, List, Option, None, Some}
 use Rattle.std.specs.Option.{IfSome}
 use Rattle.node_semver.specs.Least.{AdmitNoneInCommon, BothAdmit, IsLeastCommon, IsLeastOf, IsNoneOf}

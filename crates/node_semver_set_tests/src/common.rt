@@ -58,7 +58,7 @@ fn the_least_version_that_two_ranges_admit(rt: HostRuntime) {
     each(&rt, Question::LeastCommon, &ALSO_BEYOND);
 }
 
-// Both ranges admit the version, and it is found whichever range is asked.
+// Both ranges admit the version, and it is found from either range.
 pub(crate) fn is_least_common(alloc: Global, one: &Range, other: &Range, least: &str) -> bool {
     is_found(alloc, one, other, least) && is_found(alloc, other, one, least)
 }

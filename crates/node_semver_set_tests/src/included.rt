@@ -167,7 +167,7 @@ pub(crate) fn is_least_beyond(alloc: Global, one: &Range, other: &Range, least: 
     }
 }
 
-// The same version is found whichever range is asked.
+// The same version is found from either range.
 pub(crate) fn is_least_common(alloc: Global, one: &Range, other: &Range, least: &str) -> bool {
     is_least_inside(alloc, one, other, least) && is_least_inside(alloc, other, one, least)
 }

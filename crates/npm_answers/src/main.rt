@@ -1,8 +1,8 @@
-//! Reads ranges as npm does and asks them, for `.ci/npm_ranges`, which compares the answers with npm's.
+//! Reads ranges as npm does and tests versions, for `.ci/npm_ranges`, which compares the results with npm's.
 //!
 //! The words are `strict` or `loose`, `releases` or `prereleases`, and then pairs of a range text and a version text.
 //! The program writes a letter for each pair: `y` if the range admits the version, `n` if it does not, `x` if the range
-//! text is refused, and `v` if the version text is no version. It exits with status 2 if it cannot answer.
+//! text is refused, and `v` if the version text is no version. Its status is 2 if it writes none.
 #![tactic(auto)]
 
 use node_semver::{Range, Version};

@@ -132,7 +132,7 @@ fn each_release_differs(alloc: Global, row: &str) -> bool {
     true
 }
 
-// Returns `true` if a bump of a version tells that a number is too large, whatever else is wrong.
+// Returns `true` if a bump of a version fails because a number is too large, whatever else is wrong.
 fn is_too_large(version: &Version, alloc: Global, bump: &str, base: &str) -> bool {
     match &npm_semver::inc(alloc, version, bump_of(bump), None, base_of(base)) {
         Ok(_) => false,

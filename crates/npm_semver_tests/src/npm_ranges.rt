@@ -4,7 +4,7 @@ use npm_semver::NpmOptions;
 use std::alloc::{AllocGlobal, Global};
 use std::process::Abort;
 
-// Each row has a range text, versions that it admits, and versions that it does not. What npm's semver 7.6.2 answers is
+// Each row has a range text, versions that it admits, and versions that it does not. npm's semver 7.6.2 returns
 // the same for each, with the options of the table.
 
 // npm's "Advanced Range Syntax" and "Range Grammar", in strict form, without prereleases.
@@ -233,7 +233,7 @@ fn options(loose: bool, include_prerelease: bool) -> NpmOptions {
     }
 }
 
-// Returns `true` if the range gives the wanted answer for a version text.
+// Returns `true` if the range gives the wanted result for a version text.
 fn answers(alloc: Global, range: &Range, all: bool, text: &str, wanted: bool) -> bool {
     let Ok(version) = &Version::parse(alloc, text) else {
         return false;

@@ -1,4 +1,4 @@
--- What is written, from what is kept of the versions.
+-- The output, from the versions that are kept.
 use Rattle.std.proofs.Common.{◌≡◌, ◌≢◌, ◌↔◌, ◌⊎◌, List, [], ◌∷◌, ℕ, ◌++◌, Bool, true, false, Option, Some, None, Result, Ok}
 use Rattle.std.proofs.Common.{Err, IfOk, MatchOption, arith, ap, length, map, option_map, refl}
 use Rattle.std.proofs.KnownBytes.{Appends-nil, Appends-trans, Consumes-nil}
@@ -28,7 +28,7 @@ use Rattle.semver_command.specs.declared.kept.Kept.{Kept}
 use Rattle.semver_command.specs.declared.kept.Kept.TheVariants as Kepts
 use Rattle.semver_command.proofs.Satisfying.{chosen_same}
 
--- what is kept of all, since nothing was kept and written before
+-- all that is kept and written, since nothing was before
 pub all_gathered : (options : Options) (listing : Listing) (IsSuch : VersionValue → Type 0) (words : List (List ℕ))
     (r s : Option (List ℕ)) (k l : Kept) (c d : Option (List ℕ))
     → ((is_json : Bool) → IsKept listing is_json [] k []) → GathersTexts options IsSuch words r s k l c d

@@ -85,7 +85,7 @@ first_failure_written Endings.Misused = refl
 first_failure_written Endings.Refused = refl
 first_failure_written Endings.Unexplained = refl
 
--- what the texts that are left add is added to what was written
+-- the output so far, and then the output for the texts that are left, is the output for all
 pub record TextsLeft {T : Type 0} (value : T → Option (List ℕ)) (options : NpmOptions) (texts : List T) (i : ℕ) (ending : Ending)
     (c d e f : Option (List ℕ)) : Type 0 where
   pub written : List ℕ

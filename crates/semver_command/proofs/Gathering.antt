@@ -87,7 +87,7 @@ dashes_cons : (x : List ℕ) (xs : List (List ℕ))
     → without_dashes (x ∷ xs) ≡ without_dashes (x ∷ []) ++ without_dashes xs
 dashes_cons x xs = filter_cons (λ word. not (bytes_eq word dash)) x xs
 
--- what the words from a place on add is added to what was added before
+-- the words from a place on are added after those before
 abbrev pub WordsLeft : {T : Type 0} (value : T → List ℕ) (options : Options) (IsSuch : VersionValue → Type 0)
     (words : List T) (i : ℕ) (k l : Kept) (c d : Option (List ℕ)) → Type 0
 WordsLeft value options IsSuch words i k l c d = (m : Kept) (e : Option (List ℕ))
@@ -117,7 +117,7 @@ words_done value options IsSuch words i k l c d past held =
 pub is_dash : (word : List ℕ) → bytes_eq word dash ≡ true → word ≡ dash
 is_dash word is = (bytes_eq-Decides word dash).0 is
 
--- a word `-` stands for nothing
+-- a word `-` adds nothing
 pub word_dash : (options : Options) (IsSuch : VersionValue → Type 0) (word : List ℕ) (k : Kept) (c : Option (List ℕ))
     → bytes_eq word dash ≡ true → Gathers options IsSuch (without_dashes (word ∷ [])) k k c c
 word_dash options IsSuch word k c is = rw is (gathers_none options IsSuch k c c (Appends-nil c))
@@ -139,7 +139,7 @@ dash_split value words i x small is =
 
 -- ---- lines
 
--- what was read and added, before the lines that are still to be read
+-- the lines that were read and added, before those that are still to be read
 pub record LinesLeft (options : Options) (IsSuch : VersionValue → Type 0) (r s : Option (List ℕ)) (k l : Kept)
     (c d : Option (List ℕ)) : Type 0 where
   pub input : List ℕ
@@ -186,7 +186,7 @@ whole_after None s input rest taken whole = tt
 whole_after (Some xs) None input rest taken whole = absurd taken
 whole_after (Some xs) (Some ys) input rest taken whole = ap (λ l. input ++ l) whole ∙ sym taken
 
--- what was read to the end
+-- all lines were read and added
 abbrev pub AllLines : Options → (VersionValue → Type 0) → (r s : Option (List ℕ)) → (k l : Kept)
     → (c d : Option (List ℕ)) → Type 0
 AllLines options IsSuch r s k l c d = (input : List ℕ) × Consumes r s input × IsWhole r input
@@ -213,7 +213,7 @@ lines_last options IsSuch r s t k l m c d e line left some plain taken whole one
   left.later line (line ∷ []) m e (last line some plain) one,
 )
 
--- ---- the texts that words stand for
+-- ---- the texts of words
 
 pub on_ok : {A E P Q : Type 0} (r : Result A E) → (P → Q) → OnOk r P → OnOk r Q
 on_ok (Ok x) f p = f p

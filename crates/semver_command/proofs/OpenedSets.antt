@@ -1,4 +1,4 @@
--- Which prereleases satisfy a set, from the least version that it has in common with those of a triple.
+-- Which prereleases satisfy a set, from the least version that is in it and among those of a triple.
 use Rattle.std.proofs.Common.{◌≡◌, ◌↔◌, ◌⊎◌, ◌∙◌, ℕ, List, [], ◌∷◌, Option, None, Some, IfOk, IfSome, IsNone, IsSome, Result, true, false, ap, arith, inl, inr, refl}
 use Rattle.std.proofs.Common.{subst, sym}
 use Rattle.std.specs.declared.cmp.Ordering.{Ordering}
@@ -124,9 +124,9 @@ none_found : (sets : List (Ends VersionValue)) (v : VersionValue) → AdmitNoneI
 none_found sets v none = λ w is_open prerelease admits.
     none w (record { one = admits; other = inl (prereleases_inside v w prerelease (triple-back v w is_open.1)) })
 
--- ---- what both ends open
+-- ---- the prereleases that both ends open
 
--- the release of what was found
+-- the release of the prereleases that were found
 has_prerelease : (set : Ends VersionValue) (IsOpen : VersionValue → Type 0) (r : VersionValue)
     → IsFoundRelease (set ∷ []) IsOpen r → HasPrereleaseOf set r
 has_prerelease set IsOpen r is = record {

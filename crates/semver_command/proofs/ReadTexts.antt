@@ -9,7 +9,7 @@ pub found_read : (options : Options) (text : List ℕ) (v w : VersionValue) → 
     → IsFound options text v → w ≡ without_build v → IsRead options text w
 found_read options text v w on is same = rw same (found v on is)
 
--- what is not found, and not written, is not read
+-- a text in which no version is found or written is not read
 not_read : (options : Options) (text : List ℕ)
     → ((v : VersionValue) → options.coerce ≡ true → IsFound options text v → ⊥)
     → ((v : VersionValue) → IsWritten text v → ⊥) → (w : VersionValue) → IsRead options text w → ⊥

@@ -94,7 +94,7 @@ line_put pre set sets comparators note c d (Err e) one text is put = tt
 line_put pre set sets comparators note c d (Ok x) one text is put =
     record { written = set_line set note; put = rw (text, one) at put; such = (note, is, refl) }
 
--- what the sets that are left add is added to what was written
+-- the lines so far, and then the lines of the sets that are left, are the lines of all sets
 abbrev pub SetsLeft : Bool → List (Ends VersionValue) → (i : ℕ) → (c d : Option (List ℕ)) → Type 0
 SetsLeft pre sets i c d = (done : List ℕ) × Appends c d done
     × ((later : List ℕ) → AreSetLines pre (drop i sets) later → AreSetLines pre sets (done ++ later))

@@ -1,4 +1,4 @@
--- What the command line asks for.
+-- The request of a command line.
 use Rattle.std.specs.Prelude.{◌≡◌, ℕ, List, [], ◌∷◌, ◌++◌, true, false, if◌then◌else◌, map, Option, Some, None, codes}
 use Rattle.std.specs.Str.{bytes_eq}
 use Rattle.npm_semver.specs.declared.bump.Bump.{Bump}
@@ -39,7 +39,7 @@ no_options = record {
   explain = false;
 }
 
--- what no argument asks for
+-- the request without arguments
 abbrev pub nothing_asked : AskedValue
 nothing_asked = record {
   options = no_options;
@@ -70,7 +70,7 @@ with_flag options Json = record options { json = true }
 with_flag options Explain = record options { explain = true }
 with_flag options Help = record options { help = true }
 
--- `false` stands for no number, `1` for 1, and every other text for 0
+-- `false` means no number, `1` means 1, and every other text means 0
 abbrev pub base_of : Option (List ℕ) → IdentifierBase
 base_of None = Zero
 base_of (Some text) = if bytes_eq text (codes "false") then Absent
@@ -95,17 +95,17 @@ with_argument asked (increment level) = record asked { increment = Some level }
 
 -- ---- all of them
 
--- what these arguments ask for, after others
+-- the request of these arguments, after others
 abbrev pub asked_after : AskedValue → List ArgumentValue → AskedValue
 asked_after asked [] = asked
 asked_after asked (argument ∷ others) = asked_after (with_argument asked argument) others
 
--- what the words ask for, after other arguments
+-- the request of the words, after other arguments
 abbrev pub IsAskedAfter : AskedValue → (words : List (List ℕ)) → AskedValue → Type 0
 IsAskedAfter before words asked = (arguments : List ArgumentValue) × AreArguments words arguments
     × (asked ≡ asked_after before arguments)
 
--- what the words ask for
+-- the request of the words
 abbrev pub IsAsked : (words : List (List ℕ)) → AskedValue → Type 0
 IsAsked words asked = IsAskedAfter nothing_asked words asked
 

@@ -8,7 +8,7 @@ use Rattle.semver_texts.specs.IdentifierText.{IsIdentifierText, identifier_of}
 use Rattle.semver_texts.specs.IdentifierValue.{IdentifierValue}
 use Rattle.semver_command.specs.Lines.{listed_text}
 
--- the identifier of the text after `--preid`; the empty text stands for none, as in npm
+-- the identifier of the text after `--preid`; the empty text means none, as in npm
 pub data IsIdentifierGiven : (text : Option (List ℕ)) → Option IdentifierValue → Type 0 where
   absent : IsIdentifierGiven None None
   empty : IsIdentifierGiven (Some []) None
@@ -32,7 +32,7 @@ abbrev pub null_text : (is_json : Bool) → List ℕ
 null_text false = codes "null\n"
 null_text true = codes "[null]\n"
 
--- what is written: the version, or `null` if there is none
+-- the output: the version, or `null` if there is none
 abbrev pub incremented_text : (is_json : Bool) → Option VersionValue → List ℕ
 incremented_text is_json (Some w) = listed_text is_json (w ∷ [])
 incremented_text is_json None = null_text is_json

@@ -21,7 +21,7 @@ IsWhole remaining input = IfSome remaining (λ bytes. input ≡ bytes)
 
 -- ---- words and lines
 
--- the word that stands for standard input
+-- the word for standard input
 abbrev pub dash : List ℕ
 dash = codes "-"
 
@@ -29,9 +29,9 @@ dash = codes "-"
 abbrev pub without_dashes : (words : List (List ℕ)) → List (List ℕ)
 without_dashes words = filter (λ word. not (bytes_eq word dash)) words
 
--- The texts, of these words and of what is read from standard input. Nothing is read if there are words, and none is
--- `-`. Else all is read. If there are no words, all texts are lines; if there are, the lines stand in the place of the first
--- `-`, and each other `-` stands for nothing.
+-- The texts, of these words and of standard input. Nothing is read if there are words, and none is `-`. Else all is
+-- read. If there are no words, all texts are lines; if there are, the lines replace the first `-`, and each other `-`
+-- is ignored.
 pub data AreTexts (words : List (List ℕ)) (remaining : Option (List ℕ)) : (input : List ℕ) → (texts : List (List ℕ))
     → Type 0 where
   given : words ≢ [] → without_dashes words ≡ words → AreTexts words remaining [] words

@@ -3,7 +3,7 @@
 -- The command line.
 pub mod Names  -- what a word is called
 pub mod Arguments  -- the arguments, one after the other
-pub mod Asked  -- what they ask for together
+pub mod Asked  -- the request that they make together
 -- What is read.
 pub mod Input  -- the texts that may be versions: words, and lines of standard input
 pub mod Written  -- the version that a text is read as

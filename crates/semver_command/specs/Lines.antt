@@ -7,12 +7,12 @@ use Rattle.semver_texts.specs.Print.{version_text}
 abbrev pub string_text : VersionValue → List ℕ
 string_text v = codes "\"" ++ (version_text v ++ codes "\"")
 
--- what stands before an element of an array
+-- the text before an element of an array
 abbrev pub array_mark : (is_first : Bool) → List ℕ
 array_mark true = codes "["
 array_mark false = codes ","
 
--- what stands after the last element
+-- the text after the last element
 abbrev pub array_end : (is_empty : Bool) → List ℕ
 array_end true = codes "[]\n"
 array_end false = codes "]\n"
@@ -22,12 +22,12 @@ abbrev pub item_text : (is_json is_first : Bool) → VersionValue → List ℕ
 item_text false is_first v = version_text v ++ codes "\n"
 item_text true is_first v = array_mark is_first ++ string_text v
 
--- what stands after the last version
+-- the text after the last version
 abbrev pub end_text : (is_json is_first : Bool) → List ℕ
 end_text false is_empty = []
 end_text true is_empty = array_end is_empty
 
--- the versions, and what stands after the last one
+-- the versions, and the text after the last one
 abbrev pub items_text : (is_json is_first : Bool) → List VersionValue → List ℕ
 items_text is_json is_first [] = end_text is_json is_first
 items_text is_json is_first (v ∷ others) = item_text is_json is_first v ++ items_text is_json false others

@@ -5,7 +5,7 @@
 use Rattle.std.specs.Prelude.{ℕ, List, ◌++◌, codes, length, replicate, take}
 use Rattle.semver_command.specs.Shown.{shown}
 
--- as many blanks as what is shown of the text before its fault has characters
+-- as many blanks as the text before its fault has characters when it is shown
 abbrev pub blanks_before : (text : List ℕ) → (offset : ℕ) → List ℕ
 blanks_before text offset = replicate (length (shown (take offset text))) 32
 

@@ -9,9 +9,9 @@ use Rattle.semver_command.specs.declared.ending.Ending.{Ending}
 use Rattle.semver_command.specs.declared.ending.Ending.TheVariants as Endings
 use Rattle.semver_command.specs.declared.help.TheConstants.{HELP}
 
--- The text about the program if there are no words, or if it is asked for; or the sets of ranges, if they are to be
--- explained; or else what is asked for. `input` is what is read from standard input, where `remaining` is left to read, if
--- that is known. `said` is what is said on standard error of ranges that are refused.
+-- The text about the program if there are no words, or with the option for help; or the sets of ranges, if they are to
+-- be explained; or else the output of the request. `input` is the part of standard input that is read; `remaining` is
+-- left to read before, if that is known. `said` is the text on standard error about ranges that are refused.
 pub data IsReply (words : List (List ℕ)) (remaining : Option (List ℕ)) : (input written said : List ℕ) → Ending
     → Type 0 where
   alone : words ≡ [] → IsReply words remaining [] HELP.now [] Endings.Written

@@ -22,7 +22,7 @@ use npm_semver::{Bump, NpmOptions};
 use std::alloc::Global;
 use std::io::{BufReader, Read, Write};
 
-/// Writes what the command line asks for: the versions that are left, or the version after an increment.
+/// Writes the output of the request: the versions that are left, or the version after an increment.
 ///
 /// # Errors
 ///
@@ -80,7 +80,7 @@ fn listed<R: Read, W: Write>(
     write_kept(alloc, kept, options, writer)
 }
 
-/// Writes what is kept of the versions that are left, or the end of what was written.
+/// Writes the versions that are kept, or the text after the last one if all are written.
 fn write_kept<W: Write>(
     alloc: Global,
     kept: Kept,

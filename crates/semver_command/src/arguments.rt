@@ -45,8 +45,8 @@ impl<'a> Words<'a> {
 
 /// Returns the first argument of the words, and the words after it, or `None` if there are no words.
 ///
-/// A word is divided at its first `=`, and what is after it is the next word: `--inc=major` is `--inc major`. The value of
-/// an option is the next word whole, so `--range=>=1.2` has the range `>=1.2`.
+/// A word is divided at its first `=`, and the text after it is the next word: `--inc=major` is `--inc major`. The value
+/// of an option is the next word whole, so `--range=>=1.2` has the range `>=1.2`.
 pub fn first_argument<'a>(words: Words<'a>) -> Option<(Argument<'a>, Words<'a>)>
     ensures { option_map (λ step. step_value step) result ≡ ArgumentRules.first_step (words_value words.entry) }
 {

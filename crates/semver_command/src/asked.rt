@@ -1,4 +1,4 @@
-//! What the command line asks for.
+//! The request of a command line.
 ghost use Rattle.std.specs.Prelude.{◌≡◌, IfOk, OnOk, map, string_bytes};
 ghost use Rattle.semver_command.specs.Arguments.{argument_value, text_value};
 ghost use Rattle.semver_command.specs.Asked as AskedRules;
@@ -87,7 +87,7 @@ impl Options {
     }
 }
 
-/// What the command line asks for.
+/// The request of a command line.
 #[derive(Debug, Drop)]
 pub struct Asked<'a> {
     pub options: Options,
@@ -102,7 +102,7 @@ pub struct Asked<'a> {
 }
 
 impl<'a> Asked<'a> {
-    /// What no argument asks for.
+    /// Returns the request without arguments.
     fn nothing(alloc: Global) -> Asked<'a>
         ensures { asked_value result ≡ AskedRules.nothing_asked }
     {
@@ -126,7 +126,7 @@ impl<'a> Asked<'a> {
         }
     }
 
-    /// Adds what one more argument asks for.
+    /// Adds one more argument to the request.
     fn add(&mut self, argument: Argument<'a>) -> Result<(), AllocError>
         ensures { OnOk result (asked_value self.new ≡ with_argument (asked_value self.old) (argument_value argument.entry)) }
     {
@@ -169,7 +169,7 @@ fn base_of(text: Option<&str>) -> IdentifierBase
     }
 }
 
-/// Returns what the words after the program's name ask for.
+/// Returns the request of the words after the program's name.
 ///
 /// Of two values of an option the last one counts, but each version and each range does.
 ///

@@ -47,7 +47,7 @@ fn is_no_explanation(asked: &Asked<'_>) -> bool
     !is_nothing(&asked.versions) || asked.increment.is_some() || is_nothing(&asked.ranges)
 }
 
-/// Writes the sets of the ranges of these texts. `None` stands for a text that is missing.
+/// Writes the sets of the ranges of these texts. `None` is a missing text.
 fn explain_texts<W: Write, E: Write>(
     alloc: Global,
     texts: &[Option<&str>],

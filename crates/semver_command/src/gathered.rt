@@ -17,7 +17,7 @@ use node_semver::Range;
 use std::alloc::Global;
 use std::io::{BufReader, Read, Write};
 
-/// Reads the versions of all texts that lie in all ranges. Returns what is kept of them.
+/// Reads the versions of all texts that lie in all ranges, and returns those that are kept.
 pub fn gathered<R: Read, W: Write>(
     alloc: Global,
     words: &[&str],
@@ -142,7 +142,7 @@ fn add_lines<R: Read, W: Write>(
     Err(CommandError::Read)
 }
 
-/// Writes what is in the writer's buffer, if the next line is not wholly in the reader's.
+/// Writes the bytes in the writer's buffer, if the next line is not wholly in the reader's.
 fn flush_before<R: Read, W: Write>(
     reader: &BufReader<R>,
     writer: &mut W,
@@ -155,7 +155,7 @@ fn flush_before<R: Read, W: Write>(
     flush(writer)
 }
 
-/// Writes what is in the writer's buffer.
+/// Writes the bytes in the writer's buffer.
 pub fn flush<W: Write>(writer: &mut W) -> Result<(), CommandError>
     ensures { Keeps (W.contents writer.old) (W.contents writer.new) }
 {

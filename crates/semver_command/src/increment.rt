@@ -72,7 +72,7 @@ fn null_text(is_json: bool) -> &'static [u8]
     if is_json { b"[null]\n" } else { b"null\n" }
 }
 
-/// The identifier of the text after `--preid`; the empty text stands for none.
+/// The identifier of the text after `--preid`; the empty text means none.
 fn given_identifier(alloc: Global, text: Option<&str>) -> Result<Option<Identifier>, CommandError>
     ensures given { IfOk result (λ given. IsIdentifierGiven (text_value text.entry) (option_map value_of given)) }
     ensures refused { IsErrOf result CommandError.Identifier → IsNoIdentifier (text_value text.entry) }

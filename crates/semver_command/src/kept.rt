@@ -28,7 +28,7 @@ pub enum Kept {
 }
 
 impl Kept {
-    /// Returns what is kept before the first version.
+    /// Returns the value that is kept before the first version.
     pub fn new(alloc: Global, listing: Listing) -> Kept
         ensures { (is_json : Bool) → IsKept listing is_json [] result [] }
     {

@@ -9,8 +9,7 @@ use node_semver::{Range, Version};
 use npm_semver::{NpmOptions, parse_range};
 use std::alloc::{AllocError, Global};
 
-/// Returns the ranges of these texts. `None` stands for a text that is refused, and for one that is missing: no version
-/// satisfies it.
+/// Returns the ranges of these texts. It is `None` for a text that is refused or missing: no version satisfies it.
 pub fn ranges_of(
     alloc: Global,
     texts: &[Option<&str>],

@@ -44,7 +44,7 @@ fn write_string<W: Write>(
     write_text(writer, b"\"")
 }
 
-/// What stands before an element of a JSON array.
+/// The text before an element of a JSON array.
 fn array_mark(is_first: bool) -> &'static [u8]
     ensures { result.now ≡ array_mark is_first }
 {
@@ -77,7 +77,7 @@ pub fn write_item<W: Write>(
     write_text(writer, b"\n")
 }
 
-/// Writes what stands after the last version, or without a version.
+/// Writes the text after the last version, also if there is none.
 pub fn write_end<W: Write>(
     writer: &mut W,
     is_json: bool,

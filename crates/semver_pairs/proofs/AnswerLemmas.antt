@@ -1,4 +1,4 @@
--- The answers to pairs: there are some, and no others.
+-- Each list of pairs has an output, and only one.
 use Rattle.std.proofs.Common.{◌≡◌, ◌⊎◌, ℕ, List, [], ◌∷◌, ◌++◌, true, IsUtf8, codes, inl, inr, refl, subst, sym, ◌∙◌}
 use Rattle.std.specs.Str.{is_utf8}
 use Rattle.std.proofs.lemmas.Bool.{cases_Bool}

@@ -18,7 +18,7 @@ pub rest_some : (text : List ℕ) (at : ℕ) → at < length text → take (leng
 rest_some text at within is =
     let none : length (take (length text - at) (drop at text)) ≡ 0 = ap length is in grind (arith, common_steps, none)
 
--- so many of the rest stand in the text
+-- so many bytes of the rest end inside the text
 pub rest_within : (text : List ℕ) (at n : ℕ) → at < length text
     → n ≤ length (take (length text - at) (drop at text)) → at + n ≤ length text
 rest_within text at n within most = grind (arith, common_steps, most)

@@ -57,7 +57,7 @@ pub line-some : (line rest : List ℕ) → line ++ (newline ∷ rest) ≢ []
 line-some [] rest is = cc (is)
 line-some (b ∷ line) rest is = cc (is)
 
--- what is left past a line and the newline byte behind it
+-- the bytes after a line and its newline byte
 pub past_newline : (bytes line rest : List ℕ) (left : Option (Bor (List ℕ))) → bytes ≡ line ++ rest
     → MatchOption left (pointwise nat_eq (take 1 rest) (newline ∷ []) ≡ false)
     (λ past. (pointwise nat_eq (take 1 rest) (newline ∷ []) ≡ true) × (past.now ≡ drop 1 rest)
@@ -103,7 +103,7 @@ divided-line (b ∷ line) rest none =
 
 -- ---- where the first newline stands
 
--- a newline stands at this place
+-- the byte at this place is a newline
 abbrev IsNewlineAt : List ℕ → ℕ → Type 0
 IsNewlineAt bytes at = Passes (is_byte newline) bytes at
 
@@ -142,12 +142,12 @@ pub line_at : (bytes : List ℕ) (at : ℕ) → NoneBefore (IsNewlineAt bytes) 0
     → BeginsWithLine bytes (take at bytes) (drop (at + 1) bytes)
 line_at bytes at first here = rw add-one (begins_at bytes at first.high first.before here)
 
--- The first line, and what is left past its newline byte.
+-- The first line, and the bytes after its newline byte.
 pub line_rest : (bytes : List ℕ) (at : ℕ) → NoneBefore (IsNewlineAt bytes) 0 (length bytes) at → IsNewlineAt bytes at
     → BeginsWithLine bytes (take at bytes) (take (length bytes - (at + 1)) (drop (at + 1) bytes))
 line_rest bytes at first here = rw (take_rest bytes (at + 1)) (line_at bytes at first here)
 
--- what is left is shorter
+-- the bytes after a line are fewer
 pub line_fewer : {bytes line rest : List ℕ} → BeginsWithLine bytes line rest → length rest < length bytes
 line_fewer {bytes} {line} {rest} begins = rw (begins.split, length-append) (omega arith)
 
@@ -161,7 +161,7 @@ line_ascii {bytes} {line} {rest} begins all =
 
 -- ---- where the newlines stand, as a list
 
--- a search for a newline has an answer
+-- a search for a newline has a result
 search-exists : (bytes : List ℕ) → (r : Option ℕ) × IsFirstByte (is_byte newline) bytes r
 search-exists [] = (None, λ k low high here. absurd (omega arith))
 search-exists (b ∷ bytes) = elim (cases_Bool (b == newline)) [

@@ -72,7 +72,7 @@ read-begins is_end bytes more =
     let pairs = pairs-begin is_end (lines_read false bytes) lines.0 in
     (pairs.0, ap (pairs_of is_end) lines.1 ∙ pairs.1)
 
--- ---- answers
+-- ---- output
 
 answers-then : (pairs others : List Pair) (written rest : List ℕ) → AreAnswers pairs written → AreAnswers others rest
     → AreAnswers (pairs ++ others) (written ++ rest)
@@ -86,7 +86,7 @@ answers-then (pair ∷ pairs) others written rest (answer, later, first, more, i
   ap (λ (l : List ℕ). l ++ rest) is ∙ append_assoc answer (newline ∷ later) rest,
 )
 
--- the answers to what was read begin those to any longer input
+-- the output for the complete pairs is the beginning of the output for any longer input
 pub answers-stay : (is_end : Bool) (bytes more written : List ℕ) → AreAnswers (pairs_read false bytes) written
     → BeginsAnswers (pairs_read is_end (bytes ++ more)) written
 answers-stay is_end bytes more written answers =

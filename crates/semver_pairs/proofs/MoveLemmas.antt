@@ -1,4 +1,4 @@
--- Answers are added, wait and are written, step by step.
+-- Output is added, waits and is written, step by step.
 use Rattle.std.proofs.Common.{◌≡◌, ◌≢◌, ℕ, List, [], ◌∷◌, ◌++◌, take, drop, true, Option, refl, subst, sym}
 use Rattle.std.proofs.Common.{append-nil}
 use Rattle.std.specs.Io.KnownBytes.{Appends}
@@ -19,7 +19,7 @@ use Rattle.semver_pairs.proofs.PairLemmas.{last-both}
 
 -- ---- pairs with one range line
 
--- The answers so far, with those from here on, are the answers from the first pair on.
+-- The output so far, and then the output from here on, is the output from the first pair on.
 pub record VersionsSoFar (range version_first bytes_first version bytes : List ℕ)
     (contents contents_new : Option (List ℕ)) (waiting left : List ℕ) : Type 0 where
   pub done : List ℕ
@@ -130,7 +130,7 @@ past_part bytes here range version mid old now new waiting held past begins some
 
 -- ---- the open pair
 
--- where nothing follows a pair, its answer is the only one
+-- where nothing follows a pair, only its own output was added
 pub one-from : (range version rest : List ℕ) (old new : Option (List ℕ)) (waiting left : List ℕ)
     → AnswersRange range version [] rest old new waiting left → AnswersOne range version old new waiting left
 one-from range version rest old new waiting left answers = record {
@@ -232,14 +232,14 @@ pub piece_open : {T : Type 0} (contents : T → Option (List ℕ)) (bytes rest :
     → rest ≡ bytes → new ≡ old → AnswersPast bytes rest (contents old.inner) (contents new.inner) [] []
 piece_open contents bytes rest old new is same = rw (is, same) (past_none bytes (contents old.inner) [])
 
--- an equal rest stands for the rest
+-- an equal rest may replace the rest
 pub past_same : (bytes rest other : List ℕ) (old new : Option (List ℕ)) (waiting left : List ℕ) → other ≡ rest
     → AnswersPast bytes rest old new waiting left → AnswersPast bytes other old new waiting left
 past_same bytes rest other old new waiting left is past = rw is past
 
 -- ---- the end
 
--- the one answer of the last pair was added
+-- the output for the only pair is the output for all bytes
 last_one : (pair : Pair) (bytes answer : List ℕ) → pairs_read true bytes ≡ pair ∷ []
     → AreAnswers (pair ∷ []) answer → AreAnswers (pairs_read true bytes) answer
 last_one pair bytes answer is answers = subst (λ (pairs : List Pair). AreAnswers pairs answer) (sym is) answers

@@ -44,7 +44,7 @@ pub version_more : (range version more new : List ℕ) (is_ended : Bool) → is_
 version_more range version more new is_ended ended is =
     rw (ended, is) (sym (append_assoc range (newline ∷ version) more))
 
--- an open pair has no answer yet
+-- an open pair is no complete pair
 pub open_none : (pair : OpenPair) → IsOpen pair → pairs_read false (open_bytes pair) ≡ []
 open_none pair lines = by_end pair.range.items pair.version.items pair.is_range_ended lines.range lines.version
   where

@@ -12,12 +12,12 @@ use Rattle.semver_pairs.specs.Private.Answering.{AnswersUpTo, Moves}
 use Rattle.semver_pairs.proofs.AnswerLemmas.{answers-exist}
 use Rattle.semver_pairs.proofs.PairLemmas.{answers-all}
 
--- ---- answers that wait
+-- ---- output that waits
 
 pub moves-none : (contents : Option (List ℕ)) (waiting : List ℕ) → Moves contents contents waiting [] waiting
 moves-none contents waiting = record { written = []; put = Appends-nil contents; all = append-nil waiting }
 
--- what is added waits too
+-- added output waits too
 pub moves-hold : (contents : Option (List ℕ)) (waiting added : List ℕ)
     → Moves contents contents waiting added (waiting ++ added)
 moves-hold contents waiting added = record { written = []; put = Appends-nil contents; all = refl }
@@ -47,7 +47,7 @@ pub moves-all : (old new : Option (List ℕ)) (waiting added : List ℕ) → App
     → Moves old new waiting added added
 moves-all old new waiting added all = record { written = waiting; put = all; all = refl }
 
--- ---- what was read and written
+-- ---- reading and writing
 
 -- nothing was read, and nothing was written
 pub exchanges-nothing : (Ended : Type 0) (remaining contents : Option (List ℕ))
@@ -70,7 +70,7 @@ exchanges-none_back remaining contents = record {
   together = refl;
 }
 
--- the answers to all whole pairs
+-- the output for all complete pairs
 pub before_end : (read rest added : List ℕ) → AnswersUpTo read rest added → pairs_read false rest ≡ []
     → IsOutputBeforeEnd read added
 before_end read rest added up_to none =

@@ -86,7 +86,7 @@ one_line-from bytes range rest begins none = elim (newline_or_not rest) [
       cc (wrong)
 ]
 
--- ---- the answers up to some rest
+-- ---- the output up to some rest
 
 pub answers-none : (bytes : List ℕ) → AnswersUpTo bytes bytes []
 answers-none bytes = record { go_on = λ is_end later more answers. answers }
@@ -125,7 +125,7 @@ answers-pair bytes range version mid rest added begins from = record {
       (sym (pairs-pair is_end bytes range version mid later begins)) whole;
 }
 
--- ---- the answers from a range line on
+-- ---- the output from a range line on
 
 -- the first alone
 pub from-one : (range version bytes line : List ℕ) → IsAnswerLine (strip_carriage_return range) version line
@@ -151,7 +151,7 @@ from-more range version bytes line next mid rest added answer begins from = reco
   both = refl;
 }
 
--- where no byte follows, there is one answer
+-- where no byte follows, the output is one line
 pub from-nothing : (range version rest added : List ℕ) → AnswersFrom range version [] rest added
     → IsAnswerLine (strip_carriage_return range) version added
 from-nothing range version rest added from =
@@ -166,7 +166,7 @@ from-nothing range version rest added from =
     nothing_before [] other is = refl
     nothing_before (b ∷ one) other is = cc (is)
 
--- What was added so far, and then the answers from here on, are the answers from the beginning on.
+-- The output so far, and then the output from here on, is the output from the beginning on.
 pub record GoesOn (range version_first bytes_first version bytes done : List ℕ) : Type 0 where
   pub go_on : (rest added : List ℕ) → AnswersFrom range version bytes rest added
       → AnswersFrom range version_first bytes_first rest (done ++ added)
@@ -191,7 +191,7 @@ pub goes-end : (range version_first bytes_first version bytes done line : List �
 goes-end range version_first bytes_first version bytes done line goes answer =
     goes.go_on bytes line (from-one range version bytes line answer)
 
--- a pair has an answer, also where none was found
+-- a range line and a version line have an output line
 pub answer_line-exists : (range version : List ℕ) → (line : List ℕ) × IsAnswerLine range version line
 answer_line-exists range version =
     let some = answer-exists range version in (some.0 ++ (newline ∷ []), (some.0, some.1, refl))
@@ -217,7 +217,7 @@ last-unended [] one some = absurd (some refl)
 last-unended (b ∷ range) one some =
     ap (λ (l : Lines). pairs_of true (all_lines l)) (divided-no_newline (b ∷ range) one)
 
--- with the answers to the rest behind them, they are the answers to all
+-- the output up to the rest, and then the output for the rest, is the output for all bytes
 pub answers-all : (is_end : Bool) (bytes rest added more : List ℕ) → AnswersUpTo bytes rest added
     → AreAnswers (pairs_read is_end rest) more → AreAnswers (pairs_read is_end bytes) (added ++ more)
 answers-all is_end bytes rest added more up_to answers =

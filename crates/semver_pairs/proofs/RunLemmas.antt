@@ -96,7 +96,7 @@ last_written_part bytes old now new waiting all part = record {
 
 -- ---- one read after the other
 
--- So much was read, by so many reads, and the answers to the pairs before the open one are written.
+-- So much was read, by so many reads, and the output for the pairs before the open one is written.
 pub record RunSoFar (remaining remaining_new contents contents_new : Option (List ℕ)) (kept : OpenPair)
     (count : ℕ) : Type 0 where
   pub read : List ℕ
@@ -180,7 +180,7 @@ run_stop Ended r0 r1 r2 c0 c1 kept count so_far keeps = record {
   );
 }
 
--- no answer is kept back then
+-- then all output is written
 pub run_stop_all : (r0 r1 r2 c0 c1 : Option (List ℕ)) (kept : OpenPair) (count : ℕ) → RunSoFar r0 r1 c0 c1 kept count
     → IsOpen kept → Keeps r1 r2 → Exchanges IsOutputBeforeEnd r0 r2 c0 c1
 run_stop_all r0 r1 r2 c0 c1 kept count so_far lines keeps = record {

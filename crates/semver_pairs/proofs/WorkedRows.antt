@@ -60,7 +60,7 @@ nothing_for_no_bytes = refl
 pub a_lone_line_has_no_version : IsOutput (codes "\n") (codes "missing version\n")
 a_lone_line_has_no_version = (codes "missing version", [], refl, refl, refl)
 
--- where a read failed, the rest has no answer, whatever the version would be
+-- if a read failed, there is no output for the rest, whatever the version would be
 pub an_unended_rest_is_not_answered : ¬ IsOutputPrefix ⊥ (codes "1\n1.0.0") (codes "yes\n")
 an_unended_rest_is_not_answered (true, ended, begins) = ended refl
 an_unended_rest_is_not_answered (false, ended, begins) = cc begins.1

@@ -1,4 +1,4 @@
--- The answer for a range line and a version line.
+-- The output for a range line and a version line.
 use Rattle.std.specs.Prelude.{◌⊎◌, ℕ, List, IsUtf8, codes}
 use Rattle.semver_sets.specs.Meaning.{IsRefused, TextAdmits}
 use Rattle.semver_texts.specs.Version.{VersionValue}
@@ -20,7 +20,7 @@ IsBadVersion line = (¬ IsUtf8 line) ⊎ ((v : VersionValue) → ¬ IsVersionTex
 abbrev pub IsGoodVersion : List ℕ → VersionValue → Type 0
 IsGoodVersion line v = IsUtf8 line × IsVersionText line v
 
--- the answer for a range line and a version line
+-- the output for a range line and a version line
 pub data IsAnswer (range version : List ℕ) : List ℕ → Type 0 where
   bad_range : IsBadRange range → IsAnswer range version (codes "bad range")
   bad_version : IsGoodRange range → IsBadVersion version → IsAnswer range version (codes "bad version")

@@ -2,10 +2,10 @@
 
 -- Reading and writing.
 pub mod GaugeValue  -- a gauge: what it holds, and whether a call through it has failed
--- What is read, and what is written for it.
-pub mod Lines  -- the lines of what is read
+-- Input and output.
+pub mod Lines  -- the lines of the input
 pub mod Pairs  -- the pairs of lines, and which of them were wholly read
-pub mod Answer  -- the answer to a range line and a version line
+pub mod Answer  -- the output for a range line and a version line
 pub mod Output  -- the output for all that is read, and its beginnings
 -- How the program ends.
 pub mod Ending  -- what standard error says

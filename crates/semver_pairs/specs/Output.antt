@@ -6,26 +6,26 @@ use Rattle.semver_pairs.specs.Answer.{IsAnswer}
 use Rattle.semver_pairs.specs.GaugeValue.{GaugeValue, HasFailed, HasReportedEnd}
 use Rattle.semver_pairs.specs.Pairs.{Pair, both, lone, pairs_read}
 
--- the answer for a pair. A last line without a version line has the answer `missing version`, whatever it is
+-- the output for a pair. For a last line without a version line it is `missing version`, whatever the line is
 abbrev pub IsPairAnswer : Pair → List ℕ → Type 0
 IsPairAnswer (both range version) answer = IsAnswer range version answer
 IsPairAnswer (lone line) answer = answer ≡ codes "missing version"
 
--- an answer for each of the pairs in order, each with a newline byte after it
+-- the output for each of the pairs in order, each with a newline byte after it
 abbrev pub AreAnswers : List Pair → (written : List ℕ) → Type 0
 AreAnswers [] written = written ≡ []
 AreAnswers (pair ∷ pairs) written = (answer : List ℕ) × (others : List ℕ) × IsPairAnswer pair answer
     × AreAnswers pairs others × (written ≡ answer ++ (newline ∷ others))
 
--- what is written for the whole input
+-- the output for the whole input
 abbrev pub IsOutput : (read written : List ℕ) → Type 0
 IsOutput read written = AreAnswers (pairs_read true read) written
 
--- the beginning of the answers for the pairs
+-- the beginning of the output for the pairs
 abbrev pub BeginsAnswers : List Pair → (written : List ℕ) → Type 0
 BeginsAnswers pairs written = (more : List ℕ) × AreAnswers pairs (written ++ more)
 
--- what is written for the pairs that were completely read before the end of the input
+-- the output for the pairs that were completely read before the end of the input
 abbrev pub IsOutputBeforeEnd : (read written : List ℕ) → Type 0
 IsOutputBeforeEnd read written = AreAnswers (pairs_read false read) written
 
@@ -33,7 +33,7 @@ IsOutputBeforeEnd read written = AreAnswers (pairs_read false read) written
 abbrev pub HasEnded : {R : Type 0} → (R → Option (List ℕ)) → GaugeValue R → Type 0
 HasEnded remaining gauge = HasReportedEnd gauge × IsAtEnd (remaining gauge.inner) × (¬ HasFailed gauge)
 
--- the beginning of the answers for the pairs that were completely read
+-- the beginning of the output for the pairs that were completely read
 abbrev pub IsOutputPrefix : (Ended : Type 0) → (read written : List ℕ) → Type 0
 IsOutputPrefix Ended read written =
     (is_end : Bool) × (IsTrue is_end → Ended) × BeginsAnswers (pairs_read is_end read) written
@@ -49,10 +49,10 @@ pub record Exchanges (GoTogether : List ℕ → List ℕ → Type 0)
 
 -- ---- laws
 
--- the pairs have answers
+-- the pairs have an output
 abbrev pub HasAnswers : List Pair → Type 0
 HasAnswers pairs = (written : List ℕ) × AreAnswers pairs written
 
--- the pairs have at most one list of answers
+-- the pairs have at most one output
 abbrev pub HasOneAnswer : List Pair → Type 0
 HasOneAnswer pairs = (one other : List ℕ) → AreAnswers pairs one → AreAnswers pairs other → one ≡ other

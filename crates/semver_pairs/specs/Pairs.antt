@@ -1,4 +1,4 @@
--- The pairs of lines that get an answer, and which of them were completely read.
+-- The pairs of lines that get an output line, and which of them were completely read.
 use Rattle.std.specs.Prelude.{ℕ, List, [], ◌∷◌, ◌++◌, Bool, true, false}
 use Rattle.semver_pairs.specs.Lines.{divided, ended_lines, rest_line}
 

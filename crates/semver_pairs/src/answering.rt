@@ -1,4 +1,4 @@
-//! The answers for pairs of lines.
+//! The output for pairs of lines.
 ghost use Rattle.std.specs.Prelude.{◌≡◌, ℕ, List, [], false, ◌<◌, ◌≤◌, length, MatchOption, MatchResult};
 ghost use Rattle.std.specs.Prelude.{IfOk, IfSome, IfNone, IsTrue};
 ghost use Rattle.std.specs.Str.{IsAscii};
@@ -30,7 +30,7 @@ struct Pair<'b> {
     is_ascii: bool,
 }
 
-/// Adds the answers for the complete pairs in these bytes, and returns the rest.
+/// Adds the output for the complete pairs in these bytes, and returns the rest.
 pub(crate) fn answer_pairs<'b, W: Write>(
     alloc: Global,
     bytes: &'b [u8],
@@ -72,7 +72,7 @@ fn first_pair(bytes: &[u8], is_ascii: bool) -> Option<Pair<'_>>
     })
 }
 
-/// Adds the answer for a pair after which nothing follows.
+/// Adds the output for a pair after which nothing follows.
 // `inline(never)`: few pairs take more than one read.
 #[inline(never)]
 pub(crate) fn answer_one<W: Write>(
@@ -101,7 +101,7 @@ pub(crate) fn answer_one<W: Write>(
     Ok(())
 }
 
-/// Adds the answers for a pair and for the pairs right after it with the same range line, and returns the rest.
+/// Adds the output for a pair and for the pairs right after it with the same range line, and returns the rest.
 // `inline(always)`: it is then part of the loop of `answer_pairs`.
 #[inline(always)]
 fn answer_range<'b, W: Write>(
@@ -180,7 +180,7 @@ fn next_version<'b>(bytes: &'b [u8], range: &[u8]) -> Option<(&'b [u8], &'b [u8]
     Some((without_return(version), rest))
 }
 
-/// Returns the answer for a range and a version line, with a newline. `range` is `None` if the range line is no range.
+/// Returns the output for a range and a version line, with a newline. `range` is `None` if the range line is no range.
 /// Does not allocate.
 fn answer_of(range: Option<&Range>, version: &[u8], is_ascii: bool) -> &'static str
     requires { IsTrue is_ascii → IsAscii version.now }

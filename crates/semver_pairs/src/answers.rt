@@ -1,4 +1,4 @@
-//! A list of answers, so that many are written at once.
+//! A list of output lines, so that many are written at once.
 ghost use Rattle.std.specs.Prelude.{◌≡◌, ◌↔◌, ℕ, List, ◌+◌, ◌≤◌, [], ◌++◌, length, take, OnOk, OnErr, IfErr, IsErr};
 ghost use Rattle.std.specs.Io.KnownBytes.{Appends};
 ghost use Rattle.semver_pairs.specs.GaugeValue.{HasFailed};
@@ -10,7 +10,7 @@ use crate::writing::write_all;
 use std::io::Write;
 use std::marker::Model;
 
-/// The answers that are still to be written.
+/// The output lines that are still to be written.
 #[derive(Drop)]
 pub(crate) struct Answers {
     bytes: [u8; 4096],
@@ -36,7 +36,7 @@ impl Answers {
         }
     }
 
-    /// Adds one more answer. If it does not fit, all answers before it are written first.
+    /// Adds one more output line. If it does not fit, all lines before it are written first.
     pub(crate) fn put<W: Write>(
         &mut self,
         writer: &mut Gauge<W>,
@@ -58,7 +58,7 @@ impl Answers {
         Ok(())
     }
 
-    /// Writes all answers, and empties the list.
+    /// Writes all output lines, and empties the list.
     pub(crate) fn flush<W: Write>(&mut self, writer: &mut Gauge<W>) -> Result<(), RunError>
         requires { ¬ HasFailed writer.old }
         ensures all { OnOk result (Appends (W.contents writer.old.inner) (W.contents writer.new.inner) self.old) }
@@ -73,7 +73,7 @@ impl Answers {
         Ok(())
     }
 
-    /// Adds an answer for which there is room.
+    /// Adds an output line for which there is room.
     fn append(&mut self, line: &[u8])
         requires { length self.old + length line.now ≤ 4096 }
         ensures { self.new ≡ self.old ++ line.now }

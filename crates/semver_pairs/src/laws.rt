@@ -7,14 +7,14 @@ ghost use Rattle.semver_pairs.specs.declared.run_error.RunError.{RunError};
 
 use crate::run_error::RunError;
 
-/// The pairs of each input have exactly one list of answers. With the end of the input, it is the output for the input.
+/// The pairs of each input have exactly one output. With the end of the input, it is the output for the whole input.
 pub fn each_input_has_one_output()
     ensures exists { (is_end : Bool) (read : List ℕ) → HasAnswers (pairs_read is_end read) }
     ensures only { (is_end : Bool) (read : List ℕ) → HasOneAnswer (pairs_read is_end read) }
 {}
 
-/// The answers for the pairs that were completely read before the end are the beginning of the output for any longer
-/// input: no byte that follows, and no end, changes them.
+/// The output for the pairs that were completely read before the end is the beginning of the output for any longer
+/// input: no byte that follows, and no end, changes it.
 pub fn answers_stay_as_the_input_goes_on()
     ensures { (is_end : Bool) (read more written : List ℕ) → AreAnswers (pairs_read false read) written
         → BeginsAnswers (pairs_read is_end (read ++ more)) written }

@@ -1,4 +1,4 @@
-//! The answers for the bytes of one read, and for the bytes that are left at the end of the input.
+//! The output for the bytes of one read, and for the bytes that are left at the end of the input.
 ghost use Rattle.std.specs.Prelude.{◌≡◌, ◌≢◌, [], ◌++◌, MatchResult, IfOk, IfSome, IfNone, OnOk};
 ghost use Rattle.semver_pairs.specs.GaugeValue.{HasFailed};
 ghost use Rattle.semver_pairs.specs.Private.Answering.{AnswersAll, AnswersAllSome, AnswersPast, AnswersSome};
@@ -14,7 +14,7 @@ use crate::run_error::RunError;
 use std::alloc::Global;
 use std::io::Write;
 
-/// Adds the answers for the pairs that a piece of the input completes.
+/// Adds the output for the pairs that a piece of the input completes.
 pub(crate) fn answer_piece<W: Write>(
     alloc: Global,
     piece: &[u8],
@@ -42,7 +42,7 @@ pub(crate) fn answer_piece<W: Write>(
     kept.begin(rest)
 }
 
-/// Adds the answer for the open pair if the piece completes it, and returns the rest of the piece. If the pair stays
+/// Adds the output for the open pair if the piece completes it, and returns the rest of the piece. If the pair stays
 /// open, adds nothing.
 fn answer_open<'b, W: Write>(
     alloc: Global,
@@ -75,7 +75,7 @@ fn answer_open<'b, W: Write>(
     Ok(Some(rest))
 }
 
-/// Writes the answer for the last pair, after the end of the input was read.
+/// Writes the output for the last pair, after the end of the input was read.
 pub(crate) fn answer_last<W: Write>(
     alloc: Global,
     kept: &OpenPair,
@@ -98,7 +98,7 @@ pub(crate) fn answer_last<W: Write>(
     Ok(())
 }
 
-/// Adds the answer for the last pair, of which something was read.
+/// Adds the output for the last pair, of which something was read.
 fn add_last<W: Write>(
     alloc: Global,
     kept: &OpenPair,

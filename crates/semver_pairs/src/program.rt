@@ -30,9 +30,9 @@ use std::io::{Read, Write};
 /// - `Memory`: an allocation failed.
 /// - `Endless`: 18446744073709551615 reads returned bytes without reaching the end.
 ///
-/// What was written is then the beginning of the answers for the pairs that were completely read. A pair is completely
+/// The bytes written are then the beginning of the output for the pairs that were completely read. A pair is completely
 /// read as soon as the newline byte of its version line is read, or the end. A last line without a version line is, as
-/// soon as the end is read. After `Read`, all of these answers were written.
+/// soon as the end is read. After `Read`, all of this output was written.
 ///
 /// # Memory
 ///
@@ -50,14 +50,14 @@ pub fn run<R: Read, W: Write>(
     reader: &mut Gauge<R>,
     writer: &mut Gauge<W>,
 ) -> Result<(), RunError>
-    // What was read and what was written.
+    // The bytes that were read, and their output.
     ensures answered { OnOk result (Exchanges IsOutput (R.remaining reader.old.inner)
         (R.remaining reader.new.inner) (W.contents writer.old.inner) (W.contents writer.new.inner)) }
     ensures ended { OnOk result (HasEnded R.remaining reader.new) }
     ensures beginning { OnErr result (Exchanges (IsOutputPrefix (HasEnded R.remaining reader.new))
         (R.remaining reader.old.inner) (R.remaining reader.new.inner)
         (W.contents writer.old.inner) (W.contents writer.new.inner)) }
-    // After a failed read, no answer is missing.
+    // After a failed read, no output is missing.
     ensures complete { IsErrOf result RunError.Read → Exchanges IsOutputBeforeEnd
         (R.remaining reader.old.inner) (R.remaining reader.new.inner)
         (W.contents writer.old.inner) (W.contents writer.new.inner) }

@@ -44,7 +44,7 @@ const ROWS: &[(&[u8], &[u8])] = &[
     (b"1\n\xff\n", b"bad version\n"),
     (b"1\n1.0.0-\xc5", b"bad version\n"),
     (b"1\n1.0.0-\xc5\xa1\n", b"bad version\n"),
-    // More than one pair, and each kind of answer.
+    // More than one pair, and each kind of output.
     (PAIRS, b"yes\nbad range\nbad version\nmissing version\n"),
     (
         b"1\n1.0.0\n1\n2.0.0\n\n\n1\n1.0.0",
@@ -94,7 +94,7 @@ fn answers_each_pair_with_ample_memory(rt: HostRuntime) {
     }
 }
 
-/// The answers for the first bytes of the four pairs, if the input ends there.
+/// The output for the first bytes of the four pairs, if the input ends there.
 fn output_up_to(count: usize) -> &'static [u8] {
     match count {
         0 => b"",
@@ -111,7 +111,7 @@ fn output_up_to(count: usize) -> &'static [u8] {
     }
 }
 
-/// The answers for the pairs whose version line has its newline among these bytes.
+/// The output for the pairs whose version line has its newline among these bytes.
 fn answers_up_to(count: usize) -> &'static [u8] {
     match count {
         0..=22 => b"",
@@ -134,11 +134,11 @@ fn answers_what_was_read_up_to_any_end(rt: HostRuntime) {
     }
 }
 
-/// Returns `true` if the last of so many reads, after so many bytes, fails, and exactly the answers for the pairs that
-/// were completely read are written.
+/// Returns `true` if the last of so many reads, after so many bytes, fails, and exactly the output for the pairs that
+/// were completely read is written.
 fn stops_at_a_read(alloc: Global, most: usize, count: usize, reads: usize) -> bool {
     let outcome = outcome_of(alloc, PAIRS, (most, count), WHOLE);
-    // No answer is missing.
+    // No output is missing.
     let is_answered = outcome.text() == answers_up_to(count);
     is_answered && outcome.has_stopped_reading() && outcome.reads == reads
 }
@@ -184,7 +184,7 @@ fn stops_at_a_write_that_fails(rt: HostRuntime) {
 
 /// Inputs, how many bytes a read returns, and the number of writes.
 const WRITES: &[(&[u8], usize, usize)] = &[
-    // The answer for the last line is written after the end was read.
+    // The output for the last line is written after the end was read.
     (PAIRS, usize::MAX, 2),
     (b"", usize::MAX, 0),
     (PAIRS, 1, 4),
@@ -194,7 +194,7 @@ fn writes_made(alloc: Global, input: &[u8], most: usize) -> usize {
     outcome_of(alloc, input, (most, usize::MAX), WHOLE).writes
 }
 
-/// Returns `true` if the answer for the first pair is written before more is read: it has 23 bytes, so four reads of
+/// Returns `true` if the output for the first pair is written before more is read: it has 23 bytes, so four reads of
 /// seven, and no further one.
 fn answers_before_it_reads_on(alloc: Global) -> bool {
     let outcome = outcome_of(alloc, PAIRS, (7, usize::MAX), (usize::MAX, 0));

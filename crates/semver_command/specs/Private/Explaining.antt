@@ -32,7 +32,7 @@ pub record IsFoundRelease (sets : List (Ends VersionValue)) (IsOpen : VersionVal
   pub triple : HasSameTriple v r
   pub satisfies : RangeAdmits sets v
 
--- the release of what is open, or none of it satisfies the range
+-- the release of the open prereleases that satisfy the range, or `None` if none does
 abbrev pub IsFound : (sets : List (Ends VersionValue)) → (IsOpen : VersionValue → Type 0) → Option VersionValue → Type 0
 IsFound sets IsOpen None = (v : VersionValue) → IsOpen v → IsPrerelease v → ¬ RangeAdmits sets v
 IsFound sets IsOpen (Some r) = IsFoundRelease sets IsOpen r

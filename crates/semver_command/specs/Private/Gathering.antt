@@ -1,4 +1,4 @@
--- What is kept of the versions so far, and what was written of them.
+-- The versions that are kept so far, and the output so far.
 use Rattle.std.specs.Prelude.{◌≡◌, ◌≢◌, ℕ, List, [], ◌++◌, Bool, true, false, ⊤, Option, MatchOption}
 use Rattle.std.specs.Bool.{MatchBool}
 use Rattle.std.specs.Io.KnownBytes.{Appends, Consumes}
@@ -20,12 +20,12 @@ use Rattle.semver_command.specs.declared.kept.Kept.TheVariants as Kepts
 abbrev pub IsBest : (is_least : Bool) → List VersionValue → Option VersionValue → Type 0
 IsBest is_least versions best = MatchOption best (versions ≡ []) (IsBestOf is_least versions)
 
--- what was written of these versions: with all later versions it is the text of all
+-- the output for these versions: with the text of all later versions it is the text of all
 abbrev pub IsBegun : (is_json is_first : Bool) → List VersionValue → (written : List ℕ) → Type 0
 IsBegun is_json is_first versions written = (later : List VersionValue)
     → written ++ items_text is_json is_first later ≡ listed_text is_json (versions ++ later)
 
--- what is kept, and was written, of these versions
+-- the value that is kept for these versions, and their output
 abbrev pub IsKept : Listing → (is_json : Bool) → List VersionValue → Kept → (written : List ℕ) → Type 0
 IsKept listing is_json versions (Kepts.All list) written =
     (listing ≡ Listings.Ordered) × (list.items ≡ versions) × (written ≡ [])
@@ -36,7 +36,7 @@ IsKept listing is_json versions (Kepts.Greatest best) written =
 IsKept listing is_json versions (Kepts.Written is_first) written = (listing ≡ Listings.Unsorted)
     × IsBegun is_json is_first versions written × MatchBool is_first (versions ≡ []) (versions ≢ [])
 
--- these versions were added to what is kept, and to what is written
+-- these versions were added to the kept ones, and to the output
 pub record Adds (is_json : Bool) (added : List VersionValue) (kept kept_new : Kept)
     (contents contents_new : Option (List ℕ)) : Type 0 where
   pub written : List ℕ
@@ -59,7 +59,7 @@ pub record GathersLines (options : Options) (IsSuch : VersionValue → Type 0) (
   pub divided : AreLines input lines
   pub gathered : Gathers options IsSuch lines kept kept_new contents contents_new
 
--- the versions of the texts that these words stand for were added
+-- the versions in the texts of these words were added
 pub record GathersTexts (options : Options) (IsSuch : VersionValue → Type 0) (words : List (List ℕ))
     (remaining remaining_new : Option (List ℕ)) (kept kept_new : Kept) (contents contents_new : Option (List ℕ))
     : Type 0 where
@@ -69,7 +69,7 @@ pub record GathersTexts (options : Options) (IsSuch : VersionValue → Type 0) (
   pub placed : AreTexts words remaining input texts
   pub gathered : Gathers options IsSuch texts kept kept_new contents contents_new
 
--- all that is kept, and was written, of the texts that these words stand for
+-- all that is kept and written for the texts of these words
 pub record HasGathered (options : Options) (listing : Listing) (IsSuch : VersionValue → Type 0)
     (words : List (List ℕ)) (remaining remaining_new : Option (List ℕ)) (kept : Kept)
     (contents contents_new : Option (List ℕ)) : Type 0 where
@@ -83,7 +83,7 @@ pub record HasGathered (options : Options) (listing : Listing) (IsSuch : Version
   pub put : Appends contents contents_new written
   pub is_kept : IsKept listing options.json versions kept written
 
--- of these versions, those that are listed were written, after what was written before
+-- of these versions, those that are listed were written, after the output before
 pub record IsListed (options : Options) (versions : List VersionValue) (before : List ℕ)
     (contents contents_new : Option (List ℕ)) (ending : Ending) : Type 0 where
   pub listed : List VersionValue
@@ -93,7 +93,7 @@ pub record IsListed (options : Options) (versions : List VersionValue) (before :
   pub whole : before ++ written ≡ listed_text options.json listed
   pub ending_is : ending ≡ ending_of listed
 
--- what is asked for was written
+-- the output of the request was written
 pub record IsAnswered (asked : AskedValue) (remaining remaining_new contents contents_new : Option (List ℕ))
     (ending : Ending) : Type 0 where
   pub input : List ℕ

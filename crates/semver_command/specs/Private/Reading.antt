@@ -5,7 +5,7 @@ use Rattle.semver_command.specs.Input.{HasNoNewline, IsWhole}
 use Rattle.semver_command.specs.declared.input_line.InputLine.{InputLine}
 use Rattle.semver_command.specs.declared.input_line.InputLine.TheVariants as InputLines
 
--- what was read: a line and its newline byte, a last line without one, or the end
+-- the result of a read: a line and its newline byte, a last line without one, or the end
 abbrev pub IsLineRead : InputLine → (line : List ℕ) → (remaining remaining_new : Option (List ℕ)) → Type 0
 IsLineRead InputLines.Ended line remaining remaining_new =
     HasNoNewline line × Consumes remaining remaining_new (line ++ (10 ∷ []))

@@ -1,4 +1,4 @@
--- How the answers for some pairs follow those for others.
+-- How the output for a list of pairs is put together.
 use Rattle.std.specs.Prelude.{◌≡◌, ◌↔◌, ℕ, List, [], ◌∷◌, ◌++◌, Bool, true, Option, Result, Ok, Err}
 use Rattle.std.specs.Io.KnownBytes.{Appends}
 use Rattle.std.specs.Str.Lines.{strip_carriage_return}
@@ -15,17 +15,17 @@ use Rattle.semver_versions.specs.ErrorLocation.{newline}
 abbrev pub IsReadRange : (line : List ℕ) → (Admits : VersionValue → Type 0) → Type 0
 IsReadRange line Admits = IsGoodRange line × ((v : VersionValue) → Admits v ↔ TextAdmits line v)
 
--- the line is an answer for a range line and a version line, and a newline byte
+-- the line is the output for a range line and a version line, with its newline byte
 abbrev pub IsAnswerLine : (range version line : List ℕ) → Type 0
 IsAnswerLine range version line = (answer : List ℕ) × IsAnswer range version answer × (line ≡ answer ++ (newline ∷ []))
 
--- The answers for the pairs in the bytes before the rest. If the answers for the rest and whatever follows it are
--- added, the result is the answers for all of the bytes and whatever follows.
+-- The output for the pairs in the bytes before the rest. If the output for the rest and whatever follows it is added,
+-- the result is the output for all of the bytes and whatever follows.
 pub record AnswersUpTo (bytes rest added : List ℕ) : Type 0 where
   pub go_on : (is_end : Bool) (later more : List ℕ) → AreAnswers (pairs_read is_end (rest ++ later)) more
       → AreAnswers (pairs_read is_end (bytes ++ later)) (added ++ more)
 
--- The answer for an ended range line and a version line, followed by the answers for the pairs in the bytes before the
+-- The output for an ended range line and a version line, followed by the output for the pairs in the bytes before the
 -- rest.
 pub record AnswersFrom (range version bytes rest added : List ℕ) : Type 0 where
   pub first : List ℕ
@@ -34,59 +34,59 @@ pub record AnswersFrom (range version bytes rest added : List ℕ) : Type 0 wher
   pub later : AnswersUpTo bytes rest others
   pub both : added ≡ first ++ others
 
--- Answers were added to those that are still to be written. Some of all these were written, and the others are left.
+-- Output was added to the output that waits. The first part of the two together was written, and the other is left.
 pub record Moves (contents contents_new : Option (List ℕ)) (waiting added left : List ℕ) : Type 0 where
   pub written : List ℕ
   pub put : Appends contents contents_new written
   pub all : waiting ++ added ≡ written ++ left
 
--- The answers for the pairs in the bytes before the rest were added.
+-- The output for the pairs in the bytes before the rest was added.
 pub record AnswersPast (bytes rest : List ℕ) (contents contents_new : Option (List ℕ)) (waiting left : List ℕ) : Type 0
   where
     pub added : List ℕ
     pub answers : AnswersUpTo bytes rest added
     pub moves : Moves contents contents_new waiting added left
 
--- The same for some rest and some answers left.
+-- The same for some rest and some output left.
 pub record AnswersSome (bytes : List ℕ) (contents contents_new : Option (List ℕ)) (waiting : List ℕ) : Type 0 where
   pub rest : List ℕ
   pub left : List ℕ
   pub past : AnswersPast bytes rest contents contents_new waiting left
 
--- The answers from a range line on were added.
+-- The output from a range line on was added.
 pub record AnswersRange (range version bytes rest : List ℕ) (contents contents_new : Option (List ℕ))
     (waiting left : List ℕ) : Type 0 where
   pub added : List ℕ
   pub answers : AnswersFrom range version bytes rest added
   pub moves : Moves contents contents_new waiting added left
 
--- The same for some rest and some answers left.
+-- The same for some rest and some output left.
 pub record AnswersRangeSome (range version bytes : List ℕ) (contents contents_new : Option (List ℕ))
     (waiting : List ℕ) : Type 0 where
   pub rest : List ℕ
   pub left : List ℕ
   pub past : AnswersRange range version bytes rest contents contents_new waiting left
 
--- The answer for one pair, after which nothing follows, was added.
+-- The output for one pair, after which nothing follows, was added.
 pub record AnswersOne (range version : List ℕ) (contents contents_new : Option (List ℕ))
     (waiting left : List ℕ) : Type 0 where
   pub line : List ℕ
   pub answer : IsAnswerLine (strip_carriage_return range) version line
   pub moves : Moves contents contents_new waiting line left
 
--- The same for some answers left.
+-- The same for some output left.
 pub record AnswersOneSome (range version : List ℕ) (contents contents_new : Option (List ℕ))
     (waiting : List ℕ) : Type 0 where
   pub left : List ℕ
   pub one : AnswersOne range version contents contents_new waiting left
 
--- The answers for all pairs at the end of the input were added.
+-- The output for all pairs at the end of the input was added.
 pub record AnswersAll (bytes : List ℕ) (contents contents_new : Option (List ℕ)) (waiting left : List ℕ) : Type 0 where
   pub added : List ℕ
   pub answers : AreAnswers (pairs_read true bytes) added
   pub moves : Moves contents contents_new waiting added left
 
--- The same for some answers left.
+-- The same for some output left.
 pub record AnswersAllSome (bytes : List ℕ) (contents contents_new : Option (List ℕ)) (waiting : List ℕ) : Type 0 where
   pub left : List ℕ
   pub all : AnswersAll bytes contents contents_new waiting left

@@ -108,7 +108,7 @@ fn ends_lines_anywhere_around_the_end_of_a_read(rt: HostRuntime) {
     }
 }
 
-/// Returns `true` if so many pairs with a bad range get their answers in so many writes.
+/// Returns `true` if the output for so many pairs with a bad range is written in so many writes.
 fn bad_ranges_give(alloc: Global, pairs: usize, writes: usize) -> bool {
     match &repeated(alloc, b"", b"\n\n", pairs, b"") {
         Ok(input) => {
@@ -127,7 +127,7 @@ fn says_bad_ranges(alloc: Global, outcome: &Outcome, pairs: usize) -> bool {
     }
 }
 
-/// The number of pairs with a bad range, and the number of writes for their answers.
+/// The number of pairs with a bad range, and the number of writes for their output.
 const BAD_RANGES: &[(usize, usize)] = &[(409, 1), (410, 2), (1_000, 3)];
 
 #[test]

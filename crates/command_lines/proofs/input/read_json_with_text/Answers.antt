@@ -10,7 +10,7 @@ use Rattle.command_lines.specs.declared.input_error.InputError.{InputError}
 use Rattle.command_lines.specs.declared.input_error.InputError.TheVariants.{Memory, NoJson}
 use Rattle.command_lines.proofs.input.read_json_with_text.Goals as goal
 
--- what was read is not empty
+-- a text with a byte is not empty
 not_empty : (text : List ℕ) → 0 < length text → text ≢ []
 not_empty [] small = absurd (omega (arith, small))
 not_empty (byte ∷ text) small = λ is. cc is

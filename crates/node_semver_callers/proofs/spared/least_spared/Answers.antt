@@ -1,4 +1,4 @@
--- Of what is admitted beyond the union, or of all that is admitted if the advisory has no ranges.
+-- The least version admitted beyond the union, or the least one admitted if the advisory has no ranges.
 use Rattle.std.proofs.Common.{rules}
 use Rattle.node_semver_callers.proofs.UnionHits.{all-spared, beyond-spared, hits-some, least-spared}
 use Rattle.node_semver_callers.proofs.UnionHits.{none-spared}

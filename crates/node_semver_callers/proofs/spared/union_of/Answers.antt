@@ -1,4 +1,4 @@
--- Each step adds what one range more admits.
+-- Each step adds the versions of one more range.
 use Rattle.semver_cuts.specs.SpanLists.{IsInSome}
 use Rattle.node_semver.specs.Versions.{version_cmp}
 use Rattle.node_semver.specs.Ranges.{RangeAdmits}

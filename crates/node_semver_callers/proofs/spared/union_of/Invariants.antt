@@ -1,4 +1,4 @@
--- The union admits what one of the ranges so far admits, and has its cuts.
+-- The union admits the versions of each range so far, and has its cuts.
 use Rattle.std.proofs.Common.{suc, take}
 use Rattle.semver_cuts.specs.declared.cut.Cut.{Cut}
 use Rattle.semver_cuts.specs.SpanLists.{IsInSome}

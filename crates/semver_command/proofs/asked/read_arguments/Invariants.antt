@@ -1,4 +1,4 @@
--- What is asked for so far, and by the words that are left, is what all words ask for.
+-- The request so far, with the words that are left, is the request of all words.
 use Rattle.std.proofs.Common.{map, string_bytes}
 use Rattle.semver_command.specs.Arguments.{words_value}
 use Rattle.semver_command.specs.Asked.{AskedValue, IsAsked, IsAskedAfter, asked_value}

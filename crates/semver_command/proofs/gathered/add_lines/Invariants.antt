@@ -1,4 +1,4 @@
--- What the lines that are left add is added to what was added before.
+-- The lines that are left are added after those before.
 use Rattle.std.specs.Io.Buffered.{reader_remaining}
 use Rattle.semver_command.specs.Ranges.{IsInAll}
 use Rattle.semver_command.proofs.Gathering.{LinesLeft}

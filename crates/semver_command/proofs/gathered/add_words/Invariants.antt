@@ -1,4 +1,4 @@
--- What the words that are left add is added to what was added before.
+-- The words that are left are added after those before.
 use Rattle.semver_command.specs.Ranges.{IsInAll}
 use Rattle.semver_command.proofs.Gathering.{WordsLeft}
 use Rattle.semver_command.proofs.gathered.add_words.Given as goal

@@ -1,4 +1,4 @@
--- The answers so far are those to the pairs before the rest; some of them are written and the others wait.
+-- The output so far is for the pairs before the rest; a part of it is written, and the other part waits.
 use Rattle.std.proofs.Common.{IsTrue}
 use Rattle.std.specs.Str.{IsAscii}
 use Rattle.std.proofs.Common.{length}

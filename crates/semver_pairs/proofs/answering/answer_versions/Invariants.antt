@@ -1,5 +1,5 @@
--- The answers so far, and those from here on, are the answers from the first pair on; of those so far some are written
--- and the others wait.
+-- The output so far, and then the output from here on, is the output from the first pair on; a part of the output so
+-- far is written, and the other part waits.
 use Rattle.std.proofs.Common.{◌≤◌, length, IsTrue}
 use Rattle.std.specs.Str.{IsAscii}
 use Rattle.semver_pairs.specs.GaugeValue.{HasFailed}

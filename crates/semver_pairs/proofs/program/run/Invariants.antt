@@ -1,4 +1,4 @@
--- What was read and written goes together, at least one byte a read, no answer waits, and nothing has failed.
+-- All output for the complete pairs is written, each read returned at least one byte, and nothing has failed.
 use Rattle.std.proofs.Common.{◌≡◌, []}
 use Rattle.semver_pairs.specs.GaugeValue.{HasFailed}
 use Rattle.semver_pairs.specs.Private.OpenPair.{IsOpen}

@@ -1,4 +1,4 @@
--- What stands before `at` was written, and no write has failed.
+-- The bytes before `at` were written, and no write has failed.
 use Rattle.std.proofs.Common.{◌-◌, ◌≤◌, length, take}
 use Rattle.std.specs.Io.KnownBytes.{Appends}
 use Rattle.semver_pairs.specs.GaugeValue.{HasFailed}

@@ -54,25 +54,24 @@ hit_draft found = record {
   paths = package_paths found.folder;
 }
 
--- a dependency that is not checked, at the dependency
-abbrev pub unchecked_draft : UncheckedValue → DraftValue
-unchecked_draft unchecked = record {
+-- a note
+abbrev pub note_draft : (message : List ℕ) → (paths : List (List (List ℕ))) → DraftValue
+note_draft message paths = record {
   rule = codes "unchecked";
   rule_index = unchecked_place;
   level = Note;
-  message = unchecked_sentence unchecked;
-  paths = dependency_paths unchecked.dependency.from unchecked.dependency.name;
+  message = message;
+  paths = paths;
 }
+
+-- a dependency that is not checked, at the dependency
+abbrev pub unchecked_draft : UncheckedValue → DraftValue
+unchecked_draft unchecked = note_draft (unchecked_sentence unchecked)
+    (dependency_paths unchecked.dependency.from unchecked.dependency.name)
 
 -- the manifest in this folder that was not read, at the package in the folder
 abbrev pub unread_draft : (folder : List ℕ) → DraftValue
-unread_draft folder = record {
-  rule = codes "unchecked";
-  rule_index = unchecked_place;
-  level = Note;
-  message = unread_sentence folder;
-  paths = package_paths folder;
-}
+unread_draft folder = note_draft (unread_sentence folder) (package_paths folder)
 
 -- the dependencies that are not checked and then the manifests that were not read, if they are listed
 abbrev pub listed_drafts : Report → List DraftValue

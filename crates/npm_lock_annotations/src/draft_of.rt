@@ -1,14 +1,17 @@
 //! One finding without its place.
-ghost use Rattle.std.specs.Prelude.{◌≡◌, IfOk};
+ghost use Rattle.std.specs.Prelude.{◌≡◌, IfOk, map};
 ghost use Rattle.json_findings.specs.Drafts.{draft_value};
 ghost use Rattle.npm_advisories.specs.Audit.{found_value};
 ghost use Rattle.npm_lock.specs.Outcomes.{problem_value, unchecked_value};
 ghost use Rattle.npm_lock_reports.specs.Report.{folder_text};
 ghost use Rattle.npm_manifests.specs.Mismatches.{mismatch_value};
-ghost use Rattle.npm_lock_annotations.specs.Findings.{hit_draft, mismatch_draft, problem_draft, unchecked_draft, unread_draft};
+ghost use Rattle.npm_lock_annotations.specs.Findings.{hit_draft, mismatch_draft, names_seen, note_draft, problem_draft};
+ghost use Rattle.npm_lock_annotations.specs.Findings.{unchecked_draft, unread_draft};
 
 use crate::paths::{dependency_paths, mismatch_paths, package_paths, problem_paths};
-use crate::rules::{ADVISORY_PLACE, MISMATCH_PLACE, UNCHECKED_PLACE, mismatch_level, rule_of, rule_place};
+use crate::rules::{
+    ADVISORY_PLACE, MISMATCH_PLACE, UNCHECKED_PLACE, mismatch_level, rule_of, rule_place,
+};
 use annotations::Level;
 use json_findings::Draft;
 use npm_advisories::Found;
@@ -64,10 +67,7 @@ pub fn mismatched<'a>(
 }
 
 /// Returns the draft of a package that an advisory hits.
-pub fn hit<'a>(
-    alloc: Global,
-    found: &'a Found<'_, '_>,
-) -> Result<Draft<'static, 'a>, AllocError>
+pub fn hit<'a>(alloc: Global, found: &'a Found<'_, '_>) -> Result<Draft<'static, 'a>, AllocError>
     ensures { IfOk result (λ draft. draft_value draft ≡ hit_draft (found_value found.now)) }
 {
     let mut message = Vec::new(alloc);
@@ -92,29 +92,27 @@ pub fn unchecked<'a>(
     push_unchecked_sentence(&mut message, unchecked)?;
     let folder = unchecked.dependency.from.as_str();
     let name = unchecked.dependency.name.as_str();
-    Ok(Draft {
-        rule: "unchecked",
-        rule_index: UNCHECKED_PLACE,
-        level: Level::Note,
-        message,
-        paths: dependency_paths(alloc, folder, name)?,
-    })
+    Ok(noted(message, dependency_paths(alloc, folder, name)?))
 }
 
 /// Returns the draft of a manifest that was not read.
-pub fn unread<'a>(
-    alloc: Global,
-    folder: &'a FolderName,
-) -> Result<Draft<'static, 'a>, AllocError>
+pub fn unread<'a>(alloc: Global, folder: &'a FolderName) -> Result<Draft<'static, 'a>, AllocError>
     ensures { IfOk result (λ draft. draft_value draft ≡ unread_draft (folder_text folder.now)) }
 {
     let mut message = Vec::new(alloc);
     push_unread_sentence(&mut message, folder)?;
-    Ok(Draft {
+    Ok(noted(message, package_paths(alloc, folder.text.as_str())?))
+}
+
+/// Returns the draft of a note.
+fn noted<'a>(message: Vec<u8>, paths: Vec<Vec<&'a str>>) -> Draft<'static, 'a>
+    ensures { draft_value result ≡ note_draft message.items (map names_seen paths.items) }
+{
+    Draft {
         rule: "unchecked",
         rule_index: UNCHECKED_PLACE,
         level: Level::Note,
         message,
-        paths: package_paths(alloc, folder.text.as_str())?,
-    })
+        paths,
+    }
 }

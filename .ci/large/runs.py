@@ -12,6 +12,7 @@ VERDICTS = {
     "engine": " does not satisfy ",
     "peer local": " is installed inside the package that has it as a peer: ",
 }
+DEEP = 60  # So many packages are inside one another: a text nests at most 128 deep.
 REASONS = {
     "tag": ": a tag",
     "location": ": a URL, a repository, a file or a folder",
@@ -159,10 +160,39 @@ def manifest_runs():
     yield Run(lock, ["--format", "json", "--exact"], list(map(text_of, found)), counts, {"manifest": root}, manifests)
 
 
+class RefusedRun(Run):
+    """A run of npm_lock_check that refuses its input. With a line and a column it writes an annotation too."""
+
+    def __init__(self, lock, words, says, place=None):
+        super().__init__(lock, words, [], f"npm_lock_check: standard input: {says}")
+        self.status = 2
+        if place:
+            self.output = f"::error file=-,line={place[0]},col={place[1]}::{says}\n"
+
+
+def refused_runs():
+    """A fault in the last of many packages, and in the innermost of packages that are each inside the one before."""
+    many = lock_of({}, at_root("1.0.0"))
+    many["packages"]["z"] = {"dependencies": {"a": "1", "last": 1}}
+    names = ["packages", "z", "dependencies", "last"]
+    faults = [(many, "a dependency of a package is no string", names)]
+    deep, names = {"version": "1.0.0", "requires": 1}, ["requires"]
+    for _ in range(DEEP):
+        deep, names = {"version": "1.0.0", "dependencies": {"a": deep}}, ["dependencies", "a", *names]
+    faults.append(({"lockfileVersion": 1, **deep}, "the dependencies of a package are no object", names))
+    for lock, fault, names in faults:
+        column = text_of(lock).index(f'"{names[-1]}":') + 1
+        path = ", ".join(f'"{name}"' for name in names)
+        says = f"the input is no lock file that is read here: {fault}: {path} (line 1, column {column})"
+        yield RefusedRun(lock, [], says)
+        yield RefusedRun(lock, ["--format", "github"], says, (1, column))
+
+
 def lock_runs():
     yield from check_runs()
     yield from audit_runs()
     yield from manifest_runs()
+    yield from refused_runs()
 
 
 def pair_runs():

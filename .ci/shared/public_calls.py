@@ -15,7 +15,8 @@ SCRIPTS = {"memory_trials": "makes the calls", "node_semver_callers": "examples"
            "json_places": "runs with --format github and sarif", "annotations": "runs with --format github and sarif",
            "json_findings": "runs with --format github and sarif",
            "npm_lock_annotations": "runs with --format github and sarif, with each kind of finding",
-           "command_lines": "all runs", "npm_lock_sentences": "runs with --format text", "npm_lock_reports": "all runs"}
+           "command_lines": "all runs", "npm_lock_sentences": "runs with --format text",
+           "npm_lock_faults": "runs on lock files and manifests with faults", "npm_lock_reports": "all runs"}
 
 # A function, and the call that makes it.
 THROUGH = {

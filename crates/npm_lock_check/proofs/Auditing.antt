@@ -1,5 +1,5 @@
 -- Why advisories are not looked up, and what is counted.
-use Rattle.std.proofs.Common.{◌≡◌, ◌∙◌, List, None, Option, Some, inl, inr, is_some, length, map, option_map, refl, sym}
+use Rattle.std.proofs.Common.{◌≡◌, ◌∙◌, ℕ, List, None, Option, Some, ap, inl, inr, is_some, length, map, option_map, refl}
 use Rattle.std.proofs.lemmas.List.{length-map}
 use Rattle.serde_json.specs.Data.{Data}
 use Rattle.npm_advisories.specs.Faults.{FaultValue}
@@ -18,26 +18,24 @@ pub refused_as : (checked file : Data) (advisories : Option Data) (fault : Fault
     → IsAuditRefused checked advisories error
 refused_as checked file advisories fault error is told (inl (name, same, text)) =
     inl (fault.kind, name, fault.place, same, (file, is, rw text told))
-refused_as checked file advisories fault error is told (inr memory) = inr (inr memory)
+refused_as checked file advisories fault error is told (inr memory) = inr (λ none. memory)
 
--- what is checked has the fault of the lock file
-module _ (lock placed checked : Data) (linked : List LinkedValue) (wanted : WantedValue) (error : RunError)
-    (is : checked ≡ converted placed wanted.manifest)
-    (sound : lock_fault (converted placed wanted.manifest) ≡ any_fault placed wanted.manifest) where
-  same_refused : IsCheckRefused checked error → IsLockRefused placed wanted.manifest error
-  same_refused (inl (fault, same, told)) = inl (fault, same, sym sound ∙ rw is at told)
-  same_refused (inr memory) = inr memory
+-- what is checked has no fault, so memory ran out
+module _ (text : List ℕ) (lock placed checked : Data) (linked : List LinkedValue) (wanted : WantedValue)
+    (error : RunError) (is : checked ≡ converted placed wanted.manifest)
+    (sound : lock_fault (converted placed wanted.manifest) ≡ any_fault placed wanted.manifest)
+    (none : any_fault placed wanted.manifest ≡ None) where
+  pub refused_check : IsCheckRefused checked error → IsRefused text lock placed linked wanted error
+  refused_check told = inr (inr (inr (told (ap lock_fault is ∙ sound ∙ none))))
 
-  pub refused_check : IsCheckRefused checked error → IsRefused lock placed linked wanted error
-  refused_check told = inr (inr (same_refused told))
-
-  pub refused_audit : IsAuditRefused checked wanted.advisories error → IsRefused lock placed linked wanted error
+  pub refused_audit : IsAuditRefused checked wanted.advisories error → IsRefused text lock placed linked wanted error
   refused_audit (inl told) = inr (inl (rw is at told))
   refused_audit (inr told) = refused_check told
 
-pub refused_lock : (lock placed : Data) (linked : List LinkedValue) (wanted : WantedValue) (error : RunError)
-    → IsLockRefused placed wanted.manifest error → IsRefused lock placed linked wanted error
-refused_lock lock placed linked wanted error told = inr (inr told)
+pub refused_lock : (text : List ℕ) (lock placed : Data) (linked : List LinkedValue) (wanted : WantedValue)
+    (error : RunError) → IsLockRefused text placed wanted.manifest error
+    → IsRefused text lock placed linked wanted error
+refused_lock text lock placed linked wanted error told = inr (inr told)
 
 -- what is seen of a value is there where the value is, and of a list it has the same length
 pub some_same : {A B : Type 0} (f : A → B) (value : Option A) → is_some value ≡ is_some (option_map f value)

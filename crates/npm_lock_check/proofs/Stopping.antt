@@ -48,13 +48,14 @@ later remaining old new lock input = record {
 
 module _ {R : Type 0} (remaining : R → Option (List ℕ)) (old new : WatchedValue R)
     (Gives : Value → Result Loaded LoadError → Type 0) (wanted : WantedValue) (lock : Value)
-    (loaded : LoadedValue) (input : IsInput remaining old new (view lock))
+    (text : List ℕ) (loaded : LoadedValue) (input : IsInputText remaining old new text (view lock))
     (given : AreLoaded Gives lock wanted.manifest loaded) where
   -- a value has a fault
-  faulty : (error : RunError) → IsRefusedAs (view lock) loaded.linked wanted error
+  faulty : (error : RunError) → IsRefusedAs text (view lock) loaded.linked wanted error
       → IsStopped remaining Gives wanted old new (Check error)
   faulty error told = inr (record {
     lock = lock;
+    lock_text = text;
     loaded = loaded;
     input = input;
     given = given;
@@ -63,11 +64,11 @@ module _ {R : Type 0} (remaining : R → Option (List ℕ)) (old new : WatchedVa
 
   -- memory ran out in the check
   out : (error : RunError) → error ≡ Memory → IsStopped remaining Gives wanted old new (Check error)
-  out error is = rw is (inl (later remaining old new (view lock) input))
+  out error is = rw is (inl (later remaining old new (view lock) (input_of remaining old new text (view lock) input)))
 
   -- a value was refused, or memory ran out in the check
   pub refused : (error : RunError)
-      → IsRefused (view lock) (placed (view lock) (manifests_of wanted.manifest loaded.linked)) loaded.linked wanted
+      → IsRefused text (view lock) (placed (view lock) (manifests_of wanted.manifest loaded.linked)) loaded.linked wanted
       error
       → IsStopped remaining Gives wanted old new (Check error)
   refused error (inl (inl (fault, is, told))) = rw is (faulty (NoManifest fault) told)
@@ -78,14 +79,14 @@ module _ {R : Type 0} (remaining : R → Option (List ℕ)) (old new : WatchedVa
   refused error (inr (inr (inr is))) = out error is
 
 -- the check writes nothing, so no write of it fails
-pub unwritten : (lock placed : Data) (linked : List LinkedValue) (wanted : WantedValue)
-    → ¬ IsRefused lock placed linked wanted Write
-unwritten lock placed linked wanted (inl (inl told)) = cc told.1
-unwritten lock placed linked wanted (inl (inr (inl told))) = cc told.2
-unwritten lock placed linked wanted (inl (inr (inr is))) = cc is
-unwritten lock placed linked wanted (inr (inl told)) = cc told.3
-unwritten lock placed linked wanted (inr (inr (inl told))) = cc told.1
-unwritten lock placed linked wanted (inr (inr (inr is))) = cc is
+pub unwritten : (text : List ℕ) (lock placed : Data) (linked : List LinkedValue) (wanted : WantedValue)
+    → ¬ IsRefused text lock placed linked wanted Write
+unwritten text lock placed linked wanted (inl (inl told)) = cc told.1
+unwritten text lock placed linked wanted (inl (inr (inl told))) = cc told.2
+unwritten text lock placed linked wanted (inl (inr (inr is))) = cc is
+unwritten text lock placed linked wanted (inr (inl told)) = cc told.3
+unwritten text lock placed linked wanted (inr (inr (inl told))) = cc told.1
+unwritten text lock placed linked wanted (inr (inr (inr is))) = cc is
 
 -- what holds of an error holds where the error is passed on
 pub passed_on : {T E : Type 0} (result : Result T E) (P Q : E → Type 0) → IsErrAnd result P

@@ -9,6 +9,7 @@ pub mod Linked  -- the manifests of workspaces, and the workspaces on disk
 pub mod Report  -- what is found out about a lock file
 pub mod Written  -- what is written about it
 pub mod Subjects  -- the input that an error is about
+pub mod Spots  -- where in its file an error is
 pub mod Output  -- what is read, and why nothing is written for it
 -- ---- not part of any public contract: what private functions compute
 pub mod Private

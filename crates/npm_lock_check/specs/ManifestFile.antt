@@ -1,7 +1,12 @@
 -- Where the manifest of a workspace is, beside that of the root, and why it was not read.
-use Rattle.std.specs.Prelude.{◌≡◌, ◌≢◌, ◌⊎◌, ◌++◌, ℕ, List, Result, Ok, Err, codes, string_bytes}
+use Rattle.std.specs.Prelude.{◌≡◌, ◌≢◌, ◌⊎◌, ◌++◌, ℕ, List, Option, Result, Ok, Err, codes, string_bytes}
 use Rattle.std.specs.declared.io.ErrorKind.{ErrorKind}
 use Rattle.std.specs.declared.io.ErrorKind.TheVariants.{NotFound}
+use Rattle.serde_json.specs.Data.{Data}
+use Rattle.command_lines.specs.Inputs.{IsInputText}
+use Rattle.command_lines.specs.WatchedValue.{WatchedValue}
+use Rattle.npm_lock_faults.specs.FaultPlaces.{IsManifestFaultPlace, fault_place_value}
+use Rattle.npm_lock_faults.specs.declared.fault_place.FaultPlace.{FaultPlace}
 use Rattle.npm_lock_reports.specs.declared.folder_name.FolderName.{FolderName}
 use Rattle.npm_lock_check.specs.declared.linked.Found.{Found}
 use Rattle.npm_lock_check.specs.declared.linked.Found.TheVariants.{Nothing}
@@ -21,6 +26,14 @@ pub data IsFolderOf (path : List ℕ) : (folder : List ℕ) → Type 0 where
 -- the manifest of the package in a folder, which is inside another
 abbrev pub path_of : (outer folder : List ℕ) → List ℕ
 path_of outer folder = outer ++ (codes "/" ++ (folder ++ codes "/package.json"))
+
+-- a manifest was read, and it has a fault at this place of its text
+pub record IsFaultyInput {R : Type 0} (remaining : R → Option (List ℕ)) (old new : WatchedValue R) (found : FaultPlace)
+    : Type 0 where
+  pub manifest : Data
+  pub text : List ℕ
+  pub input : IsInputText remaining old new text manifest
+  pub place : IsManifestFaultPlace text manifest (fault_place_value found)
 
 -- the error of a file in this folder that was not opened
 abbrev pub IsNotOpened : (folder : List ℕ) → LoadError → Type 0

@@ -7,6 +7,8 @@ use Rattle.serde_json.specs.View.{view}
 use Rattle.serde_json.specs.declared.value.Value.{Value}
 use Rattle.npm_manifests.specs.Mismatches.{manifest_fault}
 use Rattle.npm_lock_version_one.specs.VersionOne.{any_fault}
+use Rattle.npm_lock_faults.specs.FaultPlaces.{IsLockFaultPlace, fault_place_value}
+use Rattle.npm_lock_faults.specs.declared.fault_place.FaultPlace.{FaultPlace}
 use Rattle.npm_packages.specs.declared.fault.Fault.{Fault}
 use Rattle.npm_advisories.specs.Audit.{FoundValue}
 use Rattle.npm_advisories.specs.LockFaults.{IsFileFaultBeside}
@@ -18,7 +20,7 @@ use Rattle.command_lines.specs.WatchedValue.{WatchedValue}
 use Rattle.npm_lock_check.specs.Report.{AreLoaded, IsNotLoaded, IsReportOf, WantedValue, has_packages, manifests_of}
 use Rattle.npm_lock_check.specs.Report.{checked_lock, placed}
 use Rattle.npm_lock_reports.specs.declared.folder_name.FolderName.{FolderName}
-use Rattle.npm_lock_check.specs.Written.{IsWritten, has_places}
+use Rattle.npm_lock_check.specs.Written.{IsWritten}
 use Rattle.npm_lock_check.specs.declared.linked.Loaded.{Loaded}
 use Rattle.npm_lock_check.specs.declared.list_name.ListName.{ListName}
 use Rattle.npm_lock_reports.specs.declared.report.Report.{Report}
@@ -30,19 +32,17 @@ use Rattle.npm_lock_check.specs.declared.run_error.StopError.{StopError}
 use Rattle.npm_lock_check.specs.declared.run_error.StopError.TheVariants.{Advisories, Check, Load, Manifest}
 
 -- a lock file was read, and the manifests of linked folders were loaded, and this is the report of all, and what is
--- written of it; the text of the lock file counts for a format with places alone
+-- written of it
 pub record IsReported {R : Type 0} (remaining : R → Option (List ℕ)) (old new : WatchedValue R)
     (Gives : Value → Result Loaded LoadError → Type 0) (wanted : WantedValue) (report : Report)
     (found : List FoundValue) (text : List ℕ) : Type 0 where
   pub lock : Value
   pub lock_text : List ℕ
-  pub kept : List ℕ
   pub loaded : LoadedValue
   pub input : IsInputText remaining old new lock_text (view lock)
   pub given : AreLoaded Gives lock wanted.manifest loaded
   pub report_of : IsReportOf (view lock) loaded wanted report found
-  pub is_kept : has_places wanted.format ≡ true → kept ≡ lock_text
-  pub written : IsWritten wanted kept report found text
+  pub written : IsWritten wanted lock_text report found text
 
 -- ---- why nothing was written
 
@@ -67,9 +67,10 @@ linked_fault (one ∷ others) = option_or
 abbrev pub IsNoLinked : List LinkedValue → FolderName → Fault → Type 0
 IsNoLinked linked name fault = linked_fault linked ≡ Some (record { folder = string_bytes name.text; fault = fault })
 
--- the value, with the manifests in their places, is no lock file
-abbrev pub IsNoLockFile : (placed : Data) → (manifest : Option Data) → Fault → Type 0
-IsNoLockFile placed manifest fault = any_fault placed manifest ≡ Some fault
+-- the value of this text, with the manifests in their places, is no lock file, and this is the place of its fault
+abbrev pub IsNoLockFile : (text : List ℕ) → (placed : Data) → (manifest : Option Data) → FaultPlace → Type 0
+IsNoLockFile text placed manifest found =
+    (any_fault placed manifest ≡ Some found.fault) × IsLockFaultPlace text placed (fault_place_value found)
 
 -- the value of the advisories has a fault where the packages of this lock file are installed, at this place in the list
 -- under this name
@@ -83,24 +84,26 @@ IsUnread remaining old new (Input error) = Inputs.IsUnread remaining old new err
 IsUnread remaining old new Memory = IsWholeInput remaining old new (λ bytes. IsUtf8 bytes × (bytes ≢ []))
 IsUnread remaining old new _ = ⊥
 
--- Why a lock file that was read is not checked: its value, a manifest or the advisories have a fault.
-abbrev pub IsRefusedAs : (lock : Data) → (linked : List LinkedValue) → WantedValue → RunError → Type 0
-IsRefusedAs lock linked wanted (NoLockFile fault) =
-    IsNoLockFile (placed lock (manifests_of wanted.manifest linked)) wanted.manifest fault
-IsRefusedAs lock linked wanted (NoManifest fault) = IsNoManifest lock wanted.manifest fault
-IsRefusedAs lock linked wanted (NoLinked name fault) = IsNoLinked linked name fault
-IsRefusedAs lock linked wanted (NoAdvisories kind name place) =
+-- Why a lock file that was read, with this text, is not checked: its value, a manifest or the advisories have a fault.
+abbrev pub IsRefusedAs : (text : List ℕ) → (lock : Data) → (linked : List LinkedValue) → WantedValue → RunError
+    → Type 0
+IsRefusedAs text lock linked wanted (NoLockFile found) =
+    IsNoLockFile text (placed lock (manifests_of wanted.manifest linked)) wanted.manifest found
+IsRefusedAs text lock linked wanted (NoManifest fault) = IsNoManifest lock wanted.manifest fault
+IsRefusedAs text lock linked wanted (NoLinked name fault) = IsNoLinked linked name fault
+IsRefusedAs text lock linked wanted (NoAdvisories kind name place) =
     AreNoAdvisories (checked_lock lock wanted.manifest linked) wanted.advisories kind name place
-IsRefusedAs lock linked wanted _ = ⊥
+IsRefusedAs text lock linked wanted _ = ⊥
 
 -- a lock file was read, and the manifests of linked folders were loaded, and one of these values has a fault
 pub record IsFaulty {R : Type 0} (remaining : R → Option (List ℕ)) (old new : WatchedValue R)
     (Gives : Value → Result Loaded LoadError → Type 0) (wanted : WantedValue) (error : RunError) : Type 0 where
   pub lock : Value
+  pub lock_text : List ℕ
   pub loaded : LoadedValue
-  pub input : IsInput remaining old new (view lock)
+  pub input : IsInputText remaining old new lock_text (view lock)
   pub given : AreLoaded Gives lock wanted.manifest loaded
-  pub refused : IsRefusedAs (view lock) loaded.linked wanted error
+  pub refused : IsRefusedAs lock_text (view lock) loaded.linked wanted error
 
 -- a lock file was read, and the manifests of linked folders were not loaded
 pub record IsUnloaded {R : Type 0} (remaining : R → Option (List ℕ)) (old new : WatchedValue R)

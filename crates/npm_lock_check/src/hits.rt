@@ -10,6 +10,7 @@ use crate::list_name::ListName;
 use crate::run_error::RunError;
 use crate::wanted::Wanted;
 use npm_advisories::{Fault, Found, LockError, audit_lock};
+use npm_lock_faults::FaultPlace;
 use serde_json::Value;
 use std::alloc::Global;
 
@@ -28,7 +29,7 @@ pub fn hits_of<'f, 'v>(
     };
     match audit_lock(alloc, file, wanted.level, lock) {
         Ok(found) => Ok(found),
-        Err(LockError::Lock(fault)) => Err(RunError::NoLockFile(fault)),
+        Err(LockError::Lock(fault)) => Err(RunError::NoLockFile(FaultPlace::of_file(alloc, fault))),
         Err(LockError::Advisories(fault)) => Err(no_advisories(alloc, fault)),
         Err(LockError::Memory) => Err(RunError::Memory),
     }

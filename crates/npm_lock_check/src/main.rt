@@ -11,6 +11,7 @@ ghost use Rattle.npm_lock_reports.specs.Report.{IsClean};
 
 mod argument_error;
 mod arguments;
+mod annotated;
 mod format;
 mod help;
 mod hits;
@@ -31,12 +32,13 @@ mod workspaces;
 mod written;
 
 use argument_error::ArgumentError;
+use annotated::annotate;
 use arguments::{Arguments, Shown, read_arguments};
 use command_lines::{Quoted, Watched, open_error, read_json, words_of};
 use format::Format;
 use help::{HELP, VERSION};
 use linked::manifests_of;
-use manifest_file::{folder_of, manifest_in};
+use manifest_file::{folder_of, manifest_in, read_faultless};
 use node::node_of;
 use node_semver::Version;
 use npm_lock_reports::{Report, ReportFormat};
@@ -78,7 +80,10 @@ fn answered<'a>(rt: &HostRuntime, words: &'a [String]) -> Result<Option<Report>,
     let node = node_asked(rt, asked)?;
     match opened(rt, asked, node.as_ref()) {
         Ok(report) => Ok(Some(report)),
-        Err(error) => Err(stopped(asked, error)),
+        Err(error) => {
+            annotate(rt, asked, &error);
+            Err(stopped(asked, error))
+        }
     }
 }
 
@@ -135,7 +140,7 @@ fn checked<R: Read + Drop>(
     asked: Arguments<'_>,
     node: Option<&Version>,
 ) -> Result<Report, StopError> {
-    let manifest = value_at(rt, asked.manifest).map_err(StopError::Manifest)?;
+    let manifest = manifest_at(rt, asked.manifest).map_err(StopError::Manifest)?;
     let advisories = value_at(rt, asked.advisories).map_err(StopError::Advisories)?;
     let file = asked.file.unwrap_or("-");
     checked_beside(
@@ -181,10 +186,19 @@ fn checked_beside<'a, R: Read + Drop>(
     let folder = asked.manifest.map_or(".", folder_of);
     run(rt.alloc(), &mut reader, &mut writer, wanted, |lock| {
         let loaded = manifests_of(rt.alloc(), lock, |linked| {
-            manifest_in(rt, folder, linked, asked.outside)
+            manifest_in(rt, folder, linked, asked.outside, true)
         })?;
         with_workspaces(rt, folder, manifest, asked.outside, loaded)
     })
+}
+
+/// Reads the manifest of the root, if there is one.
+fn manifest_at(rt: &HostRuntime, path: Option<&str>) -> Result<Option<Value>, RunError> {
+    let Some(path) = path else {
+        return Ok(None);
+    };
+    let file = File::open(rt, path).map_err(|error| RunError::Input(open_error(error)))?;
+    read_faultless(rt.alloc(), &mut Watched::new(file)).map(Some)
 }
 
 /// Reads the JSON value of a file, if there is one.

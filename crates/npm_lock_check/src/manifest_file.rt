@@ -1,14 +1,20 @@
 //! Reads the manifest of a workspace.
-ghost use Rattle.std.specs.Prelude.{◌≡◌, IfOk, string_bytes};
-ghost use Rattle.npm_lock_check.specs.ManifestFile.{IsFolderOf, IsNoFile, IsNotOpened, IsNotRead, path_of};
+ghost use Rattle.std.specs.Prelude.{◌≡◌, IfOk, IsErrOf, None, string_bytes};
+ghost use Rattle.serde_json.specs.View.{view};
+ghost use Rattle.command_lines.specs.Inputs.{IsInput};
+ghost use Rattle.npm_lock_faults.specs.declared.fault_place.FaultPlace.{FaultPlace};
+ghost use Rattle.npm_manifests.specs.Mismatches.{manifest_fault};
+ghost use Rattle.npm_lock_check.specs.ManifestFile.{IsFaultyInput, IsFolderOf, IsNoFile, IsNotOpened, IsNotRead, path_of};
 
 use crate::linked::Found;
 use crate::run_error::{LoadError, RunError};
-use command_lines::{Watched, read_json};
+use command_lines::{Watched, read_json, read_json_with_text};
+use npm_lock_faults::manifest_fault_place;
 use npm_lock_reports::FolderName;
+use serde_json::Value;
 use std::alloc::{AllocError, Global};
 use std::fs::File;
-use std::io::ErrorKind;
+use std::io::{ErrorKind, Read};
 use std::{fs, io};
 
 /// Returns the folder of a file: `a` of `a/package.json`, and `.` of `package.json`.
@@ -21,12 +27,37 @@ pub fn folder_of(path: &str) -> &str
     }
 }
 
-/// Reads the manifest of the package in a folder, which is inside another.
+/// Reads a manifest that must have no fault.
+///
+/// # Errors
+///
+/// - `Input`: the input was not read.
+/// - `FaultyManifest`: the manifest has a fault, at this place of its text.
+/// - `Memory`: an allocation failed.
+pub fn read_faultless<R: Read>(alloc: Global, reader: &mut Watched<R>) -> Result<Value, RunError>
+    ensures value { IfOk result (λ manifest. IsInput R.remaining reader.old reader.new (view manifest)
+        × (manifest_fault (view manifest) ≡ None)) }
+    ensures faulty { (found : FaultPlace) → IsErrOf result (RunError.FaultyManifest found)
+        → IsFaultyInput R.remaining reader.old reader.new found }
+{
+    let (manifest, text) = match read_json_with_text(alloc, reader) {
+        Ok(read) => read,
+        Err(error) => return Err(RunError::Input(error)),
+    };
+    match manifest_fault_place(alloc, text.as_str(), &manifest) {
+        Ok(None) => Ok(manifest),
+        Ok(Some(found)) => Err(RunError::FaultyManifest(found)),
+        Err(_) => Err(RunError::Memory),
+    }
+}
+
+/// Reads the manifest of the package in a folder, which is inside another. If it is `faultless`, one with a fault is an error.
 pub fn manifest_in(
     rt: &HostRuntime,
     outer: &str,
     folder: &str,
     outside: bool,
+    faultless: bool,
 ) -> Result<Found, LoadError> {
     let path = path_of(rt.alloc(), outer, folder).map_err(|_| LoadError::Memory)?;
     let file = match opened(rt, outer, path.as_str(), outside) {
@@ -34,9 +65,15 @@ pub fn manifest_in(
         Ok(None) => return Ok(Found::Unread),
         Err(error) => return no_file(rt.alloc(), folder, error.kind()),
     };
-    match read_json(rt.alloc(), &mut Watched::new(file)) {
+    let mut reader = Watched::new(file);
+    let read = if faultless {
+        read_faultless(rt.alloc(), &mut reader)
+    } else {
+        read_json(rt.alloc(), &mut reader).map_err(RunError::Input)
+    };
+    match read {
         Ok(manifest) => Ok(Found::Manifest(manifest)),
-        Err(error) => Err(not_read(rt.alloc(), folder, RunError::Input(error))),
+        Err(error) => Err(not_read(rt.alloc(), folder, error)),
     }
 }
 
@@ -61,8 +98,8 @@ fn is_inside(rt: &HostRuntime, outer: &str, path: &str) -> io::Result<bool> {
     Ok(real.as_path().starts_with(above.as_path()))
 }
 
-/// The path of the manifest in a folder, which is inside another.
-fn path_of(alloc: Global, outer: &str, folder: &str) -> Result<String, AllocError>
+/// Returns the path of the manifest in a folder, which is inside another.
+pub fn path_of(alloc: Global, outer: &str, folder: &str) -> Result<String, AllocError>
     ensures { IfOk result (λ path. string_bytes path ≡ path_of outer.now folder.now) }
 {
     let mut path = String::from_str(alloc, outer)?;

@@ -1,5 +1,5 @@
 //! What the program reads, and what it writes for it.
-ghost use Rattle.std.specs.Prelude.{◌≡◌, ◌≢◌, List, ℕ, IfErr, IfOk, IsErrOf, IsSome, OnOk, filter, map, not, option_map, true};
+ghost use Rattle.std.specs.Prelude.{◌≡◌, ◌≢◌, List, ℕ, IfErr, IfOk, IsErrOf, IsSome, None, OnOk, filter, map, not, option_map};
 ghost use Rattle.std.specs.Fn.{FnOnceReturnsAt};
 ghost use Rattle.std.specs.Io.KnownBytes.{Appends};
 ghost use Rattle.serde_json.specs.View.{view};
@@ -11,12 +11,11 @@ ghost use Rattle.npm_lock_check.specs.Kinds.{has};
 ghost use Rattle.npm_lock_check.specs.Linked.{loaded_value, workspace_value};
 ghost use Rattle.npm_lock_reports.specs.declared.report.Report.{Report};
 ghost use Rattle.npm_lock_check.specs.Output.{IsReported, IsStopped};
-ghost use Rattle.npm_lock_check.specs.Written.{IsWritten, has_places};
+ghost use Rattle.npm_lock_check.specs.Written.{IsWritten};
 ghost use Rattle.npm_lock_check.specs.Private.Refusals.{IsCheckRefused, IsLockRefused, IsRefused};
 ghost use Rattle.npm_lock_check.specs.Report.{AreLeft, IsReportOf, manifests_of, placed};
 ghost use Rattle.npm_lock_check.specs.Report.{wanted_value};
 
-use crate::format::Format;
 use crate::hits::hits_of;
 use crate::kinds::Kinds;
 use crate::linked::{Loaded, Workspace, load_compared};
@@ -27,6 +26,7 @@ use crate::workspaces::add_workspaces;
 use crate::written::written;
 use command_lines::{Watched, read_json_with_text};
 use npm_lock::{CheckError, Problem, Problems, check};
+use npm_lock_faults::{FaultPlace, lock_fault_place};
 use npm_lock_reports::Report;
 use npm_lock_version_one::convert;
 use serde_json::Value;
@@ -68,7 +68,6 @@ pub fn run<R: Read, W: Write, F: FnOnce(&Value) -> Result<Loaded, LoadError>>(
         Ok(read) => read,
         Err(error) => return Err(StopError::Check(RunError::Input(error))),
     };
-    let text = kept(alloc, text, wanted.format);
     let loaded = match load_compared(alloc, &lock, wanted.manifest, load) {
         Ok(loaded) => loaded,
         Err(error) => return Err(StopError::Load(error)),
@@ -83,16 +82,6 @@ pub fn run<R: Read, W: Write, F: FnOnce(&Value) -> Result<Loaded, LoadError>>(
     }
 }
 
-/// The text of a lock file, or no text if the format has no places.
-fn kept(alloc: Global, text: String, format: Format) -> String
-    ensures { has_places format ≡ true → result ≡ text }
-{
-    match format {
-        Format::Report(_) => String::new(alloc),
-        Format::Annotations(_) => text,
-    }
-}
-
 /// The report of a lock file, and what is written of it.
 fn report_of(
     alloc: Global,
@@ -104,7 +93,7 @@ fn report_of(
     ensures found { IfOk result (λ made. (found : List FoundValue)
         × IsReportOf (view lock) (loaded_value loaded) (wanted_value wanted.entry) made.0 found
         × IsWritten (wanted_value wanted.entry) text.now made.0 found made.1.items) }
-    ensures refused { IfErr result (IsRefused (view lock) (placed (view lock)
+    ensures refused { IfErr result (IsRefused text.now (view lock) (placed (view lock)
         (manifests_of (wanted_value wanted.entry).manifest (loaded_value loaded).linked))
         (loaded_value loaded).linked (wanted_value wanted.entry)) }
 {
@@ -116,6 +105,7 @@ fn report_of(
     let compared = is_compared(&lock, wanted.manifest);
     let mut lock = lock;
     let mismatches = compare(alloc, &mut lock, linked, wanted)?;
+    refuse(alloc, &lock, text, wanted.manifest)?;
     let lock = converted(alloc, lock, wanted.manifest)?;
     let problems = problems_of(alloc, &lock, &workspaces, wanted)?;
     let found = match hits_of(alloc, &lock, wanted) {
@@ -138,6 +128,25 @@ fn report_of(
     }
 }
 
+/// Fails if the lock file with this text has a fault, or the manifest beside one of version 1.
+fn refuse(
+    alloc: Global,
+    lock: &Value,
+    text: &str,
+    manifest: Option<&Value>,
+) -> Result<(), RunError>
+    ensures sound { OnOk result
+        (any_fault (view lock.now) (option_map (λ manifest. view manifest.now) manifest.entry) ≡ None) }
+    ensures refused { IfErr result
+        (IsLockRefused text.now (view lock.now) (option_map (λ manifest. view manifest.now) manifest.entry)) }
+{
+    match lock_fault_place(alloc, text, lock, manifest) {
+        Ok(None) => Ok(()),
+        Ok(Some(found)) => Err(RunError::NoLockFile(found)),
+        Err(_) => Err(RunError::Memory),
+    }
+}
+
 /// The lock file as one with `packages`, whose root is the manifest if it is of version 1.
 fn converted(alloc: Global, lock: Value, manifest: Option<&Value>) -> Result<Value, RunError>
     ensures made { IfOk result (λ made. view made
@@ -145,12 +154,13 @@ fn converted(alloc: Global, lock: Value, manifest: Option<&Value>) -> Result<Val
     ensures sound { OnOk result
         (lock_fault (converted (view lock) (option_map (λ manifest. view manifest.now) manifest.entry))
         ≡ any_fault (view lock) (option_map (λ manifest. view manifest.now) manifest.entry)) }
-    ensures refused { IfErr result
-        (IsLockRefused (view lock) (option_map (λ manifest. view manifest.now) manifest.entry)) }
+    ensures memory { IfErr result (λ error.
+        any_fault (view lock) (option_map (λ manifest. view manifest.now) manifest.entry) ≡ None
+        → error ≡ RunError.Memory) }
 {
     match convert(alloc, lock, manifest) {
         Ok(made) => Ok(made),
-        Err(CheckError::Refused(fault)) => Err(RunError::NoLockFile(fault)),
+        Err(CheckError::Refused(fault)) => Err(RunError::NoLockFile(FaultPlace::of_file(alloc, fault))),
         Err(CheckError::Memory) => Err(RunError::Memory),
     }
 }
@@ -168,7 +178,7 @@ fn problems_of(
 {
     match check(alloc, lock, wanted.node) {
         Ok(problems) => problems_left(alloc, problems, lock, workspaces, wanted),
-        Err(CheckError::Refused(fault)) => Err(RunError::NoLockFile(fault)),
+        Err(CheckError::Refused(fault)) => Err(RunError::NoLockFile(FaultPlace::of_file(alloc, fault))),
         Err(CheckError::Memory) => Err(RunError::Memory),
     }
 }

@@ -3,6 +3,7 @@ use crate::list_name::{ListName, PlacedFault};
 use command_lines::InputError;
 use npm_advisories::FaultKind;
 use npm_lock::Fault;
+use npm_lock_faults::FaultPlace;
 use npm_lock_reports::FolderName;
 use thiserror::Error;
 
@@ -20,7 +21,10 @@ pub enum RunError {
     Memory,
     /// What was read is no lock file.
     #[error("the input is no lock file that is read here: {0}")]
-    NoLockFile(Fault),
+    NoLockFile(FaultPlace),
+    /// The manifest has a fault at this place.
+    #[error("the manifest is not read: {0}")]
+    FaultyManifest(FaultPlace),
     /// The manifest has a fault.
     #[error("the manifest is not read: {0}")]
     NoManifest(Fault),

@@ -11,7 +11,7 @@ use std::fmt;
 
 /// An input of the program.
 #[derive(Clone, Copy, Drop)]
-enum Source {
+pub enum Source {
     Lock,
     Manifest,
     Advisories,
@@ -73,8 +73,8 @@ fn lock_file<'a>(file: Option<&'a str>) -> Subject<'a>
     }
 }
 
-/// The input that an error is about.
-fn input_of(error: &StopError) -> Option<Source>
+/// Returns the input that an error is about.
+pub fn input_of(error: &StopError) -> Option<Source>
     ensures { result ≡ Subjects.input_of error.now }
 {
     match error {
@@ -92,7 +92,7 @@ fn checked_input(error: &RunError) -> Option<Source>
     match error {
         RunError::Write | RunError::Memory | RunError::NoLinked(_, _) => None,
         RunError::Input(InputError::Memory) => None,
-        RunError::NoManifest(_) => Some(Source::Manifest),
+        RunError::NoManifest(_) | RunError::FaultyManifest(_) => Some(Source::Manifest),
         RunError::NoAdvisories(_, _, _) => Some(Source::Advisories),
         _ => Some(Source::Lock),
     }

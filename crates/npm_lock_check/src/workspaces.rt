@@ -96,7 +96,7 @@ fn look_in(
     if has_folder(&loaded.unread, folder) {
         return Ok(Matched::Nothing);
     }
-    match manifest_in(rt, outer, folder, outside)? {
+    match manifest_in(rt, outer, folder, outside, false)? {
         Found::Nothing => Ok(Matched::Nothing),
         Found::Unread => match String::from_str(alloc, folder) {
             Ok(text) => Ok(Matched::Unread(FolderName { text })),

@@ -1,3 +1,4 @@
 pub mod Placed
+pub mod Roots
 pub mod SameFaults
 pub mod Steps

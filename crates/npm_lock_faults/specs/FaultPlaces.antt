@@ -1,11 +1,13 @@
 -- Where a fault is in the text of a file, for a person who has to mend it.
-use Rattle.std.specs.Prelude.{◌≡◌, ℕ, List, [], ◌∷◌, ◌++◌, codes, decimal, map, string_bytes}
+use Rattle.std.specs.Prelude.{◌≡◌, ℕ, List, [], ◌∷◌, ◌++◌, Some, codes, decimal, map, string_bytes}
 use Rattle.std.specs.List.{flat_map}
+use Rattle.std.specs.Option.{MatchOption}
+use Rattle.serde_json.specs.Data.{Data}
 use Rattle.command_lines.specs.Shown.{quoted}
 use Rattle.json_findings.specs.Drafts.{IsShownAt}
 use Rattle.json_places.specs.declared.place.Place.{Place}
 use Rattle.npm_packages.specs.declared.fault.Fault.{Fault}
-use Rattle.npm_lock_faults.specs.FaultPaths.{FaultPathValue}
+use Rattle.npm_lock_faults.specs.FaultPaths.{FaultPathValue, any_fault_path, manifest_fault_path}
 use Rattle.npm_lock_faults.specs.declared.fault_place.FaultPlace.{FaultPlace}
 
 -- a fault, the path of the member that it is about, and the line and the column of the member's name
@@ -32,6 +34,21 @@ pub record IsFaultPlace (text : List ℕ) (path : FaultPathValue) (found : Fault
   pub shown : IsShownAt text (path.names ∷ []) place
   pub line : found.line ≡ place.line
   pub column : found.column ≡ place.column
+
+-- a fault without a place: at the beginning of the file
+abbrev pub of_file : Fault → FaultPlaceValue
+of_file fault = record { fault = fault; names = []; line = 1; column = 1 }
+
+-- The place of the fault of a lock file with this text, or of the manifest beside one of version 1. That fault is in another
+-- text, so it has no place in this one.
+abbrev pub IsLockFaultPlace : (text : List ℕ) → (lock : Data) → FaultPlaceValue → Type 0
+IsLockFaultPlace text lock found =
+    MatchOption (any_fault_path lock) (found ≡ of_file found.fault) (λ path. IsFaultPlace text path found)
+
+-- the place of the fault of a manifest with this text
+abbrev pub IsManifestFaultPlace : (text : List ℕ) → (manifest : Data) → FaultPlaceValue → Type 0
+IsManifestFaultPlace text manifest found =
+    (path : FaultPathValue) × (manifest_fault_path manifest ≡ Some path) × IsFaultPlace text path found
 
 -- ---- what is written
 

@@ -50,6 +50,18 @@ impl FaultPlace {
             column: place.column,
         })
     }
+
+    /// A fault without a place: at the beginning of the file. Does not allocate.
+    pub fn of_file(alloc: Global, fault: Fault) -> FaultPlace
+        ensures { fault_place_value result ≡ FaultPlaces.of_file fault }
+    {
+        FaultPlace {
+            fault,
+            names: Vec::new(alloc),
+            line: 1,
+            column: 1,
+        }
+    }
 }
 
 /// The place of the last of these names, or of the beginning.

@@ -2,7 +2,8 @@
 //! and column.
 //!
 //! [`lock_fault_path`] returns the fault of a lock file of any version with the path of the member that it is about,
-//! [`manifest_fault_path`] that of a manifest, and [`FaultPlace::in_text`] looks the path up in the text.
+//! [`manifest_fault_path`] that of a manifest, and [`FaultPlace::in_text`] looks the path up in the text. [`lock_fault_place`] and
+//! [`manifest_fault_place`] do both.
 #![tactic(auto)]
 
 mod fault_path;
@@ -10,12 +11,14 @@ mod fault_place;
 mod lock_file;
 mod manifest;
 mod package;
+mod places;
 mod version_one;
 
 pub use fault_path::FaultPath;
 pub use fault_place::FaultPlace;
 pub use lock_file::lock_fault_path;
 pub use manifest::{manifest_fault_path, root_fault_path};
+pub use places::{lock_fault_place, manifest_fault_place};
 
 /// The result of what fails by memory alone.
 type Result<T, E = std::alloc::AllocError> = std::result::Result<T, E>;

@@ -1,11 +1,12 @@
 -- Why the values of a lock file, of a manifest and of advisories are refused: one of them has a fault, or memory ran
 -- out.
-use Rattle.std.specs.Prelude.{◌≡◌, ◌⊎◌, ℕ, List, Option, Some, string_bytes}
+use Rattle.std.specs.Prelude.{◌≡◌, ◌⊎◌, ℕ, List, Option, None, Some, string_bytes}
 use Rattle.serde_json.specs.Data.{Data}
 use Rattle.npm_packages.specs.Faults.{lock_fault}
 use Rattle.npm_manifests.specs.Mismatches.{manifest_fault}
 use Rattle.npm_lock_version_one.specs.VersionOne.{converted}
 use Rattle.npm_packages.specs.declared.fault.Fault.{Fault}
+use Rattle.npm_lock_faults.specs.declared.fault_place.FaultPlace.{FaultPlace}
 use Rattle.npm_advisories.specs.Faults.{FaultValue}
 use Rattle.npm_advisories.specs.declared.fault.FaultKind.{FaultKind}
 use Rattle.npm_lock_check.specs.Linked.{LinkedValue}
@@ -41,15 +42,14 @@ abbrev pub IsCompareRefused : (lock : Data) → (manifest : Option Data) → (li
 IsCompareRefused lock manifest linked error =
     ((fault : Fault) × (error ≡ NoManifest fault) × IsNoManifest lock manifest fault) ⊎ AreLinkedRefused linked error
 
--- the lock file, with the manifests in their places
-abbrev pub IsLockRefused : (placed : Data) → (manifest : Option Data) → RunError → Type 0
-IsLockRefused placed manifest error =
-    ((fault : Fault) × (error ≡ NoLockFile fault) × IsNoLockFile placed manifest fault) ⊎ (error ≡ Memory)
+-- the lock file with this text, with the manifests in their places
+abbrev pub IsLockRefused : (text : List ℕ) → (placed : Data) → (manifest : Option Data) → RunError → Type 0
+IsLockRefused text placed manifest error =
+    ((found : FaultPlace) × (error ≡ NoLockFile found) × IsNoLockFile text placed manifest found) ⊎ (error ≡ Memory)
 
--- the lock file that is checked
+-- the lock file that is checked, which has no fault
 abbrev pub IsCheckRefused : (checked : Data) → RunError → Type 0
-IsCheckRefused checked error =
-    ((fault : Fault) × (error ≡ NoLockFile fault) × (lock_fault checked ≡ Some fault)) ⊎ (error ≡ Memory)
+IsCheckRefused checked error = lock_fault checked ≡ None → error ≡ Memory
 
 -- the advisories, with this fault
 abbrev pub AreRefusedAs : FaultValue → RunError → Type 0
@@ -67,7 +67,8 @@ IsAuditRefused checked advisories error =
     AreAdvisoriesRefused checked advisories error ⊎ IsCheckRefused checked error
 
 -- any of them
-abbrev pub IsRefused : (lock placed : Data) → (linked : List LinkedValue) → WantedValue → RunError → Type 0
-IsRefused lock placed linked wanted error = IsCompareRefused lock wanted.manifest linked error
+abbrev pub IsRefused : (text : List ℕ) → (lock placed : Data) → (linked : List LinkedValue) → WantedValue → RunError
+    → Type 0
+IsRefused text lock placed linked wanted error = IsCompareRefused lock wanted.manifest linked error
     ⊎ AreAdvisoriesRefused (converted placed wanted.manifest) wanted.advisories error
-    ⊎ IsLockRefused placed wanted.manifest error
+    ⊎ IsLockRefused text placed wanted.manifest error

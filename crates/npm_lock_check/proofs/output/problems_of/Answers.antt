@@ -1,5 +1,5 @@
--- The check refuses the value.
-use Rattle.std.proofs.Common.{◌≡◌, ◌∙◌, Some, ap, Err, inl, refl}
+-- A lock file without a fault is not refused.
+use Rattle.std.proofs.Common.{◌≡◌, ◌∙◌, Some, ap, Err}
 use Rattle.serde_json.specs.View.{view}
 use Rattle.npm_packages.specs.Faults.{lock_fault}
 use Rattle.npm_lock_check.proofs.output.problems_of.Goals as goal
@@ -9,4 +9,4 @@ returns-in-Err-Refused-clause-refused c =
     let told : lock_fault (view c.args.lock.now) ≡ Some c.in-Err-Refused.fault =
     (c.check.ensures.refused c.in-Err-Refused.fault).0
     (c.in-Err-Refused.is ∙ ap Err c.in-Err-Refused.field-0-is) in
-    inl (c.in-Err-Refused.fault, rw c.in-Err-Refused.field-0-is refl, told)
+    λ none. cc

@@ -1,5 +1,5 @@
 -- The lock file is refused, or the report is made of its parts.
-use Rattle.std.proofs.Common.{◌∙◌, inl, map, refl, sym}
+use Rattle.std.proofs.Common.{◌∙◌, inl, inr, map, refl, sym}
 use Rattle.serde_json.specs.View.{view}
 use Rattle.npm_advisories.specs.Audit.{found_value}
 use Rattle.npm_lock_check.specs.Linked.{loaded_value}
@@ -13,31 +13,39 @@ returns-in_err-mismatches-clause-refused c =
     passed_on c.from_residual.result _ _ c.from_residual.ensures.1
     (λ error same. rw same (inl c.in_err-mismatches.ensures.refused))
 
-pub returns-in_err-lock-clause-refused : goal.returns-in_err-lock-clause-refused
-returns-in_err-lock-clause-refused c =
-    let told = refused_lock (view c.args.lock) (placed (view c.args.lock)
+pub returns-in_err-refuse-clause-refused : goal.returns-in_err-refuse-clause-refused
+returns-in_err-refuse-clause-refused c =
+    let told = refused_lock c.args.text.now (view c.args.lock) (placed (view c.args.lock)
     (manifests_of (wanted_value c.args.wanted).manifest (loaded_value c.args.loaded).linked))
     (loaded_value c.args.loaded).linked (wanted_value c.args.wanted) _
-    (rw c.in_ok-mismatches.ensures.placed at c.in_err-lock.ensures.refused) in
-    passed_on c.from_residual-in_err-lock.result _ _ c.from_residual-in_err-lock.ensures.1 (λ error same. rw same told)
+    (rw c.in_ok-mismatches.ensures.placed at c.in_err-refuse.ensures.refused) in
+    passed_on c.from_residual-in_err-refuse.result _ _ c.from_residual-in_err-refuse.ensures.1
+    (λ error same. rw same told)
+
+pub returns-in_err-lock-clause-refused : goal.returns-in_err-lock-clause-refused
+returns-in_err-lock-clause-refused c =
+    passed_on c.from_residual-in_err-lock.result _ _ c.from_residual-in_err-lock.ensures.1
+    (λ error same. rw same (inr (inr (inr (c.in_err-lock.ensures.memory c.in_ok-refuse.ensures.sound)))))
 
 pub returns-in_err-problems-clause-refused : goal.returns-in_err-problems-clause-refused
 returns-in_err-problems-clause-refused c =
-    let told = refused_check (view c.args.lock) (placed (view c.args.lock)
+    let told = refused_check c.args.text.now (view c.args.lock) (placed (view c.args.lock)
     (manifests_of (wanted_value c.args.wanted).manifest (loaded_value c.args.loaded).linked))
     (view c.in_ok-lock.lock) (loaded_value c.args.loaded).linked (wanted_value c.args.wanted) _
     (rw c.in_ok-mismatches.ensures.placed at c.in_ok-lock.ensures.made)
-    (rw c.in_ok-mismatches.ensures.placed at c.in_ok-lock.ensures.sound) c.in_err-problems.ensures.refused in
+    (rw c.in_ok-mismatches.ensures.placed at c.in_ok-lock.ensures.sound)
+    (rw c.in_ok-mismatches.ensures.placed at c.in_ok-refuse.ensures.sound) c.in_err-problems.ensures.refused in
     passed_on c.from_residual-in_err-problems.result _ _ c.from_residual-in_err-problems.ensures.1
     (λ error same. rw same told)
 
 pub returns-in-Err-clause-refused : goal.returns-in-Err-clause-refused
 returns-in-Err-clause-refused c =
-    refused_audit (view c.args.lock) (placed (view c.args.lock)
+    refused_audit c.args.text.now (view c.args.lock) (placed (view c.args.lock)
     (manifests_of (wanted_value c.args.wanted).manifest (loaded_value c.args.loaded).linked))
     (view c.in_ok-lock.lock) (loaded_value c.args.loaded).linked (wanted_value c.args.wanted) c.in-Err.error
     (rw c.in_ok-mismatches.ensures.placed at c.in_ok-lock.ensures.made)
-    (rw c.in_ok-mismatches.ensures.placed at c.in_ok-lock.ensures.sound) c.in-Err.ensures.refused
+    (rw c.in_ok-mismatches.ensures.placed at c.in_ok-lock.ensures.sound)
+    (rw c.in_ok-mismatches.ensures.placed at c.in_ok-refuse.ensures.sound) c.in-Err.ensures.refused
 
 pub returns-in-Ok-written-clause-found : goal.returns-in-Ok-written-clause-found
 returns-in-Ok-written-clause-found c =

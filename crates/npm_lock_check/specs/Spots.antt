@@ -1,0 +1,33 @@
+-- Where in its file an error is.
+use Rattle.command_lines.specs.declared.input_error.InputError.TheVariants as Inputs
+use Rattle.npm_lock_check.specs.declared.annotated.Spot.{Spot}
+use Rattle.npm_lock_check.specs.declared.run_error.LoadError.TheVariants as Loads
+use Rattle.npm_lock_check.specs.declared.run_error.RunError.{RunError}
+use Rattle.npm_lock_check.specs.declared.run_error.RunError.TheVariants as Errors
+use Rattle.npm_lock_check.specs.declared.run_error.StopError.{StopError}
+use Rattle.npm_lock_check.specs.declared.run_error.StopError.TheVariants as Stops
+
+-- the beginning of a file
+abbrev pub beginning : Spot
+beginning = record { line = 1; column = 1 }
+
+-- of a check: the place of a fault, that of a JSON text that does not end or goes wrong, and else the beginning
+abbrev pub run_spot : RunError → Spot
+run_spot (Errors.Input (Inputs.NoJson line column)) = record { line = line; column = column }
+run_spot (Errors.Input error) = beginning
+run_spot Errors.Write = beginning
+run_spot Errors.Memory = beginning
+run_spot (Errors.NoLockFile found) = record { line = found.line; column = found.column }
+run_spot (Errors.FaultyManifest found) = record { line = found.line; column = found.column }
+run_spot (Errors.NoManifest fault) = beginning
+run_spot (Errors.NoLinked name fault) = beginning
+run_spot (Errors.NoAdvisories kind name place) = beginning
+
+-- of any error
+abbrev pub spot_of : StopError → Spot
+spot_of (Stops.Check error) = run_spot error
+spot_of (Stops.Manifest error) = run_spot error
+spot_of (Stops.Advisories error) = run_spot error
+spot_of (Stops.Load (Loads.Read name error)) = run_spot error
+spot_of (Stops.Load (Loads.Open name)) = beginning
+spot_of (Stops.Load Loads.Memory) = beginning

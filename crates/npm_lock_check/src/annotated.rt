@@ -1,0 +1,117 @@
+//! Why a file was not checked, as an annotation of GitHub.
+ghost use Rattle.std.specs.Prelude.{◌≡◌};
+ghost use Rattle.npm_lock_check.specs.Spots as Spots;
+
+use crate::arguments::Arguments;
+use crate::format::Format;
+use crate::manifest_file::{folder_of, path_of};
+use crate::run_error::{LoadError, RunError, StopError};
+use crate::subject::{Source, input_of};
+use annotations::{Finding, Level, push_annotation};
+use command_lines::InputError;
+use npm_lock_annotations::AnnotationFormat;
+use std::alloc::AllocError;
+use std::io::Write;
+
+/// A line and a column of a file, counted from 1.
+#[derive(Clone, Copy, Debug, PartialEq, Eq, Drop)]
+pub struct Spot {
+    pub line: usize,
+    pub column: usize,
+}
+
+/// Writes the annotation of an error that is about a file, if the format is that of GitHub. The error has its line on standard
+/// error as well, so nothing more is done if this write fails.
+pub fn annotate(rt: &HostRuntime, asked: Arguments<'_>, error: &StopError) {
+    if asked.format != Some(Format::Annotations(AnnotationFormat::Github)) {
+        return;
+    }
+    if let Ok(line) = annotation_of(rt, asked, error) {
+        match rt.stdout().write_all(line.as_slice()) {
+            Ok(()) | Err(_) => {}
+        }
+    }
+}
+
+/// The annotation of an error, or nothing if it is about no file.
+fn annotation_of(
+    rt: &HostRuntime,
+    asked: Arguments<'_>,
+    error: &StopError,
+) -> Result<Vec<u8>, AllocError> {
+    let alloc = rt.alloc();
+    let mut out = Vec::new(alloc);
+    let inside = path_inside(rt, asked, error)?;
+    let file = match &inside {
+        Some(path) => Some(path.as_str()),
+        None => file_of(asked, error),
+    };
+    if let Some(file) = file {
+        let spot = spot_of(error);
+        let message = format!(in alloc; "{error}")?;
+        push_annotation(&mut out, &Finding {
+            rule: "refused",
+            rule_index: 0,
+            level: Level::Error,
+            message: message.into_bytes(),
+            file,
+            line: spot.line,
+            column: spot.column,
+        })?;
+    }
+    Ok(out)
+}
+
+/// The path of the manifest in a folder, if the error is about one.
+fn path_inside(
+    rt: &HostRuntime,
+    asked: Arguments<'_>,
+    error: &StopError,
+) -> Result<Option<String>, AllocError> {
+    match error {
+        StopError::Load(LoadError::Open(folder) | LoadError::Read(folder, _)) => {
+            let outer = asked.manifest.map_or(".", folder_of);
+            path_of(rt.alloc(), outer, folder.text.as_str()).map(Some)
+        }
+        _ => Ok(None),
+    }
+}
+
+/// The file of the command line that the error is about.
+fn file_of<'a>(asked: Arguments<'a>, error: &StopError) -> Option<&'a str> {
+    match input_of(error)? {
+        Source::Lock => asked.file,
+        Source::Manifest => asked.manifest,
+        Source::Advisories => asked.advisories,
+    }
+}
+
+/// The place in the file, or the beginning if it has none.
+fn spot_of(error: &StopError) -> Spot
+    ensures { result ≡ Spots.spot_of error.now }
+{
+    match error {
+        StopError::Check(error) | StopError::Manifest(error) | StopError::Advisories(error) => {
+            run_spot(error)
+        }
+        StopError::Load(LoadError::Read(_, error)) => run_spot(error),
+        StopError::Load(_) => Spot { line: 1, column: 1 },
+    }
+}
+
+/// The same of an error of a check.
+fn run_spot(error: &RunError) -> Spot
+    ensures { result ≡ Spots.run_spot error.now }
+{
+    match error {
+        RunError::Input(InputError::NoJson(line, column)) => Spot {
+            line: *line,
+            column: *column,
+        },
+        RunError::NoLockFile(found) | RunError::FaultyManifest(found) => Spot {
+            line: found.line,
+            column: found.column,
+        },
+        _ => Spot { line: 1, column: 1 },
+    }
+}

@@ -1,4 +1,5 @@
 -- Where in its file an error is.
+use Rattle.std.specs.Prelude.{max}
 use Rattle.command_lines.specs.declared.input_error.InputError.TheVariants as Inputs
 use Rattle.npm_lock_check.specs.declared.annotated.Spot.{Spot}
 use Rattle.npm_lock_check.specs.declared.run_error.LoadError.TheVariants as Loads
@@ -11,9 +12,10 @@ use Rattle.npm_lock_check.specs.declared.run_error.StopError.TheVariants as Stop
 abbrev pub beginning : Spot
 beginning = record { line = 1; column = 1 }
 
--- of a check: the place of a fault, that of a JSON text that does not end or goes wrong, and else the beginning
+-- Of a check: the place of a fault, or the one where a text is no JSON, or else the beginning. What is wrong before the first
+-- character of a line has column 0.
 abbrev pub run_spot : RunError → Spot
-run_spot (Errors.Input (Inputs.NoJson line column)) = record { line = line; column = column }
+run_spot (Errors.Input (Inputs.NoJson line column)) = record { line = line; column = max column 1 }
 run_spot (Errors.Input error) = beginning
 run_spot Errors.Write = beginning
 run_spot Errors.Memory = beginning

@@ -49,15 +49,18 @@ fn annotation_of(
     if let Some(file) = file {
         let spot = spot_of(error);
         let message = format!(in alloc; "{error}")?;
-        push_annotation(&mut out, &Finding {
-            rule: "refused",
-            rule_index: 0,
-            level: Level::Error,
-            message: message.into_bytes(),
-            file,
-            line: spot.line,
-            column: spot.column,
-        })?;
+        push_annotation(
+            &mut out,
+            &Finding {
+                rule: "refused",
+                rule_index: 0,
+                level: Level::Error,
+                message: message.into_bytes(),
+                file,
+                line: spot.line,
+                column: spot.column,
+            },
+        )?;
     }
     Ok(out)
 }
@@ -77,10 +80,10 @@ fn path_inside(
     }
 }
 
-/// The file of the command line that the error is about.
+/// The file that the error is about, as the command line names it: `-` is standard input.
 fn file_of<'a>(asked: Arguments<'a>, error: &StopError) -> Option<&'a str> {
     match input_of(error)? {
-        Source::Lock => asked.file,
+        Source::Lock => Some(asked.file.unwrap_or("-")),
         Source::Manifest => asked.manifest,
         Source::Advisories => asked.advisories,
     }
@@ -106,7 +109,7 @@ fn run_spot(error: &RunError) -> Spot
     match error {
         RunError::Input(InputError::NoJson(line, column)) => Spot {
             line: *line,
-            column: *column,
+            column: (*column).max(1),
         },
         RunError::NoLockFile(found) | RunError::FaultyManifest(found) => Spot {
             line: found.line,

@@ -9,9 +9,9 @@
 ghost use Rattle.std.specs.Prelude.{◌≡◌, ◌↔◌, IfErr, None, Some, false, true};
 ghost use Rattle.npm_lock_reports.specs.Report.{IsClean};
 
+mod annotated;
 mod argument_error;
 mod arguments;
-mod annotated;
 mod format;
 mod help;
 mod hits;
@@ -31,8 +31,8 @@ mod workspace_name;
 mod workspaces;
 mod written;
 
-use argument_error::ArgumentError;
 use annotated::annotate;
+use argument_error::ArgumentError;
 use arguments::{Arguments, Shown, read_arguments};
 use command_lines::{Quoted, Watched, open_error, read_json, words_of};
 use format::Format;

@@ -129,12 +129,7 @@ fn report_of(
 }
 
 /// Fails if the lock file with this text has a fault, or the manifest beside one of version 1.
-fn refuse(
-    alloc: Global,
-    lock: &Value,
-    text: &str,
-    manifest: Option<&Value>,
-) -> Result<(), RunError>
+fn refuse(alloc: Global, lock: &Value, text: &str, manifest: Option<&Value>) -> Result<(), RunError>
     ensures sound { OnOk result
         (any_fault (view lock.now) (option_map (λ manifest. view manifest.now) manifest.entry) ≡ None) }
     ensures refused { IfErr result
@@ -160,7 +155,9 @@ fn converted(alloc: Global, lock: Value, manifest: Option<&Value>) -> Result<Val
 {
     match convert(alloc, lock, manifest) {
         Ok(made) => Ok(made),
-        Err(CheckError::Refused(fault)) => Err(RunError::NoLockFile(FaultPlace::of_file(alloc, fault))),
+        Err(CheckError::Refused(fault)) => Err(RunError::NoLockFile(FaultPlace::of_file(
+            alloc, fault,
+        ))),
         Err(CheckError::Memory) => Err(RunError::Memory),
     }
 }
@@ -178,7 +175,9 @@ fn problems_of(
 {
     match check(alloc, lock, wanted.node) {
         Ok(problems) => problems_left(alloc, problems, lock, workspaces, wanted),
-        Err(CheckError::Refused(fault)) => Err(RunError::NoLockFile(FaultPlace::of_file(alloc, fault))),
+        Err(CheckError::Refused(fault)) => Err(RunError::NoLockFile(FaultPlace::of_file(
+            alloc, fault,
+        ))),
         Err(CheckError::Memory) => Err(RunError::Memory),
     }
 }

@@ -29,7 +29,7 @@ pub enum RunError {
     #[error("the manifest is not read: {0}")]
     NoManifest(Fault),
     /// The manifest of the package in this folder has a fault.
-    #[error("{0}/package.json is not read: {1}")]
+    #[error("{0}/package.json: the manifest is not read: {1}")]
     NoLinked(FolderName, Fault),
     /// The advisories have a fault: its kind, the name that the advisory stands under, and its place in the list there.
     #[error("the advisories are not read: {}", PlacedFault {kind: *.0, name: .1, place: *.2})]

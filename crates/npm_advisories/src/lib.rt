@@ -2,6 +2,7 @@
 #![tactic(auto)]
 
 mod advisory;
+mod covered;
 mod fault;
 mod found;
 mod hits;
@@ -14,6 +15,7 @@ mod names;
 mod offer;
 mod osv;
 mod read;
+mod release;
 mod severity;
 mod spans;
 mod unions;

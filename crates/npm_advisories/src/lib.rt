@@ -6,6 +6,7 @@ mod covered;
 mod fault;
 mod found;
 mod hits;
+mod id;
 mod index;
 mod json;
 mod lock;
@@ -23,6 +24,7 @@ mod unions;
 pub use advisory::About;
 pub use fault::{AuditError, Fault, FaultKind};
 pub use found::{Found, Installed, audit};
+pub use id::AdvisoryId;
 pub use lock::{LockError, audit_lock};
 pub use severity::Severity;
 

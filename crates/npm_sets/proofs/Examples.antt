@@ -1,3 +1,4 @@
 pub mod NpmExamples
 pub mod SpaceExamples
 pub mod PlaceExamples
+pub mod PartialExamples

@@ -6,6 +6,9 @@ pub mod Spaces
 -- ---- how a text is divided: pieces, words, and the partial of a word
 pub mod WordTexts
 pub mod PartialTexts
+-- ---- the grammar of partials, and that the same texts are read
+pub mod PartialGrammar
+pub mod PartialLaws
 -- ---- the rows: which comparator a word or a hyphen range gives
 pub mod Rows
 -- ---- the alternatives of a text, and which versions it admits

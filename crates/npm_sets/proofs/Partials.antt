@@ -1,0 +1,5 @@
+pub mod ComponentReading
+pub mod ListedZeros
+pub mod StrictExtras
+pub mod DottedReading
+pub mod PartialReading

@@ -3,7 +3,7 @@ use Rattle.std.proofs.Common.{◌≡◌, length}
 use denote.Shadow.{shadow}
 use denote.Text.{Utf8}
 use Rattle.npm_lock.specs.Workspaces as Workspaces
-use Rattle.npm_lock.proofs.workspace.without_slashes.Given as goal
+use Rattle.npm_lock.proofs.pattern.without_slashes.Given as goal
 
 abbrev pub invariant-slashes : goal.invariant-slashes
 invariant-slashes l = record {

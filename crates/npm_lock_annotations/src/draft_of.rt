@@ -106,7 +106,7 @@ pub fn unread<'a>(alloc: Global, folder: &'a FolderName) -> Result<Draft<'static
 
 /// Returns the draft of a note.
 fn noted<'a>(message: Vec<u8>, paths: Vec<Vec<&'a str>>) -> Draft<'static, 'a>
-    ensures { draft_value result ≡ note_draft message.items (map names_seen paths.items) }
+    ensures { draft_value result ≡ note_draft message.items (map names_seen paths.entry.items) }
 {
     Draft {
         rule: "unchecked",

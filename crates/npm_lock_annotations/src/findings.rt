@@ -25,12 +25,12 @@ use std::alloc::{AllocError, Global};
 /// # Memory
 ///
 /// Allocates the findings, and while places are looked up the paths of seven members for each.
-pub fn findings_of<'f>(
+pub fn findings_of<'f, 'a>(
     alloc: Global,
     text: &str,
     file: &'f str,
-    report: &Report,
-    found: &[Found<'_, '_>],
+    report: &'a Report,
+    found: &'a [Found<'_, '_>],
 ) -> Result<Vec<Finding<'f>>, AllocError>
     ensures { IfOk result (λ findings. AreFindings text.now file.now report.now (map found_value found.now)
         findings.items) }

@@ -77,8 +77,6 @@ pub data ArgumentErrorValue : Type 0 where
   no_format : (text : List ℕ) → ArgumentErrorValue
   no_kind : (text : List ℕ) → ArgumentErrorValue
   no_severity : (text : List ℕ) → ArgumentErrorValue
-  -- something is asked for that the format has no place for
-  no_place : ArgumentErrorValue
   -- that a text is no version of Node is said by `NodeVersion`, and not here
   no_node_version : (text : List ℕ) → ArgumentErrorValue
 
@@ -190,29 +188,10 @@ asked_by asked [] = asked
 asked_by (Err error) (argument ∷ rest) = Err error
 asked_by (Ok asked) (argument ∷ rest) = asked_by (asked_with asked argument) rest
 
--- ---- what fits together
-
--- the format is `github` or `sarif`
-abbrev pub has_annotations : Option Format → Bool
-has_annotations None = false
-has_annotations (Some (Formats.Report format)) = false
-has_annotations (Some (Formats.Annotations format)) = true
-
--- These arguments, if the format has a place for all that they ask for: `github` and `sarif` have none for what an
--- advisory hits and for what is not checked.
-abbrev pub if_fitting : ArgumentsValue → Result ArgumentsValue ArgumentErrorValue
-if_fitting asked = if has_annotations asked.format && (is_some asked.advisories || asked.unchecked) then Err no_place
-    else Ok asked
-
--- the same, unless something was wrong before
-abbrev pub all_fitting : Result ArgumentsValue ArgumentErrorValue → Result ArgumentsValue ArgumentErrorValue
-all_fitting (Err error) = Err error
-all_fitting (Ok asked) = if_fitting asked
-
 -- what the words after the program's name ask for, of which there are at most 1,000
 abbrev pub read_arguments : (words : List (List ℕ)) → Result ArgumentsValue ArgumentErrorValue
 read_arguments words = if nat_lt MAX_WORDS (length words) then Err too_many
-    else all_fitting (asked_by (Ok nothing_asked) (arguments_of words))
+    else asked_by (Ok nothing_asked) (arguments_of words)
 
 -- ---- what contracts see
 
@@ -239,7 +218,6 @@ argument_error_value (Errors.NoValue quoted) = no_value quoted.text.now
 argument_error_value (Errors.Format quoted) = no_format quoted.text.now
 argument_error_value (Errors.Kind quoted) = no_kind quoted.text.now
 argument_error_value (Errors.Severity quoted) = no_severity quoted.text.now
-argument_error_value Errors.NoPlace = no_place
 argument_error_value (Errors.NodeVersion quoted) = no_node_version quoted.text.now
 
 abbrev pub arguments_result : Result Arguments ArgumentError → Result ArgumentsValue ArgumentErrorValue

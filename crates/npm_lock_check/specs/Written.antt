@@ -2,8 +2,6 @@
 use Rattle.std.specs.Prelude.{ℕ, List, Bool, true, false, codes, map}
 use Rattle.annotations.specs.Findings.{finding_value}
 use Rattle.annotations.specs.declared.finding.Finding.{Finding}
-use Rattle.npm_lock.specs.Outcomes.{problem_value}
-use Rattle.npm_manifests.specs.Mismatches.{mismatch_value}
 use Rattle.npm_advisories.specs.Audit.{FoundValue}
 use Rattle.npm_lock_reports.specs.Report.{IsReportText}
 use Rattle.npm_lock_reports.specs.declared.report.Report.{Report}
@@ -16,8 +14,7 @@ use Rattle.npm_lock_check.specs.declared.format.Format.TheVariants as Formats
 abbrev pub IsWrittenAs : Format → (file lock_text : List ℕ) → Report → List FoundValue → (text : List ℕ) → Type 0
 IsWrittenAs (Formats.Report format) file lock_text report found text = IsReportText format report found text
 IsWrittenAs (Formats.Annotations format) file lock_text report found text = (findings : List Finding)
-    × AreFindings lock_text file report.exact (map mismatch_value report.mismatches.items)
-    (map problem_value report.problems.list.items) findings
+    × AreFindings lock_text file report found findings
     × IsFindingsText format (codes "1.0.0") (map finding_value findings) text
 
 -- the format has the lines and the columns of what is found

@@ -26,9 +26,6 @@ pub enum ArgumentError<'a> {
     /// The value of `--severity` is no severity.
     #[error("--severity takes info, low, moderate, high or critical, and not {0}; --help lists the options")]
     Severity(Quoted<'a>),
-    /// Something is asked for that the format has no place for.
-    #[error("--format github and --format sarif do not take --advisories or --unchecked; --help lists the options")]
-    NoPlace,
     /// The value of `--node` is no version.
     #[error("--node takes a version, as 20 or 20.11.1, and not {0}; --help lists the options")]
     NodeVersion(Quoted<'a>),

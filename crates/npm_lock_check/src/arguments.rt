@@ -73,19 +73,7 @@ pub fn read_arguments<'a>(words: &'a [String]) -> Result<Arguments<'a>, Argument
     if MAX_WORDS < words.len() {
         return Err(ArgumentError::TooMany);
     }
-    if_fitting(asked_from(nothing_asked(), words)?)
-}
-
-/// These arguments, if the format has a place for all that they ask for.
-fn if_fitting<'a>(asked: Arguments<'a>) -> Result<Arguments<'a>, ArgumentError<'a>>
-    ensures { arguments_result result ≡ ArgumentRules.if_fitting (arguments_value asked.entry) }
-{
-    let annotated = matches!(asked.format, Some(Format::Annotations(_)));
-    if annotated && (asked.advisories.is_some() || asked.unchecked) {
-        Err(ArgumentError::NoPlace)
-    } else {
-        Ok(asked)
-    }
+    asked_from(nothing_asked(), words)
 }
 
 /// What these words ask for, after others.

@@ -37,8 +37,7 @@ Options, of which the value may also be in the same word, as in --node=20:
                      Example: npm_lock_check --unchecked package-lock.json
   --format FORMAT    text: write each problem as a sentence. json: write it as a JSON object.
                      github: write it as an annotation of GitHub Actions. sarif: write all of them as
-                     one SARIF 2.1.0 log. Both have the line and the column in FILE, and go with
-                     neither --advisories nor --unchecked.
+                     one SARIF 2.1.0 log. Both have the line and the column in FILE.
                      The default is text if standard output is a terminal, and json if not.
                      Example: npm_lock_check --format text package-lock.json > problems.txt
   --ignore KIND      Leave out problems of this kind: group (package.json and the lock file do not ask

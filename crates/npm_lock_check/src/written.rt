@@ -36,21 +36,14 @@ fn annotated(
     alloc: Global,
     text: &str,
     report: &Report,
-    _found: &[Found<'_, '_>],
+    found: &[Found<'_, '_>],
     file: &str,
     format: AnnotationFormat,
 ) -> Result<Vec<u8>, AllocError>
     ensures { IfOk result (λ lines. IsWrittenAs (Annotations format) file.now text.now report.now
-        (map found_value _found.now) lines.items) }
+        (map found_value found.now) lines.items) }
 {
-    let findings = findings_of(
-        alloc,
-        text,
-        file,
-        &report.mismatches,
-        report.exact,
-        &report.problems.list,
-    )?;
+    let findings = findings_of(alloc, text, file, report, found)?;
     let mut lines = Vec::new(alloc);
     push_findings(&mut lines, format, NUMBER, &findings)?;
     Ok(lines)

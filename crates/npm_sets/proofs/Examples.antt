@@ -2,3 +2,4 @@ pub mod NpmExamples
 pub mod SpaceExamples
 pub mod PlaceExamples
 pub mod PartialExamples
+pub mod LimitExamples

@@ -6,13 +6,14 @@ pub mod Spaces
 -- ---- how a text is divided: pieces, words, and the partial of a word
 pub mod WordTexts
 pub mod PartialTexts
--- ---- the grammar of partials, and that the same texts are read
-pub mod PartialGrammar
-pub mod PartialLaws
 -- ---- the rows: which comparator a word or a hyphen range gives
 pub mod Rows
 -- ---- the alternatives of a text, and which versions it admits
 pub mod NpmMeaning
+-- ---- the grammar of partials, their limits, and that the same texts are read
+pub mod PartialGrammar
+pub mod PartialLimits
+pub mod PartialLaws
 -- ---- where a text is refused
 pub mod RefusedPlace
 pub mod NpmAnswer

@@ -2,7 +2,7 @@
 use Rattle.std.proofs.Common.{◌≡◌, ◌∷◌, [], Err, Ok, Some, codes, false, map, refl, true}
 use Rattle.npm_advisories.specs.declared.severity.Severity.TheVariants.{High}
 use Rattle.npm_lock.specs.declared.problem.Kind.TheVariants.{Engine, Invalid, Missing, PeerLocal}
-use Rattle.npm_lock_check.specs.Arguments.{no_kind, no_place, no_severity, no_value, nothing_asked, read_arguments, second_file, unknown_option}
+use Rattle.npm_lock_check.specs.Arguments.{no_kind, no_severity, no_value, nothing_asked, read_arguments, second_file, unknown_option}
 use Rattle.npm_lock_check.specs.Kinds.{has, named_by, no_kinds, with_kind, with_named}
 use Rattle.npm_lock_reports.specs.declared.format.ReportFormat.TheVariants.{Json}
 use Rattle.npm_lock_annotations.specs.declared.format.AnnotationFormat.TheVariants.{Github, Sarif}
@@ -127,18 +127,13 @@ pub a_log : read_arguments (codes "--format" ∷ codes "sarif" ∷ [])
     ≡ Ok (record nothing_asked { format = Some (Annotations Sarif) })
 a_log = refl
 
--- in either order, and nothing is left out in silence
-pub a_log_of_advisories : read_arguments (codes "--format=sarif" ∷ codes "--advisories=a.json" ∷ []) ≡ Err no_place
+pub a_log_of_advisories : read_arguments (codes "--format=sarif" ∷ codes "--advisories=a.json" ∷ [])
+    ≡ Ok (record nothing_asked { format = Some (Annotations Sarif); advisories = Some (codes "a.json") })
 a_log_of_advisories = refl
 
 pub annotations_of_what_is_not_checked : read_arguments (codes "--unchecked" ∷ codes "--format=github" ∷ [])
-    ≡ Err no_place
+    ≡ Ok (record nothing_asked { format = Some (Annotations Github); unchecked = true })
 annotations_of_what_is_not_checked = refl
-
--- the last format counts here too
-pub advisories_as_json : read_arguments (codes "--format=sarif" ∷ codes "--unchecked" ∷ codes "--format=json" ∷ [])
-    ≡ Ok (record nothing_asked { format = Some (Report Json); unchecked = true })
-advisories_as_json = refl
 
 pub the_last_text_shown_counts : read_arguments (codes "--help" ∷ codes "--version" ∷ [])
     ≡ Ok (record nothing_asked { shown = Some Version })

@@ -1,13 +1,13 @@
 -- Worked examples: which texts the grammar of partials has, and as which partial. Each row is computed by the reader,
 -- and means what it says by the law that reader and grammar agree.
 use Rattle.std.proofs.Common.{◌≡◌, ℕ, Bool, true, false, List, [], ◌∷◌, Option, Some, None, Ok, Err, map, refl, codes, ap}
-use Rattle.std.proofs.Common.{◌∙◌, sym}
+use Rattle.std.proofs.Common.{◌∙◌, arith, sym}
 use Rattle.std.proofs.lemmas.Option.{same_Some}
 use Rattle.std.specs.List.{AllByRecursion}
 use Rattle.semver_texts.specs.IdentifierValue.{IdentifierValue, alphanumeric, numeric}
 use Rattle.semver_texts.specs.Reading.{Read, list_prefix, list_rest, prefix_of, read_build, read_extras, read_number}
 use Rattle.semver_texts.specs.Reading.{read_prerelease, rest_of, skip_one, skip_plus}
-use Rattle.semver_sets.specs.PartialText.{Partial, plain_partial}
+use Rattle.semver_sets.specs.PartialText.{Partial, plain_partial, two}
 use Rattle.npm_sets.specs.PartialGrammar.{IsNpmPartialText}
 use Rattle.npm_sets.specs.PartialTexts.{has_none_padded, read_components}
 use Rattle.npm_sets.specs.WordTexts.{is_mark}
@@ -116,3 +116,22 @@ loose-computed = refl
 
 pub loose-written : AreWritten true loose_rows
 loose-written = all-written true loose_rows loose-computed
+
+-- ---- by hand
+
+-- `v1.x` is of the grammar
+by_hand : IsNpmPartialText false (codes "v1.x") (plain_partial (Some 1) None None)
+by_hand = record {
+  marks = codes "v";
+  unmarked = codes "1.x";
+  whole = refl;
+  all = refl;
+  components = two (Some 1) None refl (record {
+    first = codes "1";
+    second = codes "x";
+    whole = refl;
+    major_text = record { some = refl; digits = refl; value = refl; limit = omega arith };
+    minor_text = (120, refl, refl);
+  });
+  strict = λ form. (refl, refl);
+}

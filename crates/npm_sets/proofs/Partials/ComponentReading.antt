@@ -9,18 +9,14 @@ use Rattle.semver_texts.specs.Lemmas.Public.{begins-append, digit-begins_no_x, n
 use Rattle.semver_texts.specs.Lemmas.Public.{with_no-begins, x-no_digit}
 use Rattle.semver_sets.specs.PartialText.{IsComponentText}
 use Rattle.npm_sets.specs.PartialGrammar.{IsUnpadded, is_padded_number}
+use Rattle.npm_sets.specs.PartialLimits.{IsNpmComponent}
 use Rattle.npm_sets.specs.PartialTexts.{has_leading_zero, number_component, read_component}
-
--- a component, which in strict form has no leading zero
-pub record IsComponent (loose : Bool) (text : List ℕ) (component : Option ℕ) : Type 0 where
-  pub read : IsComponentText text component
-  pub strict : loose ≡ false → IsUnpadded text
 
 -- A component at the start of a text. A number takes all the digits.
 pub record TakesComponent (loose : Bool) (text : List ℕ) (component : Option ℕ) (rest : List ℕ) : Type 0 where
   pub taken : List ℕ
   pub whole : text ≡ taken ++ rest
-  pub is : IsComponent loose taken component
+  pub is : IsNpmComponent loose taken component
   pub ends : BeginsWith is_digit taken → BeginsWithNo is_digit rest
 
 -- a success: a component and the rest
@@ -30,7 +26,7 @@ component_read component rest = Ok (component, rest)
 -- ---- leading zeros
 
 -- all digits at the start of a text are a number with a leading zero exactly if the text begins so
-zero-first : (digits rest : List ℕ) → BeginsWith is_digit digits → AreAll is_digit digits → BeginsWithNo is_digit rest
+pub zero-first : (digits rest : List ℕ) → BeginsWith is_digit digits → AreAll is_digit digits → BeginsWithNo is_digit rest
     → has_leading_zero (digits ++ rest) ≡ is_padded_number digits
 zero-first [] rest some all ends = absurd some
 zero-first (b ∷ []) rest some all ends = grind (arith, with_no-begins is_digit rest ends, cases_Bool (b == 48))
@@ -76,20 +72,24 @@ component-takes loose (b ∷ text) component rest h = elim (cases_Bool (is_x b))
 
 -- ---- a component is read
 
--- strict form lets it through
-zero-none : (loose : Bool) (text rest : List ℕ) (number : ℕ) → IsComponent loose text (Some number)
-    → BeginsWithNo is_digit rest → (not loose && has_leading_zero (text ++ rest)) ≡ false
-zero-none true text rest number h ends = refl
-zero-none false text rest number h ends =
-    grind (arith, zero-first text rest h.read.some h.read.digits ends, h.strict refl)
+-- in strict form the digits of a number begin with no leading zero, whatever follows them
+pub zero-none : (loose : Bool) (digits rest : List ℕ) → BeginsWith is_digit digits → AreAll is_digit digits
+    → BeginsWithNo is_digit rest → (loose ≡ false → IsUnpadded digits)
+    → (not loose && has_leading_zero (digits ++ rest)) ≡ false
+zero-none true digits rest some all ends strict = refl
+zero-none false digits rest some all ends strict =
+    grind (arith, zero-first digits rest some all ends, strict refl)
 
-number-read : (loose : Bool) (text rest : List ℕ) (number : ℕ) → IsComponent loose text (Some number)
+number-read : (loose : Bool) (text rest : List ℕ) (number : ℕ) → IsNpmComponent loose text (Some number)
     → BeginsWithNo is_digit rest → number_component loose (text ++ rest) ≡ component_read (Some number) rest
 number-read loose text rest number h ends =
-    rw (zero-none loose text rest number h ends, number-again text rest number h.read ends) refl
+    rw (
+      zero-none loose text rest h.read.some h.read.digits ends h.strict,
+      number-again text rest number h.read ends,
+    ) refl
 
 -- what begins with a digit is no x
-digit-component : (loose : Bool) (text : List ℕ) → BeginsWith is_digit text
+pub digit-component : (loose : Bool) (text : List ℕ) → BeginsWith is_digit text
     → read_component loose text ≡ number_component loose text
 digit-component loose [] digit = absurd digit
 digit-component loose (b ∷ text) digit = rw (digit-begins_no_x (b ∷ text) digit) refl
@@ -99,7 +99,7 @@ x-read : (loose : Bool) (b : ℕ) (rest : List ℕ) → is_x b ≡ true
 x-read loose b rest x = rw x refl
 
 -- a component is read, if no digit follows a number
-pub component-again : (loose : Bool) (text rest : List ℕ) (component : Option ℕ) → IsComponent loose text component
+pub component-again : (loose : Bool) (text rest : List ℕ) (component : Option ℕ) → IsNpmComponent loose text component
     → (BeginsWith is_digit text → BeginsWithNo is_digit rest)
     → read_component loose (text ++ rest) ≡ component_read component rest
 component-again loose text rest None h ends =

@@ -10,9 +10,10 @@ use Rattle.semver_texts.specs.VersionText.{HasThreeParts}
 use Rattle.semver_texts.specs.Lemmas.Public.{clean_extras, ok-value}
 use Rattle.semver_sets.specs.PartialText.{IsComponentText, IsUnmarkedPartial, Partial, one, plain_partial, three, two}
 use Rattle.npm_sets.specs.PartialGrammar.{IsStrict}
+use Rattle.npm_sets.specs.PartialLimits.{IsNpmComponent}
 use Rattle.npm_sets.specs.PartialTexts.{after_dot, are_strict, read_component, read_components, read_from_extras}
 use Rattle.npm_sets.specs.PartialTexts.{read_from_minor, read_from_patch, with_extras}
-use Rattle.npm_sets.proofs.Partials.ComponentReading.{IsComponent, component-takes}
+use Rattle.npm_sets.proofs.Partials.ComponentReading.{component-takes}
 use Rattle.npm_sets.proofs.Partials.StrictExtras.{extras-taken, strict-takes}
 
 -- one to three components, which are strict in strict form
@@ -35,7 +36,7 @@ no-extras major minor = rw (clean_extras [] refl) refl
 
 -- ---- one and two components
 
-one-taken : (loose : Bool) (text : List ℕ) (major : Option ℕ) (p : Partial) → IsComponent loose text major
+one-taken : (loose : Bool) (text : List ℕ) (major : Option ℕ) (p : Partial) → IsNpmComponent loose text major
     → with_extras major None None [] ≡ p → AreComponents loose text p
 one-taken loose text major p first h = record {
   components = one major (sym h ∙ no-extras major None) first.read;
@@ -43,7 +44,7 @@ one-taken loose text major p first h = record {
 }
 
 two-taken : (loose : Bool) (first second : List ℕ) (major minor : Option ℕ) (p : Partial)
-    → IsComponent loose first major → IsComponent loose second minor → with_extras major minor None [] ≡ p
+    → IsNpmComponent loose first major → IsNpmComponent loose second minor → with_extras major minor None [] ≡ p
     → AreComponents loose (first ++ (dot ∷ second)) p
 two-taken loose first second major minor p before behind h = record {
   components = two major minor (sym h ∙ no-extras major minor) (record {
@@ -59,8 +60,8 @@ two-taken loose first second major minor p before behind h = record {
 -- ---- three components and extras
 
 module _ (loose : Bool) (first second third extras : List ℕ) (major minor patch : Option ℕ)
-    (one_read : IsComponent loose first major) (two_read : IsComponent loose second minor)
-    (three_read : IsComponent loose third patch) (ends : BeginsWith is_digit third → BeginsWithNo is_digit extras) where
+    (one_read : IsNpmComponent loose first major) (two_read : IsNpmComponent loose second minor)
+    (three_read : IsNpmComponent loose third patch) (ends : BeginsWith is_digit third → BeginsWithNo is_digit extras) where
   three-parts : IsExtrasText extras (read_extras extras).0.0 (read_extras extras).0.1
       → HasThreeParts IsComponentText (first ++ (dot ∷ (second ++ (dot ∷ (third ++ extras))))) major minor patch
       (read_extras extras).0.0 (read_extras extras).0.1
@@ -107,7 +108,7 @@ module _ (loose : Bool) (first second third extras : List ℕ) (major minor patc
 -- ---- component by component
 
 third-taken : (loose : Bool) (first second text : List ℕ) (major minor : Option ℕ) (read : Read (Option ℕ))
-    (p : Partial) → IsComponent loose first major → IsComponent loose second minor → read_component loose text ≡ read
+    (p : Partial) → IsNpmComponent loose first major → IsNpmComponent loose second minor → read_component loose text ≡ read
     → (read >>= λ patch. read_from_extras loose major minor patch.0 patch.1) ≡ read_as p []
     → AreComponents loose (first ++ (dot ∷ (second ++ (dot ∷ text)))) p
 third-taken loose first second text major minor (Err e) p before behind r h = cc h
@@ -118,7 +119,7 @@ third-taken loose first second text major minor (Ok c) p before behind r h =
 
 -- what follows a second component
 from_patch-taken : (loose : Bool) (first second text : List ℕ) (major minor : Option ℕ) (p : Partial)
-    → IsComponent loose first major → IsComponent loose second minor
+    → IsNpmComponent loose first major → IsNpmComponent loose second minor
     → read_from_patch loose major minor text (after_dot text) ≡ read_as p []
     → AreComponents loose (first ++ (dot ∷ (second ++ text))) p
 from_patch-taken loose first second [] major minor p before behind h =
@@ -133,7 +134,7 @@ from_patch-taken loose first second (b ∷ text) major minor p before behind h =
 ]
 
 second-taken : (loose : Bool) (first text : List ℕ) (major : Option ℕ) (read : Read (Option ℕ)) (p : Partial)
-    → IsComponent loose first major → read_component loose text ≡ read
+    → IsNpmComponent loose first major → read_component loose text ≡ read
     → (read >>= λ minor. read_from_patch loose major minor.0 minor.1 (after_dot minor.1)) ≡ read_as p []
     → AreComponents loose (first ++ (dot ∷ text)) p
 second-taken loose first text major (Err e) p before r h = cc h
@@ -143,7 +144,7 @@ second-taken loose first text major (Ok c) p before r h =
     (from_patch-taken loose first t.taken c.1 major c.0 p before t.is h)
 
 -- what follows a first component
-from_minor-taken : (loose : Bool) (first text : List ℕ) (major : Option ℕ) (p : Partial) → IsComponent loose first major
+from_minor-taken : (loose : Bool) (first text : List ℕ) (major : Option ℕ) (p : Partial) → IsNpmComponent loose first major
     → read_from_minor loose major text (after_dot text) ≡ read_as p [] → AreComponents loose (first ++ text) p
 from_minor-taken loose first [] major p before h =
     let e = same-read (with_extras major None None []) p [] [] h in

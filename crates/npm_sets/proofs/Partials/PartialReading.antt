@@ -12,15 +12,16 @@ use Rattle.semver_texts.specs.Lemmas.Public.{ok-value, prefix_of-all, prefix_of-
 use Rattle.semver_sets.specs.PartialText.{IsComponentText, IsUnmarkedPartial, Partial, one, three, two}
 use Rattle.npm_sets.specs.PartialGrammar.{IsNpmPartialText, IsStrict}
 use Rattle.npm_sets.specs.PartialLaws.{IsOneNpmPartial, IsReadAsWritten}
+use Rattle.npm_sets.specs.PartialLimits.{IsNpmComponent}
 use Rattle.npm_sets.specs.PartialTexts.{are_strict, partial_of, read_component, read_components, whole}
 use Rattle.npm_sets.specs.WordTexts.{is_mark}
-use Rattle.npm_sets.proofs.Partials.ComponentReading.{IsComponent, component-again, component_read}
+use Rattle.npm_sets.proofs.Partials.ComponentReading.{component-again, component_read}
 use Rattle.npm_sets.proofs.Partials.DottedReading.{components-taken, no-extras, read_as, same-read}
 use Rattle.npm_sets.proofs.Partials.StrictExtras.{extras-read, strict-again}
 
 -- ---- components are read
 
-last-again : (loose : Bool) (text : List ℕ) (component : Option ℕ) → IsComponent loose text component
+last-again : (loose : Bool) (text : List ℕ) (component : Option ℕ) → IsNpmComponent loose text component
     → read_component loose text ≡ component_read component []
 last-again loose text component h =
     ap (read_component loose) (sym (append-nil text)) ∙ component-again loose text [] component h (λ digit. tt)
@@ -60,14 +61,14 @@ components-again loose text p (three h) strict = three-again loose text p h stri
 
 -- ---- marks
 
-digit-no_mark : (b : ℕ) → is_digit b ≡ true → is_mark b ≡ false
+pub digit-no_mark : (b : ℕ) → is_digit b ≡ true → is_mark b ≡ false
 digit-no_mark b h = grind (arith, nat_tests)
 
 x-no_mark : (b : ℕ) → is_x b ≡ true → is_mark b ≡ false
 x-no_mark b h = grind (arith, nat_tests)
 
 -- no mark begins a component
-component-no_mark : (text rest : List ℕ) (component : Option ℕ) → IsComponentText text component
+pub component-no_mark : (text rest : List ℕ) (component : Option ℕ) → IsComponentText text component
     → BeginsWithNo is_mark (text ++ rest)
 component-no_mark text rest None h = rw h.1 (x-no_mark h.0 h.2)
 component-no_mark [] rest (Some number) h = absurd h.some

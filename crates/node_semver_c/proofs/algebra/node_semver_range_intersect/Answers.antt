@@ -1,10 +1,10 @@
 use Rattle.node_semver_c.specs.Answers.{IsIntersection}
 use Rattle.node_semver_c.proofs.Found.{found_of}
-use Rattle.node_semver_c.proofs.algebra.intersect.Goals as goal
+use Rattle.node_semver_c.proofs.algebra.node_semver_range_intersect.Goals as goal
 
 pub returns-in-Ok : goal.returns-in-Ok
 returns-in-Ok c =
-    found_of (IsIntersection c.args.one.now c.args.other.now) c.in-Ok.found
+    rw (← c.get.ensures, ← c.get-2.ensures) (found_of (IsIntersection c.get.result.now c.get-2.result.now) c.in-Ok.found
     c.keep_range_found.result c.keep_range_found.new.held.value record {
       sets = c.in-Ok.ensures.sets;
       cuts = c.in-Ok.ensures.cuts;
@@ -15,4 +15,4 @@ returns-in-Ok c =
       disjoint = c.in-Ok.ensures.disjoint;
       together = c.in-Ok.ensures.together;
       holds = c.in-Ok.ensures.holds;
-    } c.keep_range_found.ensures
+    } c.keep_range_found.ensures)

@@ -1,10 +1,10 @@
 use Rattle.node_semver_c.specs.Answers.{IsDifference}
 use Rattle.node_semver_c.proofs.Found.{found_of}
-use Rattle.node_semver_c.proofs.algebra.difference.Goals as goal
+use Rattle.node_semver_c.proofs.algebra.node_semver_range_difference.Goals as goal
 
 pub returns-in-Ok : goal.returns-in-Ok
 returns-in-Ok c =
-    found_of (IsDifference c.args.one.now c.args.other.now) c.in-Ok.found
+    rw (← c.get.ensures, ← c.get-2.ensures) (found_of (IsDifference c.get.result.now c.get-2.result.now) c.in-Ok.found
     c.keep_range_found.result c.keep_range_found.new.held.value record {
       sets = c.in-Ok.ensures.sets;
       cuts = c.in-Ok.ensures.cuts;
@@ -13,4 +13,4 @@ returns-in-Ok c =
       disjoint = c.in-Ok.ensures.disjoint;
       together = c.in-Ok.ensures.together;
       holds = c.in-Ok.ensures.holds;
-    } c.keep_range_found.ensures
+    } c.keep_range_found.ensures)

@@ -1,6 +1,7 @@
 """Runs of the programs on large input: the words, the files, and all that is written, with the status."""
 import os
 
+from findings import Finding, at_dependency, at_mismatch, at_package, github, sarif
 from lock_files import GROUPS, LEVELS, NAMES, asked, at_root, audits, cases, lock_of, mismatch, osv_audits, text_of
 from ranges import alternatives
 from versions import LONG, MANY
@@ -20,11 +21,11 @@ REASONS = {
 
 class Run:
     """A run of npm_lock_check. Each file is the value of an option. What is not checked is listed and changes no status, and so
-    are mismatches without `--exact`."""
+    are mismatches without `--exact`. `log` is written in place of the lines."""
 
-    def __init__(self, lock, words, lines, error, files=(), manifests=(), unchecked=()):
+    def __init__(self, lock, words, lines, error, files=(), manifests=(), unchecked=(), log=None):
         self.lock, self.words, self.files, self.manifests = lock, words, dict(files), dict(manifests)
-        self.output = "".join(line + "\n" for line in [*lines, *unchecked])
+        self.output = "".join(line + "\n" for line in ([log] if log else [*lines, *unchecked]))
         self.error, self.status = error + "\n", 1 if lines else 0
 
     def arguments(self, folder):
@@ -77,8 +78,22 @@ def mismatch_sentence(one):
     return f"{one['name']} in {one['group']} is {side(one, 'spec')} in {manifest}, and {side(one, 'locked')} in the lock file"
 
 
+def annotated(lock, words, found, notes, error, files=()):
+    """The runs of the formats with places. What is in `found` counts for the status, and what is in `notes` does not."""
+    yield Run(lock, ["--format", "github", *words], github(lock, found), error, files, unchecked=github(lock, notes))
+    yield Run(lock, ["--format", "sarif", *words], found, error, files, log=sarif(lock, [*found, *notes]))
+
+
+def annotated_case(case, error, files):
+    """The runs of a case in these formats, with what is not checked."""
+    found = [Finding(one["problem"].replace(" ", "-"), sentence(case.lock, one), at_dependency(one)) for one in case.problems]
+    notes = [Finding("unchecked", sentence(case.lock, one), at_dependency(one)) for one in case.unchecked]
+    node = ["--node", case.node] if case.node else []
+    yield from annotated(case.lock, ["--unchecked", *node], found, notes, error, files)
+
+
 def check_runs():
-    """Each case in both formats, also with what is not checked, and without its kinds of problems."""
+    """Each case in each format, also with what is not checked, and without its kinds of problems."""
     for case in cases():
         files = {"manifest": case.manifest} if case.manifest else {}
         node = ["--node", case.node] if case.node else []
@@ -93,6 +108,7 @@ def check_runs():
             yield Run(case.lock, words, lines, counts + hint + of_mismatches, files)
             if unchecked:
                 yield Run(case.lock, [*words, "--unchecked"], lines, counts + of_mismatches, files, unchecked=unchecked)
+        yield from annotated_case(case, counts + of_mismatches, files)
         if lines:
             kinds = [one["problem"].replace(" ", "-") for one in case.problems]
             ignored = [word for kind in sorted(set(kinds)) for word in ("--ignore", kind)]
@@ -111,6 +127,9 @@ def audit_runs():
             lines = [text_of(one) if form == "json" else hit_sentence(one) for one in hits]
             words = ["--format", form, "--severity", level]
             yield Run(lock, words, lines, f"{counts}0 problems, 0 not checked, {len(hits)} hit", {"advisories": advisories})
+        found = [Finding("advisory", hit_sentence(one), at_package(one["folder"])) for one in hits]
+        error = f"{counts}0 problems, 0 not checked, {len(hits)} hit"
+        yield from annotated(lock, ["--severity", level], found, [], error, {"advisories": advisories})
 
 
 def manifest_runs():
@@ -125,6 +144,10 @@ def manifest_runs():
             files = {"manifest": asked("^1", group)}
             yield Run(lock, ["--format", form, "--exact"], lines, counts, files)
             yield Run(lock, ["--format", form], [], counts, files, unchecked=lines)
+        findings = [Finding("mismatch", mismatch_sentence(one), at_mismatch(one), "error") for one in found]
+        yield from annotated(lock, ["--exact"], findings, [], counts, files)
+        warnings = [Finding("mismatch", mismatch_sentence(one), at_mismatch(one)) for one in found]
+        yield from annotated(lock, [], [], warnings, counts, files)
     names = [f"w{number:05}" for number in range(MANY)]
     root = {"workspaces": [f"w/{name}" for name in names]}
     links = {f"node_modules/{name}": {"link": True, "resolved": f"w/{name}"} for name in names}

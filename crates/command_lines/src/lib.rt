@@ -1,7 +1,8 @@
 //! Parts that programs for a command line share.
 //!
-//! - [`words_of`] returns the words after the program's name, and [`first_argument`] divides them into arguments.
-//! - [`Quoted`], [`write_shown`] and [`push_shown`] write texts in printable ASCII alone, as a terminal gets them.
+//! - [`words_of`] returns the words after the program's name, [`word_bytes`] the bytes of one, and [`first_argument`] divides
+//!   words into arguments.
+//! - [`Quoted`], [`write_shown`], [`push_shown`] and [`push_shown_bytes`] write texts in printable ASCII alone, as a terminal gets them.
 //! - [`Watched`] is a reader or writer that remembers that a call failed, and [`read_json`] reads the JSON value of one.
 #![tactic(auto)]
 
@@ -15,6 +16,6 @@ mod words;
 pub use argument::{Argument, MAX_WORDS, Options, first_argument};
 pub use input::{read_json, read_json_with_text};
 pub use input_error::{InputError, failure_error, open_error};
-pub use shown::{Quoted, push_shown, write_quoted, write_shown};
+pub use shown::{Quoted, push_shown, push_shown_bytes, write_quoted, write_shown};
 pub use watched::Watched;
-pub use words::{RawWord, WordsError, words_of};
+pub use words::{RawWord, WordsError, word_bytes, words_of};

@@ -62,7 +62,14 @@ fn digit(number: u8) -> u8
 pub fn push_shown(line: &mut Vec<u8>, text: &str) -> Result<(), AllocError>
     ensures { OnOk result (line.new.items ≡ line.old.items ++ flat_map Shown.shown_byte text.now) }
 {
-    for byte in text.as_bytes() {
+    push_shown_bytes(line, text.as_bytes())
+}
+
+/// Adds the bytes of a text to a line.
+pub fn push_shown_bytes(line: &mut Vec<u8>, text: &[u8]) -> Result<(), AllocError>
+    ensures { OnOk result (line.new.items ≡ line.old.items ++ flat_map Shown.shown_byte text.now) }
+{
+    for byte in text {
         line.extend_from_slice(ShownByte::new(*byte).as_bytes())?;
     }
     Ok(())

@@ -39,7 +39,7 @@ pub fn words_of<E: Env>(alloc: Global, env: &E) -> Result<Vec<String>, WordsErro
     let mut words = Vec::new(alloc);
     // The first word is the program's name.
     for place in 1..usize::MAX {
-        match bytes_at(alloc, env, place).map_err(|_| WordsError::Memory)? {
+        match word_bytes(alloc, env, place).map_err(|_| WordsError::Memory)? {
             Some(bytes) => words.push(text_of(bytes)?).map_err(|_| WordsError::Memory)?,
             None => break,
         }
@@ -57,8 +57,16 @@ fn text_of(bytes: Vec<u8>) -> Result<String, WordsError> {
     }
 }
 
-/// The bytes of the word at this place, or `None` after the last one. Doubles the room until the word fits.
-fn bytes_at<E: Env>(alloc: Global, env: &E, place: usize) -> Result<Option<Vec<u8>>, AllocError> {
+/// Returns the bytes of the word at this place, or `None` after the last word. The program's name is at place 0.
+///
+/// # Memory
+///
+/// Allocates 256 bytes, and then twice as many until the word fits.
+pub fn word_bytes<E: Env>(
+    alloc: Global,
+    env: &E,
+    place: usize,
+) -> Result<Option<Vec<u8>>, AllocError> {
     let mut room: usize = 256;
     for _ in 0..usize::BITS {
         let mut bytes = Vec::new(alloc);

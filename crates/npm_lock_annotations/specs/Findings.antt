@@ -1,5 +1,5 @@
--- Problems of a lock file and mismatches of a manifest as findings.
-use Rattle.std.specs.Prelude.{◌≡◌, ◌++◌, ℕ, List, Bool, Vec, codes, length, map}
+-- The report of a lock file as findings.
+use Rattle.std.specs.Prelude.{◌≡◌, ◌++◌, ℕ, List, [], Bool, if◌then◌else◌, Vec, codes, length, map}
 use Rattle.std.specs.Global.{Global}
 use Rattle.std.specs.List.{flat_map}
 use denote.Ref.{Bor}
@@ -7,14 +7,20 @@ use Rattle.annotations.specs.Findings.{FindingValue, ToolValue}
 use Rattle.annotations.specs.Github.{annotation}
 use Rattle.annotations.specs.Sarif.{log}
 use Rattle.annotations.specs.declared.finding.Finding.{Finding}
-use Rattle.annotations.specs.declared.finding.Level.TheVariants.{Error}
+use Rattle.annotations.specs.declared.finding.Level.TheVariants.{Error, Note}
 use Rattle.json_findings.specs.Drafts.{AreFindingsOf, DraftValue, draft_value}
 use Rattle.json_findings.specs.declared.draft.Draft.{Draft}
-use Rattle.npm_lock.specs.Outcomes.{ProblemValue}
-use Rattle.npm_manifests.specs.Mismatches.{MismatchValue, group_text}
-use Rattle.npm_lock_sentences.specs.Sentence.{mismatch_sentence, sentence}
-use Rattle.npm_lock_annotations.specs.Members.{mismatch_paths, problem_paths}
-use Rattle.npm_lock_annotations.specs.Rules.{mismatch_level, rule_place, rule_word, rule_words}
+use Rattle.npm_advisories.specs.Audit.{FoundValue}
+use Rattle.npm_lock.specs.Outcomes.{ProblemValue, UncheckedValue, problem_value, unchecked_value}
+use Rattle.npm_manifests.specs.Mismatches.{MismatchValue, group_text, mismatch_value}
+use Rattle.npm_lock_reports.specs.HitSentence.{hit_sentence}
+use Rattle.npm_lock_reports.specs.Report.{folder_text}
+use Rattle.npm_lock_reports.specs.Unread.{unread_sentence}
+use Rattle.npm_lock_reports.specs.declared.report.Report.{Report}
+use Rattle.npm_lock_sentences.specs.Sentence.{mismatch_sentence, sentence, unchecked_sentence}
+use Rattle.npm_lock_annotations.specs.Members.{dependency_paths, mismatch_paths, package_paths, problem_paths}
+use Rattle.npm_lock_annotations.specs.Rules.{advisory_place, mismatch_level, mismatch_place, rule_place, rule_word}
+use Rattle.npm_lock_annotations.specs.Rules.{rule_words, unchecked_place}
 use Rattle.npm_lock_annotations.specs.declared.format.AnnotationFormat.{AnnotationFormat}
 use Rattle.npm_lock_annotations.specs.declared.format.AnnotationFormat.TheVariants.{Github, Sarif}
 
@@ -32,22 +38,59 @@ problem_draft problem = record {
 abbrev pub mismatch_draft : (exact : Bool) → MismatchValue → DraftValue
 mismatch_draft exact mismatch = record {
   rule = codes "mismatch";
-  rule_index = 4;
+  rule_index = mismatch_place;
   level = mismatch_level exact;
   message = mismatch_sentence mismatch;
   paths = mismatch_paths mismatch.from (group_text mismatch.group) mismatch.name;
 }
 
--- the mismatches first, and then the problems
-abbrev pub all_drafts : (exact : Bool) → List MismatchValue → List ProblemValue → List DraftValue
-all_drafts exact mismatches problems = map (mismatch_draft exact) mismatches ++ map problem_draft problems
+-- a package that an advisory hits, at the package
+abbrev pub hit_draft : FoundValue → DraftValue
+hit_draft found = record {
+  rule = codes "advisory";
+  rule_index = advisory_place;
+  level = Error;
+  message = hit_sentence found;
+  paths = package_paths found.folder;
+}
 
--- One finding for each mismatch and for each problem, in their order, in the lock file at this path with this text. The
--- place of each is that of a member that it is about, or of the beginning of the text.
-pub record AreFindings (text file : List ℕ) (exact : Bool) (mismatches : List MismatchValue) (problems : List ProblemValue)
-    (findings : List Finding) : Type 0 where
+-- a note
+abbrev pub note_draft : (message : List ℕ) → (paths : List (List (List ℕ))) → DraftValue
+note_draft message paths = record {
+  rule = codes "unchecked";
+  rule_index = unchecked_place;
+  level = Note;
+  message = message;
+  paths = paths;
+}
+
+-- a dependency that is not checked, at the dependency
+abbrev pub unchecked_draft : UncheckedValue → DraftValue
+unchecked_draft unchecked = note_draft (unchecked_sentence unchecked)
+    (dependency_paths unchecked.dependency.from unchecked.dependency.name)
+
+-- the manifest in this folder that was not read, at the package in the folder
+abbrev pub unread_draft : (folder : List ℕ) → DraftValue
+unread_draft folder = note_draft (unread_sentence folder) (package_paths folder)
+
+-- the dependencies that are not checked and then the manifests that were not read, if they are listed
+abbrev pub listed_drafts : Report → List DraftValue
+listed_drafts report = if report.listed
+    then map unchecked_draft (map unchecked_value report.problems.unchecked.items)
+    ++ map unread_draft (map folder_text report.unread.items) else []
+
+-- all of a report and of the packages that are hit, in the order of the report's lines
+abbrev pub all_drafts : Report → List FoundValue → List DraftValue
+all_drafts report found = map (mismatch_draft report.exact) (map mismatch_value report.mismatches.items)
+    ++ (map problem_draft (map problem_value report.problems.list.items)
+    ++ (map hit_draft found ++ listed_drafts report))
+
+-- One finding for each of these, in their order, in the lock file at this path with this text. The place of each is that
+-- of a member that it is about, or of the beginning of the text.
+pub record AreFindings (text file : List ℕ) (report : Report) (found : List FoundValue) (findings : List Finding)
+    : Type 0 where
   pub drafts : List Draft
-  pub such : map draft_value drafts ≡ all_drafts exact mismatches problems
+  pub such : map draft_value drafts ≡ all_drafts report found
   pub placed : AreFindingsOf text file drafts (length drafts) findings
 
 -- ---- how findings are written

@@ -1,4 +1,4 @@
--- The rules that findings break: one for each kind of problem, and one for mismatches.
+-- The rules that findings break: one for each kind of problem, and one for each other kind of finding.
 use Rattle.std.specs.Prelude.{ℕ, List, [], ◌∷◌, Bool, if◌then◌else◌, codes}
 use Rattle.annotations.specs.declared.finding.Level.{Level}
 use Rattle.annotations.specs.declared.finding.Level.TheVariants.{Error, Warning}
@@ -19,9 +19,20 @@ rule_place Invalid = 1
 rule_place PeerLocal = 2
 rule_place Engine = 3
 
--- all rules, in the order that findings count them in
+-- the places of the other rules
+abbrev pub mismatch_place : ℕ
+mismatch_place = 4
+
+abbrev pub advisory_place : ℕ
+advisory_place = 5
+
+abbrev pub unchecked_place : ℕ
+unchecked_place = 6
+
+-- all rules, each at its place
 abbrev pub rule_words : List (List ℕ)
-rule_words = rule_word Missing ∷ rule_word Invalid ∷ rule_word PeerLocal ∷ rule_word Engine ∷ codes "mismatch" ∷ []
+rule_words = rule_word Missing ∷ rule_word Invalid ∷ rule_word PeerLocal ∷ rule_word Engine ∷ codes "mismatch"
+    ∷ codes "advisory" ∷ codes "unchecked" ∷ []
 
 -- mismatches are errors if they count for the status, and else warnings
 abbrev pub mismatch_level : (exact : Bool) → Level

@@ -1,16 +1,18 @@
-//! Problems and mismatches as findings without places.
-ghost use Rattle.std.specs.Prelude.{◌≡◌, ◌++◌, IfOk, OnOk, map};
+//! The report of a lock file as findings without places.
+ghost use Rattle.std.specs.Prelude.{◌≡◌, ◌++◌, OnOk, map};
 ghost use Rattle.json_findings.specs.Drafts.{draft_value};
-ghost use Rattle.npm_lock.specs.Outcomes.{problem_value};
+ghost use Rattle.npm_advisories.specs.Audit.{found_value};
+ghost use Rattle.npm_lock.specs.Outcomes.{problem_value, unchecked_value};
+ghost use Rattle.npm_lock_reports.specs.Report.{folder_text};
 ghost use Rattle.npm_manifests.specs.Mismatches.{mismatch_value};
-ghost use Rattle.npm_lock_annotations.specs.Findings.{mismatch_draft, problem_draft};
+ghost use Rattle.npm_lock_annotations.specs.Findings.{hit_draft, listed_drafts, mismatch_draft, problem_draft, unchecked_draft};
+ghost use Rattle.npm_lock_annotations.specs.Findings.{unread_draft};
 
-use crate::paths::{mismatch_paths, problem_paths};
-use crate::rules::{mismatch_level, rule_of, rule_place};
-use annotations::Level;
+use crate::draft_of::{hit, mismatched, problematic, unchecked, unread};
 use json_findings::Draft;
-use npm_lock::Problem;
-use npm_lock_sentences::{push_mismatch_sentence, push_sentence};
+use npm_advisories::Found;
+use npm_lock::{Problem, Unchecked};
+use npm_lock_reports::{FolderName, Report};
 use npm_manifests::Mismatch;
 use std::alloc::{AllocError, Global};
 
@@ -25,7 +27,7 @@ pub fn push_mismatches<'a>(
         ≡ map draft_value drafts.old.items ++ map (mismatch_draft exact) (map mismatch_value mismatches.now)) }
 {
     for mismatch in mismatches {
-        drafts.push(draft_of_mismatch(alloc, mismatch, exact)?)?;
+        drafts.push(mismatched(alloc, mismatch, exact)?)?;
     }
     Ok(())
 }
@@ -40,52 +42,68 @@ pub fn push_problems<'a>(
         ≡ map draft_value drafts.old.items ++ map problem_draft (map problem_value problems.now)) }
 {
     for problem in problems {
-        drafts.push(draft_of_problem(alloc, problem)?)?;
+        drafts.push(problematic(alloc, problem)?)?;
     }
     Ok(())
 }
 
-/// The draft of a problem.
-fn draft_of_problem<'a>(
+/// Adds the drafts of packages that an advisory hits.
+pub fn push_hits<'a>(
     alloc: Global,
-    problem: &'a Problem,
-) -> Result<Draft<'static, 'a>, AllocError>
-    ensures { IfOk result (λ draft. draft_value draft ≡ problem_draft (problem_value problem.now)) }
+    drafts: &mut Vec<Draft<'static, 'a>>,
+    found: &'a [Found<'_, '_>],
+) -> Result<(), AllocError>
+    ensures { OnOk result (map draft_value drafts.new.items
+        ≡ map draft_value drafts.old.items ++ map hit_draft (map found_value found.now)) }
 {
-    let mut message = Vec::new(alloc);
-    push_sentence(&mut message, problem)?;
-    let folder = problem.dependency.from.as_str();
-    let name = problem.dependency.name.as_str();
-    Ok(Draft {
-        rule: rule_of(problem.kind),
-        rule_index: rule_place(problem.kind),
-        level: Level::Error,
-        message,
-        paths: problem_paths(alloc, problem.kind, folder, name)?,
-    })
+    for one in found {
+        drafts.push(hit(alloc, one)?)?;
+    }
+    Ok(())
 }
 
-/// The draft of a mismatch.
-fn draft_of_mismatch<'a>(
+/// Adds the drafts of dependencies that are not checked and of manifests that were not read, if the report lists them.
+pub fn push_listed<'a>(
     alloc: Global,
-    mismatch: &'a Mismatch,
-    exact: bool,
-) -> Result<Draft<'static, 'a>, AllocError>
-    ensures { IfOk result (λ draft. draft_value draft ≡ mismatch_draft exact (mismatch_value mismatch.now)) }
+    drafts: &mut Vec<Draft<'static, 'a>>,
+    report: &'a Report,
+) -> Result<(), AllocError>
+    ensures { OnOk result (map draft_value drafts.new.items
+        ≡ map draft_value drafts.old.items ++ listed_drafts report.now) }
 {
-    let mut message = Vec::new(alloc);
-    push_mismatch_sentence(&mut message, mismatch)?;
-    let folder = mismatch.from.as_str();
-    Ok(Draft {
-        rule: "mismatch",
-        rule_index: 4,
-        level: mismatch_level(exact),
-        message,
-        paths: mismatch_paths(
-            alloc,
-            folder,
-            mismatch.group.as_str(),
-            mismatch.name.as_str(),
-        )?,
-    })
+    if report.listed {
+        push_all_unchecked(alloc, drafts, &report.problems.unchecked)?;
+        push_all_unread(alloc, drafts, &report.unread)?;
+    }
+    Ok(())
+}
+
+/// Adds the drafts of dependencies that are not checked.
+fn push_all_unchecked<'a>(
+    alloc: Global,
+    drafts: &mut Vec<Draft<'static, 'a>>,
+    all: &'a [Unchecked],
+) -> Result<(), AllocError>
+    ensures { OnOk result (map draft_value drafts.new.items
+        ≡ map draft_value drafts.old.items ++ map unchecked_draft (map unchecked_value all.now)) }
+{
+    for one in all {
+        drafts.push(unchecked(alloc, one)?)?;
+    }
+    Ok(())
+}
+
+/// Adds the drafts of manifests that were not read.
+fn push_all_unread<'a>(
+    alloc: Global,
+    drafts: &mut Vec<Draft<'static, 'a>>,
+    all: &'a [FolderName],
+) -> Result<(), AllocError>
+    ensures { OnOk result (map draft_value drafts.new.items
+        ≡ map draft_value drafts.old.items ++ map unread_draft (map folder_text all.now)) }
+{
+    for folder in all {
+        drafts.push(unread(alloc, folder)?)?;
+    }
+    Ok(())
 }

@@ -1,19 +1,22 @@
-//! Problems and mismatches as findings.
+//! The report of a lock file as findings.
 ghost use Rattle.std.specs.Prelude.{IfOk, map};
-ghost use Rattle.npm_lock.specs.Outcomes.{problem_value};
-ghost use Rattle.npm_manifests.specs.Mismatches.{mismatch_value};
+ghost use Rattle.npm_advisories.specs.Audit.{found_value};
 ghost use Rattle.npm_lock_annotations.specs.Findings.{AreFindings};
 
-use crate::drafts::{push_mismatches, push_problems};
+use crate::drafts::{push_hits, push_listed, push_mismatches, push_problems};
 use annotations::Finding;
 use json_findings::findings_in;
-use npm_lock::Problem;
-use npm_manifests::Mismatch;
+use npm_advisories::Found;
+use npm_lock_reports::Report;
 use std::alloc::{AllocError, Global};
 
-/// Returns the findings of a lock file at this path, with this text: the mismatches first, and then the problems. A mismatch is an error
-/// if it is `exact`, and else a warning. The line and the column are those of the dependency in the group of its dependent, of
-/// `engines.node` of a package, of the package itself if these are not in the text, and else those of the beginning.
+/// Returns the findings of a lock file at this path, with this text, in the order of the report's lines: the mismatches, the problems,
+/// the packages that an advisory hits, and if the report lists them the dependencies that are not checked and the manifests that were
+/// not read. A mismatch is an error if it counts for the status, and else a warning. What is not checked is a note.
+///
+/// The line and the column are those of the dependency in the group of its dependent, of `engines.node` of a package, or of a package.
+/// In a lock file of version 1 they are those of the dependency in `requires` of its dependent, or of a package. If none of these is in
+/// the text, they are those of the beginning.
 ///
 /// # Errors
 ///
@@ -21,20 +24,21 @@ use std::alloc::{AllocError, Global};
 ///
 /// # Memory
 ///
-/// Allocates the findings, and while places are looked up the paths of five members for each.
-pub fn findings_of<'f>(
+/// Allocates the findings, and while places are looked up the paths of seven members for each.
+pub fn findings_of<'f, 'a>(
     alloc: Global,
     text: &str,
     file: &'f str,
-    mismatches: &[Mismatch],
-    exact: bool,
-    problems: &[Problem],
+    report: &'a Report,
+    found: &'a [Found<'_, '_>],
 ) -> Result<Vec<Finding<'f>>, AllocError>
-    ensures { IfOk result (λ findings. AreFindings text.now file.now exact (map mismatch_value mismatches.now)
-        (map problem_value problems.now) findings.items) }
+    ensures { IfOk result (λ findings. AreFindings text.now file.now report.now (map found_value found.now)
+        findings.items) }
 {
     let mut drafts = Vec::new(alloc);
-    push_mismatches(alloc, &mut drafts, mismatches, exact)?;
-    push_problems(alloc, &mut drafts, problems)?;
+    push_mismatches(alloc, &mut drafts, &report.mismatches, report.exact)?;
+    push_problems(alloc, &mut drafts, &report.problems.list)?;
+    push_hits(alloc, &mut drafts, found)?;
+    push_listed(alloc, &mut drafts, report)?;
     findings_in(alloc, text, file, &drafts)
 }

@@ -1,10 +1,12 @@
-//! Problems of a lock file and mismatches of a manifest as findings, with the lines and columns of the members that they are about, and
-//! what GitHub Actions and code scanning read of them.
+//! The report of a lock file as findings, with the lines and columns of the members that they are about, as GitHub Actions and code
+//! scanning read them.
 #![tactic(auto)]
 
+mod draft_of;
 mod drafts;
 mod findings;
 mod format;
+mod nested;
 mod paths;
 mod rules;
 

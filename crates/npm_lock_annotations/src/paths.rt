@@ -1,12 +1,13 @@
-//! The members of a lock file that a problem or a mismatch is about.
+//! The members of a lock file that a finding is about.
 ghost use Rattle.std.specs.Prelude.{◌≡◌, IfOk, map};
 ghost use Rattle.npm_lock_annotations.specs.Findings.{names_seen};
 ghost use Rattle.npm_lock_annotations.specs.Members as Members;
 
+use crate::nested::{push_package, push_required};
 use npm_lock::Kind;
 use std::alloc::{AllocError, Global};
 
-/// What a problem of this kind is about.
+/// Returns the members of a problem of this kind.
 pub fn problem_paths<'a>(
     alloc: Global,
     kind: Kind,
@@ -21,8 +22,8 @@ pub fn problem_paths<'a>(
     }
 }
 
-/// A dependency of the package in a folder: in a group of it, or else the package itself.
-fn dependency_paths<'a>(
+/// Returns the members of a dependency of the package in a folder: the name in a group of it, and the package itself.
+pub fn dependency_paths<'a>(
     alloc: Global,
     folder: &'a str,
     name: &'a str,
@@ -35,10 +36,11 @@ fn dependency_paths<'a>(
     paths.push(member_path(alloc, folder, "dependencies", name)?)?;
     paths.push(member_path(alloc, folder, "peerDependencies", name)?)?;
     paths.push(package_path(alloc, folder)?)?;
+    push_required(alloc, &mut paths, folder, name)?;
     Ok(paths)
 }
 
-/// A name in a group of the package in a folder, or else the package itself.
+/// Returns the members of a mismatch: the name in a group of the package in a folder, and the package itself.
 pub fn mismatch_paths<'a>(
     alloc: Global,
     folder: &'a str,
@@ -54,7 +56,17 @@ pub fn mismatch_paths<'a>(
     Ok(paths)
 }
 
-/// A name in a group of the package in a folder.
+/// Returns the members of the package in a folder.
+pub fn package_paths<'a>(alloc: Global, folder: &'a str) -> Result<Vec<Vec<&'a str>>, AllocError>
+    ensures { IfOk result (λ paths. map names_seen paths.items ≡ Members.package_paths folder.now) }
+{
+    let mut paths = Vec::new(alloc);
+    paths.push(package_path(alloc, folder)?)?;
+    push_package(alloc, &mut paths, folder)?;
+    Ok(paths)
+}
+
+/// Returns the path of a name in a group of the package in a folder.
 fn member_path<'a>(
     alloc: Global,
     folder: &'a str,
@@ -67,7 +79,7 @@ fn member_path<'a>(
     Vec::from_slice(alloc, &names)
 }
 
-/// The package in a folder.
+/// Returns the path of the package in a folder.
 fn package_path<'a>(alloc: Global, folder: &'a str) -> Result<Vec<&'a str>, AllocError>
     ensures { IfOk result (λ names. names_seen names ≡ Members.package_path folder.now) }
 {

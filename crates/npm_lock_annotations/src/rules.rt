@@ -1,12 +1,21 @@
-//! The rules that findings break: one for each kind of problem, and one for mismatches.
+//! The rules that findings break: one for each kind of problem, and one for each other kind of finding.
 ghost use Rattle.std.specs.Prelude.{◌≡◌, map};
 ghost use Rattle.npm_lock_annotations.specs.Rules as Rules;
 
 use annotations::{Level, Rule};
 use npm_lock::Kind;
 
-/// The rules, in the order that findings count them in.
-pub fn rules() -> [Rule<'static>; 5]
+/// The place of the rule of mismatches in the list.
+pub const MISMATCH_PLACE: usize = 4;
+
+/// The place of the rule of packages that an advisory hits.
+pub const ADVISORY_PLACE: usize = 5;
+
+/// The place of the rule of dependencies that are not checked.
+pub const UNCHECKED_PLACE: usize = 6;
+
+/// Returns the rules, each at its place.
+pub fn rules() -> [Rule<'static>; 7]
     ensures { map (λ rule. rule.id.now) result ≡ Rules.rule_words }
 {
     [
@@ -28,10 +37,16 @@ pub fn rules() -> [Rule<'static>; 5]
             description: "A manifest and the lock file do not ask for the same.",
             level: Level::Warning,
         },
+        error("advisory", "A security advisory hits an installed package."),
+        Rule {
+            id: "unchecked",
+            description: "A dependency is not checked, or a manifest was not read.",
+            level: Level::Note,
+        },
     ]
 }
 
-/// A rule that is an error to break.
+/// Returns a rule that is an error to break.
 fn error(id: &'static str, description: &'static str) -> Rule<'static>
     ensures { result.id.now ≡ id.now }
 {
@@ -42,7 +57,7 @@ fn error(id: &'static str, description: &'static str) -> Rule<'static>
     }
 }
 
-/// The `id` of the rule of a kind of problem.
+/// Returns the `id` of the rule of a kind of problem.
 pub fn rule_of(kind: Kind) -> &'static str
     ensures { result.now ≡ Rules.rule_word kind }
 {
@@ -54,7 +69,7 @@ pub fn rule_of(kind: Kind) -> &'static str
     }
 }
 
-/// The place of this rule in the list.
+/// Returns the place of this rule in the list.
 pub fn rule_place(kind: Kind) -> usize
     ensures { result ≡ Rules.rule_place kind }
 {
@@ -66,7 +81,7 @@ pub fn rule_place(kind: Kind) -> usize
     }
 }
 
-/// The level of mismatches.
+/// Returns the level of mismatches.
 pub fn mismatch_level(exact: bool) -> Level
     ensures { result ≡ Rules.mismatch_level exact }
 {

@@ -11,9 +11,12 @@ pub enum ArgumentError<'a> {
     /// An option that is not known.
     #[error("no such option: {0}; --help lists the options")]
     UnknownOption(Quoted<'a>),
-    /// A second word that is no option.
-    #[error("more than one FILE: {0} is the second; --help shows what is read")]
-    SecondFile(Quoted<'a>),
+    /// `-` is given twice.
+    #[error("standard input is read once, and - is given twice; --help shows what is read")]
+    SecondInput,
+    /// A manifest is given for several lock files.
+    #[error("--manifest goes with one FILE, and {0} is another; --help shows what is read")]
+    ManyFiles(Quoted<'a>),
     /// An option that has a value is the last word.
     #[error("{0} has no value; --help lists the options")]
     NoValue(Quoted<'a>),
@@ -26,9 +29,6 @@ pub enum ArgumentError<'a> {
     /// The value of `--severity` is no severity.
     #[error("--severity takes info, low, moderate, high or critical, and not {0}; --help lists the options")]
     Severity(Quoted<'a>),
-    /// Something is asked for that the format has no place for.
-    #[error("--format github and --format sarif do not take --advisories or --unchecked; --help lists the options")]
-    NoPlace,
     /// The value of `--node` is no version.
     #[error("--node takes a version, as 20 or 20.11.1, and not {0}; --help lists the options")]
     NodeVersion(Quoted<'a>),

@@ -7,6 +7,6 @@ use Rattle.npm_lock_annotations.proofs.drafts.push_problems.Goals as goal
 
 pub loop-problem-preserved : goal.loop-problem-preserved
 loop-problem-preserved c =
-    let more : c.push.new.self.items ≡ c.loop-problem.drafts.items ++ (c.in_ok-draft_of_problem.field-0 ∷ []) = search rules in
-    draft_more problem_value _ _ c.problem-item.result c.loop-problem-test.true c.problem-item.is problem_draft _ _ c.in_ok-draft_of_problem.field-0 _
-    c.in_ok-draft_of_problem.ensures more c.loop-problem.invariant
+    let more : c.push.new.self.items ≡ c.loop-problem.drafts.items ++ (c.in_ok-problematic.field-0 ∷ []) = search rules in
+    draft_more problem_value _ _ c.problem-item.result c.loop-problem-test.true c.problem-item.is problem_draft _ _ c.in_ok-problematic.field-0 _
+    c.in_ok-problematic.ensures more c.loop-problem.invariant

@@ -7,9 +7,7 @@ pub mod Task  -- what the program does
 pub mod Given  -- the times and versions that they name
 pub mod Picking  -- what they say of the version that is picked
 -- What is read and written.
-pub mod Input  -- the JSON value of an input
 pub mod Manifest  -- which values are manifests
-pub mod Shown  -- texts as a terminal gets them
 pub mod PickedLine  -- the line of a version
 pub mod PackumentFile  -- where the document of a package is
 pub mod Loading  -- why nothing is answered where documents are loaded

@@ -4,7 +4,7 @@ use Rattle.std.specs.List.{flat_map}
 use Rattle.serde_json.specs.Data.{array, string}
 use Rattle.serde_json.specs.View.{items_of}
 use Rattle.serde_json.specs.Written.{compact_text}
-use Rattle.npm_pick_command.specs.Shown.{shown}
+use Rattle.command_lines.specs.Shown.{shown}
 use Rattle.npm_pick_command.specs.declared.arguments.Format.{Format}
 use Rattle.npm_pick_command.specs.declared.arguments.Format.TheVariants.{Json, Text}
 

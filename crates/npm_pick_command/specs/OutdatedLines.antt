@@ -3,7 +3,7 @@ use Rattle.std.specs.Prelude.{ℕ, List, [], ◌∷◌, ◌++◌, Option, Some, 
 use Rattle.serde_json.specs.Data.{Data, member, no_members, null, object, string}
 use Rattle.serde_json.specs.Written.{compact_text}
 use Rattle.npm_pick_command.specs.Outdated.{OutcomeValue, RowValue, absent, outdated, passed}
-use Rattle.npm_pick_command.specs.Shown.{shown}
+use Rattle.command_lines.specs.Shown.{shown}
 use Rattle.npm_pick_command.specs.declared.arguments.Format.{Format}
 use Rattle.npm_pick_command.specs.declared.arguments.Format.TheVariants.{Json, Text}
 

@@ -3,7 +3,7 @@ use Rattle.std.specs.Prelude.{ℕ, List, [], ◌∷◌, ◌++◌, codes}
 use Rattle.serde_json.specs.Data.{Data, boolean, member, no_members, object, string}
 use Rattle.serde_json.specs.Written.{compact_text}
 use Rattle.npm_pick.specs.Pick.{PickedValue}
-use Rattle.npm_pick_command.specs.Shown.{shown}
+use Rattle.command_lines.specs.Shown.{shown}
 use Rattle.npm_pick_command.specs.declared.arguments.Format.{Format}
 use Rattle.npm_pick_command.specs.declared.arguments.Format.TheVariants.{Json, Text}
 

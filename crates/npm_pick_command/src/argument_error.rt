@@ -1,5 +1,5 @@
 //! What is wrong with the arguments.
-use crate::shown::Quoted;
+use command_lines::Quoted;
 use thiserror::Error;
 
 /// What is wrong with the arguments, with the word that it is about.

@@ -1,12 +1,12 @@
 //! What the arguments of the program ask for.
-ghost use Rattle.std.specs.Prelude.{◌≡◌, ◌<◌, [], ◌∷◌, length, map, option_map, string_bytes, MatchOption};
+ghost use Rattle.std.specs.Prelude.{◌≡◌, length, map, string_bytes};
+ghost use Rattle.command_lines.specs.Arguments.{argument_value};
 ghost use Rattle.npm_pick_command.specs.Arguments as ArgumentRules;
-ghost use Rattle.npm_pick_command.specs.Arguments.{argument_value, arguments_of, arguments_result, arguments_value, asked_by};
-ghost use Rattle.npm_pick_command.specs.Arguments.{part_values};
+ghost use Rattle.npm_pick_command.specs.Arguments.{arguments_of, arguments_result, arguments_value, asked_by};
 
 use crate::argument_error::ArgumentError;
 use crate::name::{Flag, Name, Setting, Shown, name_of};
-use crate::shown::Quoted;
+use command_lines::{Argument, MAX_WORDS, Options, Quoted, first_argument};
 
 /// How an answer is written.
 #[derive(Clone, Copy, Debug, PartialEq, Eq, Drop)]
@@ -42,15 +42,16 @@ pub struct Arguments<'a> {
     pub spec: Option<&'a str>,
 }
 
-/// One argument: a word, and its value if it has one.
-#[derive(Clone, Copy, Drop)]
-pub struct Argument<'a> {
-    pub word: &'a str,
-    pub value: Option<&'a str>,
-}
+/// The options of this program.
+pub struct PickOptions;
 
-/// The greatest number of words that are read: each takes room on the stack.
-const MAX_WORDS: usize = 1000;
+impl Options for PickOptions {
+    ghost takes_value = { ArgumentRules.takes_value };
+
+    fn takes_value(word: &str) -> bool {
+        matches!(name_of(word), Some(Name::Valued(_)))
+    }
+}
 
 /// Returns what the words after the program's name ask for. Of two values of an option the last one counts.
 pub fn read_arguments<'a>(words: &'a [String]) -> Result<Arguments<'a>, ArgumentError<'a>>
@@ -70,7 +71,7 @@ fn asked_from<'a>(
     ensures { arguments_result result
         ≡ asked_by (Ok (arguments_value asked.entry)) (arguments_of (map string_bytes words.now)) }
 {
-    match first_argument(words) {
+    match first_argument::<PickOptions>(words) {
         Some((argument, rest)) => asked_from(asked_with(asked, argument)?, rest),
         None => Ok(asked),
     }
@@ -99,51 +100,6 @@ fn nothing_asked<'a>() -> Arguments<'a>
         npm: None,
         spec: None,
     }
-}
-
-/// The first argument of the words, and the words after it.
-pub fn first_argument<'a>(words: &'a [String]) -> Option<(Argument<'a>, &'a [String])>
-    ensures { MatchOption result (words.now ≡ []) (λ first. (length first.1.now < length words.now)
-        × (arguments_of (map string_bytes words.now)
-        ≡ argument_value first.0 ∷ arguments_of (map string_bytes first.1.now))) }
-{
-    let (first, rest) = words.split_first()?;
-    let word = first.as_str();
-    let Some((text, others)) = rest.split_first() else {
-        return Some((one_word(word), rest));
-    };
-    if takes_value(word) {
-        let value = Some(text.as_str());
-        return Some((Argument { word, value }, others));
-    }
-    Some((one_word(word), rest))
-}
-
-/// The argument that one word is. `--node=20` has its value in the word.
-fn one_word<'a>(word: &'a str) -> Argument<'a>
-    ensures { argument_value result ≡ ArgumentRules.one_word word.now }
-{
-    match parts_of(word) {
-        Some((name, text)) if takes_value(name) => Argument {
-            word: name,
-            value: Some(text),
-        },
-        _ => Argument { word, value: None },
-    }
-}
-
-/// The word before its first `=`, and after it.
-fn parts_of(word: &str) -> Option<(&str, &str)>
-    ensures { option_map (λ parts. part_values parts) result ≡ ArgumentRules.parts_of word.now }
-{
-    word.split_once('=')
-}
-
-/// Returns `true` if the word is an option with a value.
-fn takes_value(word: &str) -> bool
-    ensures { result ≡ ArgumentRules.takes_value word.now }
-{
-    matches!(name_of(word), Some(Name::Valued(_)))
 }
 
 /// What is asked for with one more argument.

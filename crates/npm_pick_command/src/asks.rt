@@ -3,12 +3,11 @@ ghost use Rattle.std.specs.Prelude.{◌≡◌, ◌↔◌, ◌++◌, IfErr, IfOk,
 ghost use Rattle.std.specs.List.{flat_map};
 ghost use Rattle.serde_json.specs.View.{members_view, view};
 ghost use Rattle.npm_packages.specs.Edges.{edge_value};
-ghost use Rattle.npm_packages.specs.Folders.{IsInstalled};
 ghost use Rattle.npm_pick_command.specs.Asks as Asks;
 ghost use Rattle.npm_pick_command.specs.Asks.{AreAsks, AreEdgeAsks, AreLockAsks, AskValue, IsLinked, ask_value};
 
 use crate::run_error::RunError;
-use npm_packages::{CheckError, Edge, edges_of};
+use npm_packages::{CheckError, Edge, edges_of, is_installed};
 use serde_json::{Map, Value};
 use std::alloc::{AllocError, Global};
 
@@ -172,11 +171,4 @@ fn is_linked(folder: Option<&str>) -> bool
         Some(folder) => !is_installed(folder),
         None => false,
     }
-}
-
-/// Returns `true` if the folder lies inside some `node_modules`.
-fn is_installed(folder: &str) -> bool
-    ensures { IsTrue result ↔ IsInstalled folder.now }
-{
-    folder.starts_with("node_modules/") || folder.contains("/node_modules/")
 }

@@ -1,9 +1,8 @@
 //! Why the document of a package was not read.
 ghost use Rattle.std.specs.Prelude.{Some, string_bytes};
-ghost use Rattle.npm_pick_command.specs.Shown as Shown;
+ghost use Rattle.command_lines.specs.Shown as Shown;
 
-use crate::input_error::InputError;
-use crate::shown::write_quoted;
+use command_lines::{InputError, write_quoted};
 use std::fmt;
 use thiserror::Error;
 

@@ -17,8 +17,6 @@ mod asks;
 mod given;
 mod help;
 mod in_order;
-mod input;
-mod input_error;
 mod load_error;
 mod manifest;
 mod manifest_files;
@@ -36,14 +34,11 @@ mod program_error;
 mod reply;
 mod requests;
 mod run_error;
-mod shown;
 mod task;
-mod words;
 
 use arguments::{Arguments, read_arguments};
+use command_lines::{InputError, Quoted, Watched, open_error, read_json, words_of};
 use help::{HELP, VERSION};
-use input::read_json;
-use input_error::{InputError, open_error};
 use manifest::checked_manifest;
 use manifest_files::manifests_of;
 use name::Shown;
@@ -54,14 +49,12 @@ use program_error::ProgramError;
 use reply::{Done, Ending, Question, run};
 use run_error::RunError;
 use serde_json::Value;
-use shown::Quoted;
 use std::alloc::AllocError;
 use std::fs::File;
 use std::io;
 use std::io::Write;
 use std::process::ExitCode;
 use task::{Task, task_of};
-use words::words_of;
 
 /// Ends with the status of `status_of`.
 fn main(rt: HostRuntime) -> ExitCode {
@@ -191,7 +184,7 @@ fn manifest_at<'a>(rt: &HostRuntime, path: &'a str) -> Result<Value, ProgramErro
     let value = value_at(rt, "--manifest", path)?;
     match checked_manifest(value) {
         Ok(manifest) => Ok(manifest),
-        Err(error) => Err(ProgramError::File("--manifest", Quoted { text: path }, error)),
+        Err(fault) => Err(ProgramError::Manifest(Quoted { text: path }, fault)),
     }
 }
 
@@ -210,10 +203,10 @@ fn value_at<'a>(
 /// Reads the JSON value of a file.
 fn read_at(rt: &HostRuntime, path: &str) -> Result<Value, InputError> {
     if path == "-" {
-        return read_json(rt.alloc(), &mut rt.stdin());
+        return read_json(rt.alloc(), &mut Watched::new(rt.stdin()));
     }
-    let mut file = File::open(rt, path).map_err(open_error)?;
-    read_json(rt.alloc(), &mut file)
+    let file = File::open(rt, path).map_err(open_error)?;
+    read_json(rt.alloc(), &mut Watched::new(file))
 }
 
 /// Returns the exit status: 0 if a version is picked, nothing is outdated, each package that a mirror keeps has a document or a text

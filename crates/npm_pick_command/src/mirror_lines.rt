@@ -5,7 +5,7 @@ ghost use Rattle.serde_json.specs.View.{view};
 ghost use Rattle.npm_pick_command.specs.MirrorLines as Lines;
 
 use crate::arguments::Format;
-use crate::shown::push_shown;
+use command_lines::push_shown;
 use serde_json::Value;
 use std::alloc::{AllocError, Global};
 

@@ -7,7 +7,7 @@ ghost use Rattle.npm_pick_command.specs.Outdated.{outcome_value, row_value};
 use crate::arguments::Format;
 use crate::members::{put_text, put_text_or_null};
 use crate::outdated::{Outcome, Row};
-use crate::shown::push_shown;
+use command_lines::push_shown;
 use serde_json::{Map, Value};
 use std::alloc::{AllocError, Global};
 

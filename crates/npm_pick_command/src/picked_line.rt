@@ -7,7 +7,7 @@ ghost use Rattle.npm_pick_command.specs.PickedLine as Lines;
 
 use crate::arguments::Format;
 use crate::members::{put_bool, put_text};
-use crate::shown::push_shown;
+use command_lines::push_shown;
 use npm_pick::Picked;
 use serde_json::{Map, Value};
 use std::alloc::{AllocError, Global};

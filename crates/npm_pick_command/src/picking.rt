@@ -9,7 +9,7 @@ use crate::argument_error::ArgumentError;
 use crate::arguments::Arguments;
 use crate::given::{time_given, version_given};
 use crate::program_error::ProgramError;
-use crate::shown::Quoted;
+use command_lines::Quoted;
 use jiff::Timestamp;
 use node_semver::VersionRef;
 use npm_pick::Options;

@@ -1,9 +1,8 @@
 //! Why the program ends with status 2.
 use crate::argument_error::ArgumentError;
-use crate::input_error::InputError;
 use crate::run_error::RunError;
-use crate::shown::Quoted;
-use crate::words::WordsError;
+use command_lines::{InputError, Quoted, WordsError};
+use npm_packages::Fault;
 use std::alloc::AllocError;
 use thiserror::Error;
 
@@ -19,6 +18,9 @@ pub enum ProgramError<'a> {
     /// The file after this option was not read.
     #[error("{0} {1}: {2}")]
     File(&'static str, Quoted<'a>, InputError),
+    /// The JSON value of this file is no manifest.
+    #[error("--manifest {0}: {1}")]
+    Manifest(Quoted<'a>, Fault),
     /// Nothing was answered.
     #[error("{0}")]
     Run(RunError),

@@ -6,7 +6,7 @@ ghost use Rattle.npm_pick_command.specs.Task.{folder_result, task_result};
 
 use crate::argument_error::ArgumentError;
 use crate::arguments::Arguments;
-use crate::shown::Quoted;
+use command_lines::Quoted;
 
 /// What the program does, with the files for it.
 #[derive(Clone, Copy, Debug, PartialEq, Eq, Drop)]

@@ -8,7 +8,7 @@ use Rattle.npm_pick_command.specs.MirrorLines.{mirror_lines, note_lines}
 use Rattle.npm_pick_command.specs.Outdated.{RowValue, absent, is_current, outdated, passed}
 use Rattle.npm_pick_command.specs.OutdatedLines.{outcome_lines}
 use Rattle.npm_pick_command.specs.PickedLine.{picked_line}
-use Rattle.npm_pick_command.specs.Shown.{quoted, shown}
+use Rattle.command_lines.specs.Shown.{quoted, shown}
 use Rattle.npm_pick_command.specs.Status.{status_of_ending}
 use Rattle.npm_pick_command.specs.declared.arguments.Format.TheVariants.{Json, Text}
 use Rattle.npm_pick_command.specs.declared.reply.Ending.TheVariants.{Compared, Kept, Nothing, Picked}

@@ -1,7 +1,7 @@
 -- Each text and each space comes after those before it.
 use Rattle.std.proofs.Common.{codes, option_map, string_bytes}
 use Rattle.npm_pick_command.specs.OutdatedLines.{installed_words}
-use Rattle.npm_pick_command.specs.Shown.{shown}
+use Rattle.command_lines.specs.Shown.{shown}
 use Rattle.npm_pick_command.proofs.Outcomes.{words_pushed}
 use Rattle.npm_pick_command.proofs.outdated_lines.push_words.Goals as goal
 

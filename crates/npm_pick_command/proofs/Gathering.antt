@@ -5,7 +5,7 @@ use Rattle.std.proofs.lemmas.List.Concat.{flat_map-append}
 use Rattle.std.specs.List.{flat_map}
 
 module _ {A X : Type 0} (seen : A → X) (items : List A) where
-  -- what is seen of one item more
+  -- the value of one item more
   pub seen_at : (i : ℕ) (none : A) → i < length items
       → map seen (take (i + 1) items) ≡ map seen (take i items) ++ (seen (get_or items i none) ∷ [])
   seen_at i none small = ap (map seen) (take_more items i none small)
@@ -73,7 +73,7 @@ pub four_parts : {X : Type 0} (s a b c d e f g h : List X) → e ≡ s ++ a → 
     → h ≡ s ++ (((a ++ b) ++ c) ++ d)
 four_parts s a b c d e f g h one two three four = rw (four, three, two, one) (simp append_assoc)
 
--- a value more, by what is seen of it
+-- an item more, by its value
 pub pushed-seen : {V Y : Type 0} (seen : V → Y) (old new : List V) (value : V) (made : Y) → new ≡ old ++ (value ∷ [])
     → seen value ≡ made → map seen new ≡ map seen old ++ (made ∷ [])
 pushed-seen seen old new value made is same = ap (map seen) is ∙ map-append seen old (value ∷ [])

@@ -26,7 +26,7 @@ use Rattle.npm_pick_command.specs.declared.mirror.Mirror.{Mirror}
 use Rattle.npm_pick_command.specs.declared.reply.Ending.TheVariants.{Kept}
 use Rattle.npm_pick_command.specs.declared.run_error.RunError.{RunError}
 
--- what one part more makes, behind what all parts before make
+-- the list of one part more is behind the lists of all parts before it
 flat_more : {X Y : Type 0} (made : X → List Y) (xs : List X) (x : X) (old new : List Y) → new ≡ old ++ made x
     → old ≡ flat_map made xs → new ≡ flat_map made (xs ++ (x ∷ []))
 flat_more made xs x old new is held = is ∙ ap (λ l. l ++ made x) held
@@ -58,7 +58,7 @@ module _ (Gives : Loads) (options : Options) (all : Bool) (requests : List Regis
       }
 
 module _ (Gives : Loads) (options : Options) (all : Bool) (name : List ℕ) (texts : List (List ℕ)) (old new : Mirror) where
-  -- what is kept by a document
+  -- the versions of a document are kept
   pub kept_added : (packument : Value) (result : Result (Unit {0}) RunError) → Gives name (Ok (Some packument))
       → OnOk result ((keys : List (List ℕ)) × IsKept (view packument) options all texts keys
       × AreBothAdded old new (map (λ key. kept_text name key) keys) [])
@@ -109,7 +109,7 @@ pub texts_like : (came all texts : List (List ℕ)) → came ≡ all
     → (text : List ℕ) → Contains texts text ↔ Contains all text
 texts_like came all texts is same = λ text. rw is at (same text)
 
--- the texts of a name are those that are asked for
+-- the texts of a name are those of its requests
 pub texts_asked : (requests : List RegistrySpecValue) (name : List ℕ) (came texts : List (List ℕ))
     → came ≡ texts_for name requests → ((text : List ℕ) → Contains texts text ↔ Contains came text)
     → AreTextsOf requests name texts
@@ -119,7 +119,7 @@ pub none_absent : (items : List (String Global)) (is_empty : Bool) → is_empty 
     → Kept is_empty ≡ Kept (length (map string_bytes items) == 0)
 none_absent items is_empty is = rw (length-map items string_bytes) (ap Kept is)
 
--- what is said of a dependency that no registry is asked for
+-- the note about a dependency that is not from a registry
 pub refused_notes : (ask : AskValue) (request : Option RegistrySpec) (none : Bool) → ask.is_overridden ≡ false
     → option_map registry_spec_value request ≡ registry_spec ask.name ask.spec → is_some request ≡ not none
     → none ≡ true → ask_notes ask ≡ ask_note (codes "not from a registry: ") ask ∷ []

@@ -30,13 +30,13 @@ use Rattle.npm_pick_command.specs.declared.reply.Ending.TheVariants.{Compared, N
 use Rattle.npm_pick_command.specs.declared.run_error.RunError.{RunError}
 use Rattle.npm_pick_command.specs.declared.run_error.RunError.TheVariants.{Memory}
 
--- what is left begins with this one
+-- the rest begins with this one
 cut : {X : Type 0} (xs : List X) (i : ℕ) (x none : X) → i < length xs → x ≡ get_or xs i none
     → drop i xs ≡ x ∷ drop (i + 1) xs
 cut xs i x none small here = drop_more xs i none small ∙ ap (λ y. y ∷ drop (i + 1) xs) (sym here)
 
 module _ (Is : EdgeValue → OutcomeValue → Type 0) (edges : List Edge) where
-  -- what is found out about the edges from a place on, after what was found out before, is what is found out about all
+  -- the outcomes so far, and then those of the edges from a place on, are the outcomes of all edges
   abbrev pub AreSoFar : (i : ℕ) → List Outcome → Type 0
   AreSoFar i outcomes = (later : List OutcomeValue) → AllZip Is (map edge_value (drop i edges)) later
       → AllZip Is (map edge_value edges) (map outcome_value outcomes ++ later)
@@ -117,10 +117,10 @@ compared_ending outcomes is_behind absent any count =
     count ∙ sym (count-map is_absent outcome_value outcomes) in
     rw (behind_too, absent_too) refl
 
--- ---- what is found out by a document
+-- ---- the outcome by a document
 
 module _ (Gives : Loads) (all : Bool) (options : Options) (edge : EdgeValue) where
-  -- what is found out by the document that was loaded
+  -- the outcome by the document that was loaded
   pub known_found : (request : RegistrySpecValue) (packument : Value) (result : Result Outcome RunError)
       → is_passed all edge ≡ false → registry_spec edge.name edge.spec ≡ Some request
       → Gives request.name (Ok (Some packument))
@@ -139,15 +139,15 @@ pub behind_row : (packument : Data) (options : Options) (text : List ℕ) (edge 
 behind_row packument options text edge wanted latest w l same_wanted same_latest is_wanted is_latest not =
     rw (same_wanted, same_latest) (behind w l is_wanted is_latest not)
 
--- nothing but want of memory ends a comparison
+-- a comparison fails only if an allocation fails
 pub known_failed : (Gives : Loads) (result : Result Outcome RunError) → IfErr result (λ error. error ≡ Memory)
     → IfErr result (IsLoadFailure Gives)
 known_failed Gives (Ok outcome) is = tt
 known_failed Gives (Err error) is = rw is tt
 
--- ---- what is picked
+-- ---- the version that is picked
 
--- a version that is picked is no want of memory
+-- if a version is picked, no allocation has failed
 pub is_picked : (Holds : Result PickedValue PickError → Type 0) (version : PickedValue)
     → IsAnswer Holds (Ok version) → Holds (Ok version)
 is_picked Holds version (inl is) = cc is

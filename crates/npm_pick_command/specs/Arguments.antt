@@ -1,4 +1,4 @@
--- What the arguments of the program ask for.
+-- What the arguments of the program mean.
 use Rattle.std.specs.Prelude.{ℕ, List, [], ◌∷◌, ◌++◌, Bool, true, false, if◌then◌else◌, length, nat_eq}
 use Rattle.std.specs.Prelude.{nat_lt}
 use Rattle.std.specs.Prelude.{Option, Some, None, is_some, option_map, Result, Ok, Err, codes}
@@ -39,9 +39,9 @@ takes_value word = has_value (name_of word)
 abbrev pub arguments_of : (words : List (List ℕ)) → List ArgumentValue
 arguments_of words = Words.arguments_of takes_value words
 
--- ---- what is wrong with them
+-- ---- errors
 
--- what is wrong, and the word or the value that it is about
+-- the kind of error, and the word or the value that it is about
 pub data ArgumentErrorValue : Type 0 where
   too_many : ArgumentErrorValue
   unknown_option : (word : List ℕ) → ArgumentErrorValue
@@ -49,7 +49,7 @@ pub data ArgumentErrorValue : Type 0 where
   no_value : (word : List ℕ) → ArgumentErrorValue
   no_format : (text : List ℕ) → ArgumentErrorValue
   no_packument : ArgumentErrorValue
-  -- with the option that asks for it
+  -- with the option that needs it
   no_packuments : (option : List ℕ) → ArgumentErrorValue
   no_lock : ArgumentErrorValue
   no_manifest : ArgumentErrorValue
@@ -61,9 +61,9 @@ pub data ArgumentErrorValue : Type 0 where
   no_node_version : (text : List ℕ) → ArgumentErrorValue
   no_npm_version : (text : List ℕ) → ArgumentErrorValue
 
--- ---- what they ask for
+-- ---- their meaning
 
--- The text about the program, if one is asked for; the format; the values of the options; the options without a value;
+-- The text about the program, for `--help` and `--version`; the format; the values of the options; the options without a value;
 -- and the version, the tag or the range
 pub record ArgumentsValue : Type 0 where
   pub shown : Option Shown
@@ -84,7 +84,7 @@ pub record ArgumentsValue : Type 0 where
   pub npm : Option (List ℕ)
   pub spec : Option (List ℕ)
 
--- what no argument asks for
+-- the meaning of no arguments
 abbrev pub nothing_asked : ArgumentsValue
 nothing_asked = record {
   shown = None;
@@ -174,14 +174,14 @@ with_argument asked word (Some (Kinds.Valued setting)) (Some text) = with_value 
 abbrev pub asked_with : ArgumentsValue → ArgumentValue → Result ArgumentsValue ArgumentErrorValue
 asked_with asked argument = with_argument asked argument.word (name_of argument.word) argument.value
 
--- what all these arguments ask for, after others: the first error counts
+-- with all these arguments more: the first error counts
 abbrev pub asked_by : Result ArgumentsValue ArgumentErrorValue → List ArgumentValue
     → Result ArgumentsValue ArgumentErrorValue
 asked_by asked [] = asked
 asked_by (Err error) (argument ∷ rest) = Err error
 asked_by (Ok asked) (argument ∷ rest) = asked_by (asked_with asked argument) rest
 
--- what the words after the program's name ask for, of which there are at most 1,000
+-- the meaning of the words after the program's name, of which there are at most 1,000
 abbrev pub read_arguments : (words : List (List ℕ)) → Result ArgumentsValue ArgumentErrorValue
 read_arguments words = if nat_lt MAX_WORDS (length words) then Err too_many
     else asked_by (Ok nothing_asked) (arguments_of words)

@@ -1,4 +1,4 @@
--- What manifests and a lock file ask for: npm's "package.json", from "dependencies" to "optionalDependencies".
+-- The dependencies of manifests and a lock file: npm's "package.json", from "dependencies" to "optionalDependencies".
 use Rattle.std.specs.Prelude.{◌≡◌, ℕ, List, [], ◌∷◌, ◌++◌, Bool, false, Option, Some, None, codes, option_and_then}
 use Rattle.std.specs.List.{flat_map}
 use Rattle.std.specs.Option.{option_map_or}
@@ -42,7 +42,7 @@ abbrev pub IsLinked : (folder : Option (List ℕ)) → Type 0
 IsLinked None = ⊥
 IsLinked (Some folder) = ¬ IsInstalled folder
 
--- a dependency of a package: no registry is asked for a folder of the project
+-- a dependency of a package, unless a folder of the project is found for it
 pub data AreEdgeAsks (edge : EdgeValue) : List AskValue → Type 0 where
   linked : IsLinked edge.to → AreEdgeAsks edge []
   asked : ¬ IsLinked edge.to → AreEdgeAsks edge

@@ -1,11 +1,11 @@
--- Why nothing is answered where documents of packages are loaded.
+-- Why the program stops if the document of a package is not loaded.
 use Rattle.std.specs.Prelude.{ℕ, List, Option, Result, Err}
 use Rattle.serde_json.specs.declared.value.Value.{Value}
 use Rattle.npm_pick_command.specs.declared.load_error.LoadError.{LoadError}
 use Rattle.npm_pick_command.specs.declared.run_error.RunError.{RunError}
 use Rattle.npm_pick_command.specs.declared.run_error.RunError.TheVariants.{Load, Memory, NoLock, Write}
 
--- what loading the document of a package of this name gives
+-- what `load` returns for the package of a name
 abbrev pub Loads : Type 1
 Loads = (name : List ℕ) → Result (Option Value) LoadError → Type 0
 

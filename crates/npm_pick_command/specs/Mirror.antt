@@ -1,4 +1,4 @@
--- What a mirror keeps of the packages that are asked for.
+-- The versions that a mirror keeps.
 use Rattle.std.specs.Prelude.{◌≡◌, ◌↔◌, ℕ, List, [], ◌∷◌, ◌++◌, Bool, Option, Some, None, Ok, bytes_eq, codes, filter, map}
 use Rattle.std.specs.Prelude.{if◌then◌else◌}
 use Rattle.std.specs.Cmp.Lexicographic.{slice_cmp}
@@ -14,10 +14,10 @@ use Rattle.npm_pick.specs.declared.options.Options.{Options}
 use Rattle.npm_pick_command.specs.Asks.{AskValue}
 use Rattle.npm_pick_command.specs.Loading.{Loads}
 
--- ---- what a registry is asked for
+-- ---- requests to a registry
 
--- The package and the version, the range or the tag that a dependency asks a registry for. One that `overrides` change in
--- a way that is not read asks for nothing.
+-- The request of a dependency: a package, and a version, a range or a tag. A dependency that `overrides` change in a way
+-- that is not read has none.
 abbrev pub request_of : AskValue → Option RegistrySpecValue
 request_of ask = if ask.is_overridden then None else registry_spec ask.name ask.spec
 
@@ -41,14 +41,14 @@ texts_for name requests = map (λ (request : RegistrySpecValue). request.text)
 abbrev pub AreTextsOf : List RegistrySpecValue → (name : List ℕ) → (texts : List (List ℕ)) → Type 0
 AreTextsOf requests name texts = (text : List ℕ) → Contains texts text ↔ Contains (texts_for name requests) text
 
--- ---- what is kept
+-- ---- the versions that are kept
 
 -- a package, and the keys of its document that are kept, if it has a document
 pub record PackageValue : Type 0 where
   pub name : List ℕ
   pub keys : Option (List (List ℕ))
 
--- What is kept of a package: all that its texts together ask for
+-- The versions that are kept of a package, for all its texts together
 pub data IsPackage (Gives : Loads) (options : Options) (all : Bool) (requests : List RegistrySpecValue) (name : List ℕ)
     : PackageValue → Type 0 where
   absent : Gives name (Ok None) → IsPackage Gives options all requests name (record { name = name; keys = None })
@@ -78,7 +78,7 @@ pub record AreKept (Gives : Loads) (options : Options) (all : Bool) (requests : 
   pub versions : kept ≡ flat_map kept_of packages
   pub missing : absent ≡ flat_map absent_of packages
 
--- The same of all packages that are asked for, in the order of the bytes of their names
+-- The same of the packages of all requests, in the order of the bytes of their names
 pub record IsMirror (Gives : Loads) (options : Options) (all : Bool) (requests : List RegistrySpecValue)
     (kept absent : List (List ℕ)) : Type 0 where
   pub names : List (List ℕ)

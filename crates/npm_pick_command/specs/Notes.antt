@@ -11,17 +11,17 @@ use Rattle.npm_pick_command.specs.Asks.{AskValue}
 abbrev pub ask_note : (said : List ℕ) → AskValue → List ℕ
 ask_note said ask = said ++ (ask.name ++ (codes " (" ++ (ask.spec ++ codes ")")))
 
--- what is said of a dependency that no registry is asked for
+-- the note about a dependency that is not from a registry, or that `overrides` change
 abbrev pub ask_notes : AskValue → List (List ℕ)
 ask_notes ask = if ask.is_overridden then ask_note (codes "overrides are not read: ") ask ∷ []
     else if is_none (registry_spec ask.name ask.spec) then ask_note (codes "not from a registry: ") ask ∷ []
     else []
 
--- what is said of a package without a document
+-- the note about a package without a document
 abbrev pub absent_note : (name : List ℕ) → List ℕ
 absent_note name = codes "no document in the folder: " ++ name
 
--- all that is said, in the order of the bytes, each once
+-- all notes, in the order of the bytes, each once
 pub record AreNotes (asks : List AskValue) (absent notes : List (List ℕ)) : Type 0 where
   pub ordered : IsStrictlySortedBy (slice_cmp nat_cmp) notes
   pub exact : (note : List ℕ) → Contains notes note ↔ Contains (flat_map ask_notes asks ++ map absent_note absent) note

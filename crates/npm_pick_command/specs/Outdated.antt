@@ -21,7 +21,7 @@ pub record RowValue : Type 0 where
   pub wanted : List ℕ
   pub latest : List ℕ
 
--- what is found out about a dependency: it is outdated; there is no document of its package; or neither
+-- the outcome of a dependency: it is outdated; there is no document of its package; or neither
 pub data OutcomeValue : Type 0 where
   outdated : RowValue → OutcomeValue
   absent : OutcomeValue
@@ -49,7 +49,7 @@ pub data IsPickedAs (packument : Data) (options : Options) (text : List ℕ) : O
   none : (error : PickError) → IsPicked packument options (filled text) (Err error)
       → IsPickedAs packument options text None
 
--- what is found out about a dependency that asks for this text, by the document of its package
+-- the outcome of a dependency with this text, by the document of its package
 pub data IsOutcomeOf (packument : Data) (options : Options) (text : List ℕ) (edge : EdgeValue)
     : OutcomeValue → Type 0 where
   unpicked : IsPickedAs packument options text None ⊎ IsPickedAs packument options (codes "*") None
@@ -62,7 +62,7 @@ pub data IsOutcomeOf (packument : Data) (options : Options) (text : List ℕ) (e
       → IsOutcomeOf packument options text edge
       (outdated (record { edge = edge; wanted = wanted; latest = latest }))
 
--- what is found out about a dependency
+-- the outcome of a dependency
 pub data IsOutcome (Gives : Loads) (all : Bool) (options : Options) (edge : EdgeValue) : OutcomeValue → Type 0 where
   left_out : is_passed all edge ≡ true → IsOutcome Gives all options edge passed
   elsewhere : is_passed all edge ≡ false → registry_spec edge.name edge.spec ≡ None
@@ -87,7 +87,7 @@ outcome_value (Outcomes.Outdated row) = outdated (row_value row)
 outcome_value Outcomes.Absent = absent
 outcome_value Outcomes.Passed = passed
 
--- ---- what is counted
+-- ---- kinds of outcomes
 
 abbrev pub is_outdated : OutcomeValue → Bool
 is_outdated (outdated row) = true

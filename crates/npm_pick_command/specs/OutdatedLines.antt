@@ -40,7 +40,7 @@ row_text Json row = compact_text (row_data row)
 abbrev pub row_line : Format → RowValue → List ℕ
 row_line format row = row_text format row ++ (10 ∷ [])
 
--- the line of what was found out about a dependency: only one that is outdated has a line
+-- the line of an outcome: only a dependency that is outdated has a line
 abbrev pub outcome_line : Format → OutcomeValue → List ℕ
 outcome_line format (outdated row) = row_line format row
 outcome_line format absent = []

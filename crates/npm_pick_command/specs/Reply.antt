@@ -25,7 +25,7 @@ use Rattle.npm_pick_command.specs.declared.reply.Question.{Question}
 use Rattle.npm_pick_command.specs.declared.reply.Question.TheVariants as Questions
 use Rattle.npm_pick_command.specs.declared.reply.Reply.{Reply}
 
--- what is written to standard output and to standard error, and how the program ends
+-- the lines for standard output, the notes for standard error, and how the program ends
 pub record ReplyValue : Type 0 where
   pub lines : List ℕ
   pub notes : List ℕ
@@ -51,7 +51,7 @@ pub record IsComparedReply (Gives : Loads) (lock : Data) (all : Bool) (options :
   pub notes : reply.notes ≡ []
   pub ending : reply.ending ≡ Compared (list_any is_outdated outcomes) (count_by is_absent outcomes)
 
--- Each version that a mirror keeps for these manifests and this lock file, what is said of the other dependencies and of
+-- Each version that a mirror keeps for these manifests and this lock file, the notes about other dependencies and about
 -- packages without a document, and whether there is no such package
 pub record IsKeptReply (Gives : Loads) (manifests : List Data) (lock : Option Data) (all : Bool) (options : Options)
     (format : Format) (reply : ReplyValue) : Type 0 where
@@ -66,7 +66,7 @@ pub record IsKeptReply (Gives : Loads) (manifests : List Data) (lock : Option Da
   pub note_lines : reply.notes ≡ Lines.note_lines notes
   pub ending : reply.ending ≡ Kept (length absent == 0)
 
--- what is written for a question, where loading the document of a package gives this
+-- the reply to a question, where `load` returns these documents
 abbrev pub IsReply : Loads → Question → Options → Format → ReplyValue → Type 0
 IsReply Gives (Questions.Pick packument wanted) options format reply =
     IsPickedReply (view packument.now) options wanted.now format reply

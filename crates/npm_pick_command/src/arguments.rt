@@ -1,4 +1,4 @@
-//! What the arguments of the program ask for.
+//! Reads the arguments of the program.
 ghost use Rattle.std.specs.Prelude.{◌≡◌, length, map, string_bytes};
 ghost use Rattle.command_lines.specs.Arguments.{argument_value};
 ghost use Rattle.npm_pick_command.specs.Arguments as ArgumentRules;
@@ -8,7 +8,7 @@ use crate::argument_error::ArgumentError;
 use crate::name::{Flag, Name, Setting, Shown, name_of};
 use command_lines::{Argument, MAX_WORDS, Options, Quoted, first_argument};
 
-/// How an answer is written.
+/// How the reply is written.
 #[derive(Clone, Copy, Debug, PartialEq, Eq, Drop)]
 pub enum Format {
     Text,
@@ -16,7 +16,7 @@ pub enum Format {
     Json,
 }
 
-/// What the arguments ask for. A text is the value of the last option of its name.
+/// What the arguments mean. A text is the value of the last option of its name.
 #[derive(Clone, Copy, Drop)]
 pub struct Arguments<'a> {
     pub shown: Option<Shown>,
@@ -53,7 +53,7 @@ impl Options for PickOptions {
     }
 }
 
-/// Returns what the words after the program's name ask for. Of two values of an option the last one counts.
+/// Reads the words after the program's name. Of two values of an option the last one counts.
 pub fn read_arguments<'a>(words: &'a [String]) -> Result<Arguments<'a>, ArgumentError<'a>>
     ensures { arguments_result result ≡ ArgumentRules.read_arguments (map string_bytes words.now) }
 {
@@ -63,7 +63,7 @@ pub fn read_arguments<'a>(words: &'a [String]) -> Result<Arguments<'a>, Argument
     asked_from(nothing_asked(), words)
 }
 
-/// What these words ask for, after others.
+/// Reads the words that are left.
 fn asked_from<'a>(
     asked: Arguments<'a>,
     words: &'a [String],
@@ -77,7 +77,7 @@ fn asked_from<'a>(
     }
 }
 
-/// What no argument asks for.
+/// The meaning of no arguments.
 fn nothing_asked<'a>() -> Arguments<'a>
     ensures { arguments_value result ≡ ArgumentRules.nothing_asked }
 {
@@ -102,7 +102,7 @@ fn nothing_asked<'a>() -> Arguments<'a>
     }
 }
 
-/// What is asked for with one more argument.
+/// Adds an argument.
 fn asked_with<'a>(
     asked: Arguments<'a>,
     argument: Argument<'a>,
@@ -122,7 +122,7 @@ fn asked_with<'a>(
     }
 }
 
-/// What is asked for with one more option that has no value.
+/// Adds an option that has no value.
 fn with_flag<'a>(asked: Arguments<'a>, flag: Flag) -> Arguments<'a>
     ensures { arguments_value result ≡ ArgumentRules.with_flag (arguments_value asked.entry) flag }
 {
@@ -151,7 +151,7 @@ fn with_flag<'a>(asked: Arguments<'a>, flag: Flag) -> Arguments<'a>
     }
 }
 
-/// What is asked for with one more option that has a value.
+/// Adds an option that has a value.
 fn with_value<'a>(
     asked: Arguments<'a>,
     setting: Setting,
@@ -165,7 +165,7 @@ fn with_value<'a>(
     }
 }
 
-/// The same if the value is kept as it is.
+/// Adds an option whose value is kept as it is.
 fn with_text<'a>(asked: Arguments<'a>, setting: Setting, text: &'a str) -> Arguments<'a>
     ensures { arguments_value result ≡ ArgumentRules.with_text (arguments_value asked.entry) setting text.now }
 {
@@ -205,7 +205,7 @@ fn with_text<'a>(asked: Arguments<'a>, setting: Setting, text: &'a str) -> Argum
     }
 }
 
-/// What is asked for with one more format.
+/// Adds a format.
 fn with_format<'a>(asked: Arguments<'a>, text: &'a str) -> Result<Arguments<'a>, ArgumentError<'a>>
     ensures { arguments_result result ≡ ArgumentRules.with_format (arguments_value asked.entry) text.now }
 {
@@ -228,7 +228,7 @@ fn format_of(text: &str) -> Option<Format>
     }
 }
 
-/// What is asked for with one more word that is no option: the version, the tag or the range, of which there is one.
+/// Adds a word that is no option: the version, the tag or the range, of which there is one.
 fn with_spec<'a>(asked: Arguments<'a>, word: &'a str) -> Result<Arguments<'a>, ArgumentError<'a>>
     ensures { arguments_result result ≡ ArgumentRules.with_spec (arguments_value asked.entry) word.now }
 {

@@ -3,8 +3,8 @@
 //! keeps.
 //!
 //! The exit status is 0 if a version is picked, nothing is outdated or each package has a document, 1 if none is picked, something
-//! is outdated or a package that a mirror keeps has no document, and 2 if nothing was asked: a wrong argument, or a file that is not
-//! read. What is not picked or not asked has a line on standard error.
+//! is outdated or a package that a mirror keeps has no document, and 2 after an error: a wrong argument, or a file that is not read.
+//! A line on standard error says why no version is picked, and what the error is.
 #![tactic(auto)]
 
 ghost use Rattle.std.specs.Prelude.{◌≡◌, IfErr, None, Ok, Some, false, true};
@@ -92,7 +92,7 @@ fn say(rt: &HostRuntime, done: &Done) -> io::Result<()> {
     }
 }
 
-/// Does what the arguments ask for. Returns how the program ends, or `None` if a text was shown in place of an answer.
+/// Does the task of the arguments. Returns how the program ends, or `None` if only a text about it was shown.
 fn answered<'a>(rt: &HostRuntime, words: &'a [String]) -> Result<Option<Done>, ProgramError<'a>> {
     let asked = read_arguments(words)?;
     if let Some(shown) = asked.shown {
@@ -114,7 +114,7 @@ fn show(rt: &HostRuntime, shown: Shown) -> Result<(), RunError> {
     print!(rt; "{text}").map_err(|_| RunError::Write)
 }
 
-/// Reads the files of a task, and answers it.
+/// Reads the files of a task, and does it.
 fn done<'a>(
     rt: &HostRuntime,
     words: &'a [String],
@@ -149,7 +149,7 @@ fn done<'a>(
     }
 }
 
-/// Answers a question. Documents of packages are in this folder.
+/// Writes the reply to a question. Documents of packages are in this folder.
 fn replied<'a>(
     rt: &HostRuntime,
     question: Question<'_>,

@@ -1,4 +1,4 @@
-//! What a mirror keeps of the packages that are asked for.
+//! The versions that a mirror keeps.
 ghost use Rattle.std.specs.Prelude.{◌≡◌, ◌++◌, [], ◌∷◌, IfOk, List, OnOk, map, string_bytes, ℕ};
 ghost use Rattle.std.specs.Fn.{FnReturnsAt};
 ghost use Rattle.serde_json.specs.View.{view};
@@ -15,7 +15,7 @@ use npm_texts::RegistrySpec;
 use serde_json::Value;
 use std::alloc::{AllocError, Global};
 
-/// What a mirror keeps.
+/// The versions that a mirror keeps.
 #[derive(Drop)]
 pub struct Mirror {
     /// Versions of packages, as `a@1.2.0`.
@@ -52,7 +52,7 @@ pub fn mirror_of<F: Fn(&str) -> Result<Option<Value>, LoadError>>(
     Ok(mirror)
 }
 
-/// Adds what is kept of a package for these texts.
+/// Adds the versions of a package that are kept for these texts.
 fn add_package<F: Fn(&str) -> Result<Option<Value>, LoadError>>(
     alloc: Global,
     mirror: &mut Mirror,
@@ -73,7 +73,7 @@ fn add_package<F: Fn(&str) -> Result<Option<Value>, LoadError>>(
     }
 }
 
-/// Adds what is kept of a package, by its document.
+/// Adds the versions of a package that are kept, by its document.
 fn add_kept(
     alloc: Global,
     mirror: &mut Mirror,

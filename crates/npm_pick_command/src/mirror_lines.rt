@@ -9,7 +9,7 @@ use command_lines::push_shown;
 use serde_json::Value;
 use std::alloc::{AllocError, Global};
 
-/// Returns what is written for the versions that a mirror keeps: a line each, or a JSON list.
+/// Returns the lines of the versions that a mirror keeps: one each, or a JSON list.
 pub fn mirror_lines(alloc: Global, kept: &[String], format: Format) -> Result<Vec<u8>, AllocError>
     ensures { IfOk result (λ lines. lines.items ≡ Lines.mirror_lines format (map string_bytes kept.now)) }
 {

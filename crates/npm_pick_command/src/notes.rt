@@ -1,4 +1,4 @@
-//! What standard error says of the packages of a mirror.
+//! Notes about the packages of a mirror, for standard error.
 ghost use Rattle.std.specs.Prelude.{◌≡◌, ◌↔◌, ◌++◌, IfOk, List, OnOk, map, option_map, string_bytes, ℕ};
 ghost use Rattle.std.specs.List.{flat_map};
 ghost use Rattle.npm_pick_command.specs.Asks.{ask_value};
@@ -10,7 +10,7 @@ use crate::in_order::put_in_order;
 use npm_texts::registry_spec;
 use std::alloc::{AllocError, Global};
 
-/// Returns what is said of these dependencies and of the packages without a document: in the order of the bytes, each once.
+/// Returns the notes about these dependencies and about the packages without a document: in the order of the bytes, each once.
 pub fn notes_of(
     alloc: Global,
     asks: &[Ask<'_>],
@@ -26,7 +26,7 @@ pub fn notes_of(
     Ok(notes)
 }
 
-/// Adds what is said of dependencies.
+/// Adds the notes about dependencies.
 fn add_asks(alloc: Global, notes: &mut Vec<String>, asks: &[Ask<'_>]) -> Result<(), AllocError>
     ensures { OnOk result (map string_bytes notes.new.items
         ≡ map string_bytes notes.old.items ++ flat_map Notes.ask_notes (map ask_value asks.now)) }
@@ -37,7 +37,7 @@ fn add_asks(alloc: Global, notes: &mut Vec<String>, asks: &[Ask<'_>]) -> Result<
     Ok(())
 }
 
-/// Adds what is said of a dependency, if something is.
+/// Adds the note about a dependency, if it has one.
 fn add_ask(alloc: Global, notes: &mut Vec<String>, ask: &Ask<'_>) -> Result<(), AllocError>
     ensures { OnOk result (map string_bytes notes.new.items
         ≡ map string_bytes notes.old.items ++ Notes.ask_notes (ask_value ask.now)) }
@@ -50,7 +50,7 @@ fn add_ask(alloc: Global, notes: &mut Vec<String>, ask: &Ask<'_>) -> Result<(), 
     Ok(())
 }
 
-/// What is said of a dependency.
+/// The note about a dependency.
 fn ask_note(alloc: Global, said: &str, ask: Ask<'_>) -> Result<String, AllocError>
     ensures { IfOk result (λ note. string_bytes note ≡ Notes.ask_note said.now (ask_value ask.entry)) }
 {
@@ -62,7 +62,7 @@ fn ask_note(alloc: Global, said: &str, ask: Ask<'_>) -> Result<String, AllocErro
     Ok(note)
 }
 
-/// Adds what is said of packages without a document.
+/// Adds the notes about packages without a document.
 fn add_absent(alloc: Global, notes: &mut Vec<String>, absent: &[String]) -> Result<(), AllocError>
     ensures { OnOk result (map string_bytes notes.new.items
         ≡ map string_bytes notes.old.items ++ map Notes.absent_note (map string_bytes absent.now)) }
@@ -73,7 +73,7 @@ fn add_absent(alloc: Global, notes: &mut Vec<String>, absent: &[String]) -> Resu
     Ok(())
 }
 
-/// What is said of a package without a document.
+/// The note about a package without a document.
 fn absent_note(alloc: Global, name: &str) -> Result<String, AllocError>
     ensures { IfOk result (λ note. string_bytes note ≡ Notes.absent_note name.now) }
 {

@@ -16,7 +16,7 @@ use npm_texts::registry_spec;
 use serde_json::Value;
 use std::alloc::{AllocError, Global};
 
-/// A dependency that is outdated: another version is wanted than what is installed, or is the latest.
+/// A dependency that is outdated: the installed version is not the wanted one, or the wanted one is not the latest.
 #[derive(Drop)]
 pub struct Row<'v> {
     pub edge: Edge<'v>,
@@ -26,13 +26,13 @@ pub struct Row<'v> {
     pub latest: String,
 }
 
-/// What is found out about a dependency.
+/// The outcome of a dependency.
 #[derive(Drop)]
 pub enum Outcome<'v> {
     Outdated(Row<'v>),
     /// There is no document of the package.
     Absent,
-    /// It is current, or not asked of a registry, or no version is picked for it.
+    /// It is current, or is not from a registry, or no version is picked for it.
     Passed,
 }
 
@@ -58,7 +58,7 @@ impl<'v> Outcome<'v> {
     }
 }
 
-/// Returns what is found out about each of these dependencies. `load` returns the document of a package, if there is one.
+/// Returns the outcome of each of these dependencies. `load` returns the document of a package, if there is one.
 pub fn outcomes_of<'v, F: Fn(&str) -> Result<Option<Value>, LoadError>>(
     alloc: Global,
     edges: &[Edge<'v>],
@@ -85,7 +85,7 @@ pub fn outcomes_of<'v, F: Fn(&str) -> Result<Option<Value>, LoadError>>(
     Ok(outcomes)
 }
 
-/// What is found out about a dependency.
+/// The outcome of a dependency.
 fn outcome_of<'v, F: Fn(&str) -> Result<Option<Value>, LoadError>>(
     alloc: Global,
     edge: Edge<'v>,
@@ -125,7 +125,7 @@ fn is_passed(edge: &Edge<'_>, all: bool) -> bool
     edge.to.is_none() && edge.is_needed && (edge.is_peer || edge.is_dev)
 }
 
-/// What is found out about a dependency, by the document of its package.
+/// The outcome of a dependency, by the document of its package.
 fn compared<'v>(
     alloc: Global,
     edge: Edge<'v>,

@@ -26,7 +26,7 @@ pub fn outdated_lines(
     Ok(lines)
 }
 
-/// Adds the line of what was found out, if it has one.
+/// Adds the line of an outcome, if it has one.
 fn push_outcome(
     alloc: Global,
     lines: &mut Vec<u8>,

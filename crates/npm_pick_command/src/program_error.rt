@@ -12,7 +12,7 @@ pub enum ProgramError<'a> {
     /// The arguments were not read.
     #[error("{0}")]
     Words(&'a WordsError),
-    /// The arguments ask for nothing that is done here.
+    /// The arguments have an error.
     #[error("{0}")]
     Argument(ArgumentError<'a>),
     /// The file after this option was not read.
@@ -21,7 +21,7 @@ pub enum ProgramError<'a> {
     /// The JSON value of this file is no manifest.
     #[error("--manifest {0}: {1}")]
     Manifest(Quoted<'a>, Fault),
-    /// Nothing was answered.
+    /// The program stopped.
     #[error("{0}")]
     Run(RunError),
 }

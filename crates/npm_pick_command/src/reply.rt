@@ -1,4 +1,4 @@
-//! What is written for a question, and how the program ends.
+//! The reply to a question, and how the program ends.
 ghost use Rattle.std.specs.Prelude.{◌≡◌, List, [], ℕ, IfOk, count_by, map, option_map};
 ghost use Rattle.std.specs.Fn.{FnReturnsAt};
 ghost use Rattle.std.specs.Io.KnownBytes.{Appends};
@@ -25,14 +25,14 @@ use serde_json::Value;
 use std::alloc::Global;
 use std::io::Write;
 
-/// What is asked.
+/// A question about a package, a lock file or a mirror.
 #[derive(Clone, Copy)]
 pub enum Question<'a> {
     /// A version of this packument, for a version, a tag or a range.
     Pick(&'a Value, &'a str),
     /// The dependencies of this lock file that are outdated: of the root, or of all packages.
     Outdated(&'a Value, bool),
-    /// What a mirror keeps for these manifests and a lock file: the versions that are picked, or all that are admitted.
+    /// The versions that a mirror keeps for these manifests and a lock file: those that are picked, or all that are admitted.
     Keep(&'a [Value], Option<&'a Value>, bool),
 }
 
@@ -45,7 +45,7 @@ pub enum Ending {
     Nothing(PickError),
     /// A lock file was compared: whether something is outdated, and how many dependencies have no document.
     Compared(bool, usize),
-    /// What a mirror keeps was listed: whether each package has a document.
+    /// The versions that a mirror keeps were listed: whether each package has a document.
     Kept(bool),
 }
 
@@ -56,15 +56,15 @@ pub struct Done {
     pub notes: Vec<u8>,
 }
 
-/// What is written to standard output and to standard error, and how the program ends.
+/// The lines for standard output, and the rest of the reply.
 #[derive(Drop)]
 struct Reply {
     lines: Vec<u8>,
     done: Done,
 }
 
-/// Answers a question, and writes the lines of the answer. `load` returns the document of a package, if there is one. Returns how
-/// the program ends, and the lines for standard error.
+/// Writes the lines of the reply to a question. `load` returns the document of a package, if there is one. Returns how the program
+/// ends, and the lines for standard error.
 ///
 /// # Errors
 ///
@@ -103,7 +103,7 @@ pub fn run<W: Write, F: Fn(&str) -> Result<Option<Value>, LoadError>>(
     }
 }
 
-/// What is written for a question.
+/// The reply to a question.
 fn reply_of<F: Fn(&str) -> Result<Option<Value>, LoadError>>(
     alloc: Global,
     question: Question<'_>,
@@ -124,7 +124,7 @@ fn reply_of<F: Fn(&str) -> Result<Option<Value>, LoadError>>(
     }
 }
 
-/// What is written for a version, a tag or a range.
+/// The reply for a version, a tag or a range.
 fn pick_reply(
     alloc: Global,
     packument: &Value,
@@ -150,7 +150,7 @@ fn pick_reply(
     }
 }
 
-/// What is written for a lock file.
+/// The reply for a lock file.
 fn outdated_reply<F: Fn(&str) -> Result<Option<Value>, LoadError>>(
     alloc: Global,
     lock: &Value,
@@ -192,7 +192,7 @@ fn ended(alloc: Global, ending: Ending) -> Done
     }
 }
 
-/// What is written for a mirror.
+/// The reply for a mirror.
 fn kept_reply<F: Fn(&str) -> Result<Option<Value>, LoadError>>(
     alloc: Global,
     manifests: &[Value],

@@ -1,4 +1,4 @@
-//! What a registry is asked for, and by which names.
+//! Requests to a registry, and their texts by the names of packages.
 ghost use Rattle.std.specs.Prelude.{◌≡◌, ◌↔◌, ◌++◌, [], IfOk, List, OnOk, map, option_map, string_bytes, ℕ};
 ghost use Rattle.std.specs.Cmp.Lexicographic.{slice_cmp};
 ghost use Rattle.std.specs.List.{Contains};
@@ -16,7 +16,7 @@ use npm_texts::{RegistrySpec, registry_spec};
 use std::alloc::{AllocError, Global};
 use std::collections::BTreeMap;
 
-/// Returns what a registry is asked for by these dependencies.
+/// Returns the requests of these dependencies.
 pub fn requests_of<'v>(alloc: Global, asks: &[Ask<'v>]) -> Result<Vec<RegistrySpec<'v>>, AllocError>
     ensures { IfOk result (λ requests. map registry_spec_value requests.items
         ≡ Mirrors.requests_of (map ask_value asks.now)) }
@@ -28,7 +28,7 @@ pub fn requests_of<'v>(alloc: Global, asks: &[Ask<'v>]) -> Result<Vec<RegistrySp
     Ok(requests)
 }
 
-/// Adds what a registry is asked for by a dependency, if it is.
+/// Adds the request of a dependency, if it has one.
 fn push_request<'v>(requests: &mut Vec<RegistrySpec<'v>>, ask: &Ask<'v>) -> Result<(), AllocError>
     ensures { OnOk result (map registry_spec_value requests.new.items
         ≡ map registry_spec_value requests.old.items ++ Mirrors.requests_by (ask_value ask.now)) }
@@ -39,7 +39,7 @@ fn push_request<'v>(requests: &mut Vec<RegistrySpec<'v>>, ask: &Ask<'v>) -> Resu
     Ok(())
 }
 
-/// What a registry is asked for by a dependency.
+/// The request of a dependency.
 fn request_of(ask: Ask<'_>) -> Option<RegistrySpec<'_>>
     ensures { option_map registry_spec_value result ≡ Mirrors.request_of (ask_value ask.entry) }
 {
@@ -50,7 +50,7 @@ fn request_of(ask: Ask<'_>) -> Option<RegistrySpec<'_>>
     }
 }
 
-/// Returns the names of the packages that are asked for, in the order of their bytes, each once.
+/// Returns the names of the packages in the requests, in the order of their bytes, each once.
 pub fn names_of(alloc: Global, requests: &[RegistrySpec<'_>]) -> Result<Vec<String>, AllocError>
     ensures ordered { IfOk result (λ names. IsStrictlySortedBy (slice_cmp nat_cmp) (map string_bytes names.items)) }
     ensures exact { IfOk result (λ names. (name : List ℕ) → Contains (map string_bytes names.items) name
@@ -73,7 +73,7 @@ fn all_names(alloc: Global, requests: &[RegistrySpec<'_>]) -> Result<Vec<String>
     Ok(names)
 }
 
-/// The texts that are asked for, by the names of packages.
+/// The texts of requests, by the names of packages.
 #[derive(Drop)]
 pub struct Groups<'v> {
     by_name: BTreeMap<&'v str, Vec<&'v str>>,

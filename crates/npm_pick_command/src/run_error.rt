@@ -7,7 +7,7 @@ use npm_packages::Fault;
 use std::alloc::AllocError;
 use thiserror::Error;
 
-/// Why nothing was answered.
+/// Why the program stopped.
 #[derive(Debug, PartialEq, Eq, Drop, Error)]
 pub enum RunError {
     /// A write failed.

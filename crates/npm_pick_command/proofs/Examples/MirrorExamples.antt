@@ -1,4 +1,4 @@
--- Worked rows of the definitions: what manifests ask for, and what is said of it.
+-- Worked rows of the definitions: the dependencies of manifests, and the notes about them.
 use Rattle.std.proofs.Common.{◌≡◌, ℕ, List, [], ◌∷◌, Some, None, codes, false, refl, true}
 use Rattle.serde_json.specs.Data.{Data, member, no_members, null, object, string}
 use Rattle.npm_pick_command.specs.Asks.{AskValue, manifest_asks}

@@ -1,4 +1,4 @@
--- The texts that are asked for, as the program holds them.
+-- The texts of the requests, as the program holds them.
 use Rattle.std.specs.Prelude.{ℕ, List, [], ◌∷◌, bytes_eq, if◌then◌else◌}
 use Rattle.std.specs.BTreeMap.{get_by}
 use Rattle.std.specs.Cmp.Lexicographic.{slice_cmp}

@@ -1,4 +1,4 @@
--- What is said of a dependency that no registry is asked for.
+-- The note about a dependency that is not from a registry.
 use Rattle.std.proofs.Common.{◌∙◌, ◌++◌, ap, map, string_bytes, sym}
 use Rattle.npm_pick_command.specs.Asks.{ask_value}
 use Rattle.npm_pick_command.proofs.Gathering.{pushed}

@@ -1,4 +1,4 @@
--- What is said in order is what was gathered.
+-- The notes in order are the notes that were gathered.
 use Rattle.std.proofs.Common.{◌∙◌, ◌++◌, ap, map, string_bytes}
 use Rattle.npm_pick_command.specs.Notes.{absent_note}
 use Rattle.npm_pick_command.proofs.Mirrors.{texts_like}

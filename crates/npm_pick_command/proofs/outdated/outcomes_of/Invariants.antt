@@ -1,4 +1,4 @@
--- What was found out so far, and then what is found out about the edges that are left, is what is found out about all.
+-- The outcomes so far, and then those of the edges that are left, are the outcomes of all edges.
 use Rattle.std.specs.Fn.{FnReturnsAt}
 use Rattle.npm_pick_command.specs.Outdated.{IsOutcome}
 use Rattle.npm_pick_command.proofs.Outcomes.{AreSoFar}

@@ -1,4 +1,4 @@
--- What is asked for, what is kept of it, and what is said of the rest.
+-- The dependencies, the versions that are kept for them, and the notes about the rest.
 use Rattle.std.proofs.Common.{map, string_bytes}
 use Rattle.npm_pick_command.specs.Asks.{ask_value}
 use Rattle.npm_pick_command.proofs.Mirrors.{none_absent}

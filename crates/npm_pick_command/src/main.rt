@@ -205,7 +205,7 @@ fn read_at(rt: &HostRuntime, path: &str) -> Result<Value, InputError> {
     if path == "-" {
         return read_json(rt.alloc(), &mut Watched::new(rt.stdin()));
     }
-    let file = File::open(rt, path).map_err(open_error)?;
+    let file = File::open(rt, path).map_err(|error| open_error(error))?;
     read_json(rt.alloc(), &mut Watched::new(file))
 }
 

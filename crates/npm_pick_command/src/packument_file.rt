@@ -49,10 +49,10 @@ fn read_at(
     end: &str,
 ) -> Result<Option<Value>, InputError> {
     let path = path_of(rt.alloc(), folder, name, end).map_err(|_| InputError::Memory)?;
-    if !is_regular(rt, path.as_str()).map_err(open_error)? {
+    if !is_regular(rt, path.as_str()).map_err(|error| open_error(error))? {
         return Ok(None);
     }
-    let file = File::open(rt, path.as_str()).map_err(open_error)?;
+    let file = File::open(rt, path.as_str()).map_err(|error| open_error(error))?;
     read_json(rt.alloc(), &mut Watched::new(file)).map(Some)
 }
 

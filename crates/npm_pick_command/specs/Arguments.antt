@@ -9,12 +9,12 @@ use denote.Ref.{Bor}
 use Rattle.command_lines.specs.Arguments as Words
 use Rattle.command_lines.specs.Arguments.{ArgumentValue}
 use Rattle.command_lines.specs.declared.argument.TheConstants.{MAX_WORDS}
+use Rattle.npm_pick_reports.specs.declared.format.Format.{Format}
+use Rattle.npm_pick_reports.specs.declared.format.Format.TheVariants as Formats
 use Rattle.npm_pick_command.specs.Names.{name_of}
 use Rattle.npm_pick_command.specs.declared.argument_error.ArgumentError.{ArgumentError}
 use Rattle.npm_pick_command.specs.declared.argument_error.ArgumentError.TheVariants as Errors
 use Rattle.npm_pick_command.specs.declared.arguments.Arguments.{Arguments}
-use Rattle.npm_pick_command.specs.declared.arguments.Format.{Format}
-use Rattle.npm_pick_command.specs.declared.arguments.Format.TheVariants as Formats
 use Rattle.npm_pick_command.specs.declared.name.Flag.{Flag}
 use Rattle.npm_pick_command.specs.declared.name.Flag.TheVariants as Flags
 use Rattle.npm_pick_command.specs.declared.name.Name.{Name}

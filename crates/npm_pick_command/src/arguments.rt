@@ -7,14 +7,7 @@ ghost use Rattle.npm_pick_command.specs.Arguments.{arguments_of, arguments_resul
 use crate::argument_error::ArgumentError;
 use crate::name::{Flag, Name, Setting, Shown, name_of};
 use command_lines::{Argument, MAX_WORDS, Options, Quoted, first_argument};
-
-/// How the reply is written.
-#[derive(Clone, Copy, Debug, PartialEq, Eq, Drop)]
-pub enum Format {
-    Text,
-    /// A JSON object a line.
-    Json,
-}
+use npm_pick_reports::Format;
 
 /// What the arguments mean. A text is the value of the last option of its name.
 #[derive(Clone, Copy, Drop)]

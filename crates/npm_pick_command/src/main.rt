@@ -9,31 +9,18 @@
 
 ghost use Rattle.std.specs.Prelude.{◌≡◌, IfErr, None, Ok, Some, false, true};
 ghost use Rattle.npm_pick_command.specs.Status.{status_of_ending};
-ghost use Rattle.npm_pick_command.specs.declared.reply.Ending.{Ending};
+ghost use Rattle.npm_pick_reports.specs.declared.reply.Ending.{Ending};
 
 mod argument_error;
 mod arguments;
-mod asks;
 mod given;
 mod help;
-mod in_order;
-mod load_error;
 mod manifest;
 mod manifest_files;
-mod members;
-mod mirror;
-mod mirror_lines;
 mod name;
-mod notes;
-mod outdated;
-mod outdated_lines;
 mod packument_file;
-mod picked_line;
 mod picking;
 mod program_error;
-mod reply;
-mod requests;
-mod run_error;
 mod task;
 
 use arguments::{Arguments, read_arguments};
@@ -43,11 +30,10 @@ use manifest::checked_manifest;
 use manifest_files::manifests_of;
 use name::Shown;
 use npm_pick::Options;
+use npm_pick_reports::{Done, Ending, Question, RunError, run};
 use packument_file::packument_in;
 use picking::Values;
 use program_error::ProgramError;
-use reply::{Done, Ending, Question, run};
-use run_error::RunError;
 use serde_json::Value;
 use std::alloc::AllocError;
 use std::fs::File;

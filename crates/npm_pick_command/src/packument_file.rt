@@ -4,8 +4,8 @@ ghost use Rattle.std.specs.List.{list_all};
 ghost use Rattle.npm_texts.specs.RangeText.{is_tag_byte};
 ghost use Rattle.npm_pick_command.specs.PackumentFile as Files;
 
-use crate::load_error::{LoadError, PackageName};
 use command_lines::{InputError, Watched, open_error, read_json};
+use npm_pick_reports::{LoadError, PackageName};
 use npm_texts::rest_after;
 use serde_json::Value;
 use std::alloc::{AllocError, Global};

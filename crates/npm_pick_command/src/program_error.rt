@@ -1,8 +1,8 @@
 //! Why the program ends with status 2.
 use crate::argument_error::ArgumentError;
-use crate::run_error::RunError;
 use command_lines::{InputError, Quoted, WordsError};
 use npm_packages::Fault;
+use npm_pick_reports::RunError;
 use std::alloc::AllocError;
 use thiserror::Error;
 

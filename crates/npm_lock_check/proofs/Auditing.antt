@@ -1,4 +1,4 @@
--- Why advisories are not looked up, and what is counted.
+-- Why advisories are not looked up, and the counts of a report.
 use Rattle.std.proofs.Common.{◌≡◌, ◌∙◌, List, None, Option, Some, inl, inr, is_some, length, map, option_map, refl, sym}
 use Rattle.std.proofs.lemmas.List.{length-map}
 use Rattle.serde_json.specs.Data.{Data}
@@ -20,7 +20,7 @@ refused_as checked file advisories fault error is told (inl (name, same, text)) 
     inl (fault.kind, name, fault.place, same, (file, is, rw text told))
 refused_as checked file advisories fault error is told (inr memory) = inr (inr memory)
 
--- what is checked has the fault of the lock file
+-- the lock file that is checked has the fault of the one that was read
 module _ (lock placed checked : Data) (linked : List LinkedValue) (wanted : WantedValue) (error : RunError)
     (is : checked ≡ converted placed wanted.manifest)
     (sound : lock_fault (converted placed wanted.manifest) ≡ any_fault placed wanted.manifest) where
@@ -39,7 +39,7 @@ pub refused_lock : (lock placed : Data) (linked : List LinkedValue) (wanted : Wa
     → IsLockRefused placed wanted.manifest error → IsRefused lock placed linked wanted error
 refused_lock lock placed linked wanted error told = inr (inr told)
 
--- what is seen of a value is there where the value is, and of a list it has the same length
+-- a view of an option is there if the option is, and a view of a list has the same length
 pub some_same : {A B : Type 0} (f : A → B) (value : Option A) → is_some value ≡ is_some (option_map f value)
 some_same f None = refl
 some_same f (Some x) = refl

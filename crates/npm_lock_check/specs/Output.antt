@@ -1,4 +1,4 @@
--- What the program reads, and what it writes for it.
+-- The check of one lock file.
 use Rattle.std.specs.Prelude.{◌≡◌, ◌≢◌, ◌⊎◌, ℕ, List, [], ◌∷◌, true, IsUtf8, Option, None, Some}
 use Rattle.std.specs.Prelude.{Result, option_and_then, option_map, string_bytes}
 use Rattle.std.specs.Option.{option_or}
@@ -18,9 +18,10 @@ use Rattle.command_lines.specs.WatchedValue.{WatchedValue}
 use Rattle.npm_lock_check.specs.Report.{AreLoaded, IsNotLoaded, IsReportOf, WantedValue, has_packages, manifests_of}
 use Rattle.npm_lock_check.specs.Report.{checked_lock, placed}
 use Rattle.npm_lock_reports.specs.declared.folder_name.FolderName.{FolderName}
-use Rattle.npm_lock_check.specs.Written.{IsWritten, has_places}
+use Rattle.npm_lock_check.specs.Written.{IsOutput, has_places}
 use Rattle.npm_lock_check.specs.declared.linked.Loaded.{Loaded}
 use Rattle.npm_lock_check.specs.declared.list_name.ListName.{ListName}
+use Rattle.npm_lock_check.specs.declared.outputs.Output.{Output}
 use Rattle.npm_lock_reports.specs.declared.report.Report.{Report}
 use Rattle.npm_lock_check.specs.declared.run_error.LoadError.{LoadError}
 use Rattle.npm_lock_check.specs.declared.run_error.RunError.{RunError}
@@ -29,11 +30,11 @@ use Rattle.npm_lock_check.specs.declared.run_error.RunError.TheVariants.{NoLinke
 use Rattle.npm_lock_check.specs.declared.run_error.StopError.{StopError}
 use Rattle.npm_lock_check.specs.declared.run_error.StopError.TheVariants.{Advisories, Check, Load, Manifest}
 
--- a lock file was read, and the manifests of linked folders were loaded, and this is the report of all, and what is
--- written of it; the text of the lock file counts for a format with places alone
+-- A lock file was read, and the manifests of linked folders were loaded, and these are the report and its output. The text
+-- of the lock file counts for a format with places alone.
 pub record IsReported {R : Type 0} (remaining : R → Option (List ℕ)) (old new : WatchedValue R)
     (Gives : Value → Result Loaded LoadError → Type 0) (wanted : WantedValue) (report : Report)
-    (found : List FoundValue) (text : List ℕ) : Type 0 where
+    (found : List FoundValue) (output : Output) : Type 0 where
   pub lock : Value
   pub lock_text : List ℕ
   pub kept : List ℕ
@@ -42,7 +43,7 @@ pub record IsReported {R : Type 0} (remaining : R → Option (List ℕ)) (old ne
   pub given : AreLoaded Gives lock wanted.manifest loaded
   pub report_of : IsReportOf (view lock) loaded wanted report found
   pub is_kept : has_places wanted.format ≡ true → kept ≡ lock_text
-  pub written : IsWritten wanted kept report found text
+  pub written : IsOutput wanted kept report found output
 
 -- ---- why nothing was written
 

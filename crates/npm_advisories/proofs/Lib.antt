@@ -9,6 +9,7 @@ pub mod Uniting
 pub mod Installing
 pub mod Reading
 pub mod Keeping
+pub mod Halving
 pub mod Auditing
 pub mod Listing
 pub mod VersionTests
@@ -18,5 +19,8 @@ pub mod OsvMarks
 pub mod OsvEnds
 pub mod OsvBetween
 pub mod ReadVersions
-pub mod Joining
+pub mod Covering
+pub mod ReleaseCuts
+pub mod SpanPlaces
+pub mod FreeReleases
 pub mod FolderParts

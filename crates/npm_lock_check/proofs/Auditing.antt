@@ -1,4 +1,4 @@
--- Why advisories are not looked up, and what is counted.
+-- Why advisories are not looked up, and the counts of a report.
 use Rattle.std.proofs.Common.{◌≡◌, ◌∙◌, ℕ, List, None, Option, Some, ap, inl, inr, is_some, length, map, option_map, refl}
 use Rattle.std.proofs.lemmas.List.{length-map}
 use Rattle.serde_json.specs.Data.{Data}
@@ -17,7 +17,7 @@ pub refused_as : (checked file : Data) (advisories : Option Data) (fault : Fault
     → advisories ≡ Some file → IsFileFaultBeside checked file (Some fault) → AreRefusedAs fault error
     → IsAuditRefused checked advisories error
 refused_as checked file advisories fault error is told (inl (name, same, text)) =
-    inl (fault.kind, name, fault.place, same, (file, is, rw text told))
+    inl (fault.kind, name, fault.place, same, (file, is, fault.id, rw text told))
 refused_as checked file advisories fault error is told (inr memory) = inr (λ none. memory)
 
 -- what is checked has no fault, so memory ran out
@@ -37,7 +37,7 @@ pub refused_lock : (text : List ℕ) (lock placed : Data) (linked : List LinkedV
     → IsRefused text lock placed linked wanted error
 refused_lock text lock placed linked wanted error told = inr (inr told)
 
--- what is seen of a value is there where the value is, and of a list it has the same length
+-- a view of an option is there if the option is, and a view of a list has the same length
 pub some_same : {A B : Type 0} (f : A → B) (value : Option A) → is_some value ≡ is_some (option_map f value)
 some_same f None = refl
 some_same f (Some x) = refl

@@ -17,7 +17,7 @@ nothing : (n : ℕ) → drop {A = ℕ} n [] ≡ []
 nothing zero = refl
 nothing (suc n) = refl
 
--- a part of what is left
+-- a part of the rest
 after : (path front rest : List ℕ) (i : ℕ) → drop i path ≡ front ++ rest → drop (i + length front) path ≡ rest
 after path front rest zero is =
     let same : 0 + length front ≡ length front = omega arith in

@@ -1,4 +1,5 @@
 pub mod Auditing
+pub mod CheckedFiles
 pub mod Examples
 pub mod FileFolders
 pub mod FoundOnDisk

@@ -90,7 +90,7 @@ module _ (Gives : (folder : List ℕ) → Result Found LoadError → Type 0) (al
   first_left : drop i all ≡ one ∷ drop (i + 1) all
   first_left = drop_more all i none small
 
-  -- what was found in one folder more
+  -- the manifest of one folder more
   pub found_more : (found : Found) (more : LoadedValue) → Gives one.now (Ok found) → more ≡ with_found one.now found before
       → (after : LoadedValue) → AreReadAfter Gives more (map (λ folder. folder.now) (drop (i + 1) all)) after
       → AreRead Gives (map (λ folder. folder.now) all) after

@@ -17,7 +17,7 @@ use Rattle.npm_lock_check.specs.declared.linked.Loaded.{Loaded}
 use Rattle.npm_lock_check.specs.declared.run_error.LoadError.{LoadError}
 use Rattle.npm_lock_check.specs.declared.run_error.RunError.{RunError}
 use Rattle.npm_lock_check.specs.declared.run_error.RunError.TheVariants.{Memory, NoAdvisories, NoLinked, NoLockFile}
-use Rattle.npm_lock_check.specs.declared.run_error.RunError.TheVariants.{NoManifest, Write}
+use Rattle.npm_lock_check.specs.declared.run_error.RunError.TheVariants.{NoManifest}
 use Rattle.npm_lock_check.specs.declared.run_error.StopError.TheVariants.{Check}
 
 no_value : (lock : Data) → read [] ≡ Some lock → ⊥
@@ -77,16 +77,6 @@ module _ {R : Type 0} (remaining : R → Option (List ℕ)) (old new : WatchedVa
   refused error (inr (inl (kind, name, place, is, told))) = rw is (faulty (NoAdvisories kind name place) told)
   refused error (inr (inr (inl (fault, is, told)))) = rw is (faulty (NoLockFile fault) told)
   refused error (inr (inr (inr is))) = out error is
-
--- the check writes nothing, so no write of it fails
-pub unwritten : (text : List ℕ) (lock placed : Data) (linked : List LinkedValue) (wanted : WantedValue)
-    → ¬ IsRefused text lock placed linked wanted Write
-unwritten text lock placed linked wanted (inl (inl told)) = cc told.1
-unwritten text lock placed linked wanted (inl (inr (inl told))) = cc told.2
-unwritten text lock placed linked wanted (inl (inr (inr is))) = cc is
-unwritten text lock placed linked wanted (inr (inl told)) = cc told.3
-unwritten text lock placed linked wanted (inr (inr (inl told))) = cc told.1
-unwritten text lock placed linked wanted (inr (inr (inr is))) = cc is
 
 -- what holds of an error holds where the error is passed on
 pub passed_on : {T E : Type 0} (result : Result T E) (P Q : E → Type 0) → IsErrAnd result P

@@ -1,8 +1,8 @@
--- What the arguments of the program ask for.
+-- The arguments of the program.
 use Rattle.std.specs.Prelude.{◌&&◌, ◌||◌, ℕ, List, [], ◌∷◌, Bool, true, false, not, if◌then◌else◌, length, nat_eq}
 use Rattle.std.specs.Prelude.{nat_lt}
 use Rattle.std.specs.Prelude.{Option, Some, None, is_some, option_map, Result, Ok, Err, codes}
-use Rattle.std.specs.List.{starts_with}
+use Rattle.std.specs.List.{filter_map, starts_with}
 use Rattle.std.specs.Result.{result_map_both}
 use Rattle.std.specs.Str.{bytes_eq}
 use Rattle.npm_advisories.specs.Severities.{severity_of_text}
@@ -66,13 +66,14 @@ takes_value word = has_value (name_of word)
 abbrev pub arguments_of : (words : List (List ℕ)) → List ArgumentValue
 arguments_of words = Words.arguments_of takes_value words
 
--- ---- what is wrong with them
+-- ---- their errors
 
--- what is wrong, and the word or the value that it is about
+-- an error, and the word or the value that it is about
 pub data ArgumentErrorValue : Type 0 where
   too_many : ArgumentErrorValue
   unknown_option : (word : List ℕ) → ArgumentErrorValue
-  second_file : (word : List ℕ) → ArgumentErrorValue
+  second_input : ArgumentErrorValue
+  many_files : (word : List ℕ) → ArgumentErrorValue
   no_value : (word : List ℕ) → ArgumentErrorValue
   no_format : (text : List ℕ) → ArgumentErrorValue
   no_kind : (text : List ℕ) → ArgumentErrorValue
@@ -80,12 +81,12 @@ pub data ArgumentErrorValue : Type 0 where
   -- that a text is no version of Node is said by `NodeVersion`, and not here
   no_node_version : (text : List ℕ) → ArgumentErrorValue
 
--- ---- what they ask for
+-- ---- their meaning
 
 -- What is shown in place of a check, the text after `--node`, the format, the kinds after `--ignore`, whether
 -- dependencies that are not checked are listed, the text after `--manifest`, whether mismatches count for the status,
--- whether manifests outside its folder are read, the text after `--advisories`, the least severity of advisories, and
--- the file.
+-- whether manifests outside its folder are read, the text after `--advisories`, the least severity of advisories, the
+-- first lock file, the last one if there are several, and whether one is standard input.
 pub record ArgumentsValue : Type 0 where
   pub shown : Option Shown
   pub node : Option (List ℕ)
@@ -98,8 +99,10 @@ pub record ArgumentsValue : Type 0 where
   pub advisories : Option (List ℕ)
   pub level : Severity
   pub file : Option (List ℕ)
+  pub other : Option (List ℕ)
+  pub input : Bool
 
--- what no argument asks for: `info` is the least severity, so all advisories count
+-- without an argument: `info` is the least severity, so all advisories count
 abbrev pub nothing_asked : ArgumentsValue
 nothing_asked = record {
   shown = None;
@@ -113,6 +116,8 @@ nothing_asked = record {
   advisories = None;
   level = Info;
   file = None;
+  other = None;
+  input = false;
 }
 
 -- the format that a text names
@@ -160,12 +165,18 @@ with_value asked Settings.Manifest text = Ok (record asked { manifest = Some tex
 with_value asked Settings.Advisories text = Ok (record asked { advisories = Some text })
 with_value asked Settings.Severity text = with_level asked text
 
--- with one more word that is no option, which is the file; `-` is one too
+-- with one more lock file after this first one
+abbrev pub with_next : (first : Option (List ℕ)) → ArgumentsValue → (word : List ℕ) → ArgumentsValue
+with_next None asked word = record asked { file = Some word; input = asked.input || bytes_eq word (codes "-") }
+with_next (Some first) asked word =
+    record asked { other = Some word; input = asked.input || bytes_eq word (codes "-") }
+
+-- With one more word that is no option, which is a lock file. `-` is one too: standard input, which is read once.
 abbrev pub with_file : ArgumentsValue → (word : List ℕ) → Result ArgumentsValue ArgumentErrorValue
 with_file asked word = if starts_with nat_eq word (codes "-") && not (bytes_eq word (codes "-"))
     then Err (unknown_option word)
-    else if is_some asked.file then Err (second_file word)
-    else Ok (record asked { file = Some word })
+    else if asked.input && bytes_eq word (codes "-") then Err second_input
+    else Ok (with_next asked.file asked word)
 
 -- with one more argument, of this name and value
 abbrev pub with_argument : ArgumentsValue → (word : List ℕ) → Option Name → Option (List ℕ) → Result ArgumentsValue
@@ -182,16 +193,45 @@ with_argument asked word (Some (Names.Valued setting)) (Some text) = with_value 
 abbrev pub asked_with : ArgumentsValue → ArgumentValue → Result ArgumentsValue ArgumentErrorValue
 asked_with asked argument = with_argument asked argument.word (name_of argument.word) argument.value
 
--- what all these arguments ask for, after others: the first error counts
+-- with all these arguments after others: the first error counts
 abbrev pub asked_by : Result ArgumentsValue ArgumentErrorValue → List ArgumentValue → Result ArgumentsValue ArgumentErrorValue
 asked_by asked [] = asked
 asked_by (Err error) (argument ∷ rest) = Err error
 asked_by (Ok asked) (argument ∷ rest) = asked_by (asked_with asked argument) rest
 
--- what the words after the program's name ask for, of which there are at most 1,000
+-- ---- what fits together
+
+-- a manifest goes with one lock file
+abbrev pub with_one_file : ArgumentsValue → (other : Option (List ℕ)) → Result ArgumentsValue ArgumentErrorValue
+with_one_file asked None = Ok asked
+with_one_file asked (Some word) = Err (many_files word)
+
+abbrev pub if_fitting : ArgumentsValue → Result ArgumentsValue ArgumentErrorValue
+if_fitting asked = if is_some asked.manifest then with_one_file asked asked.other else Ok asked
+
+-- the same, unless something was wrong before
+abbrev pub all_fitting : Result ArgumentsValue ArgumentErrorValue → Result ArgumentsValue ArgumentErrorValue
+all_fitting (Err error) = Err error
+all_fitting (Ok asked) = if_fitting asked
+
+-- the meaning of the words after the program's name, of which there are at most 1,000
 abbrev pub read_arguments : (words : List (List ℕ)) → Result ArgumentsValue ArgumentErrorValue
 read_arguments words = if nat_lt MAX_WORDS (length words) then Err too_many
-    else asked_by (Ok nothing_asked) (arguments_of words)
+    else all_fitting (asked_by (Ok nothing_asked) (arguments_of words))
+
+-- ---- the lock files
+
+-- the lock file that an argument is, if it is no option
+abbrev pub file_in : ArgumentValue → Option (List ℕ)
+file_in argument = if is_some (name_of argument.word) then None else Some argument.word
+
+-- all of them, or standard input by its name if there is none
+abbrev pub files_or_input : (files : List (List ℕ)) → List (List ℕ)
+files_or_input [] = codes "-" ∷ []
+files_or_input (first ∷ others) = first ∷ others
+
+abbrev pub files_of : (words : List (List ℕ)) → List (List ℕ)
+files_of words = files_or_input (filter_map file_in (arguments_of words))
 
 -- ---- what contracts see
 
@@ -208,12 +248,15 @@ arguments_value asked = record {
   advisories = option_map (λ text. text.now) asked.advisories;
   level = asked.level;
   file = option_map (λ word. word.now) asked.file;
+  other = option_map (λ word. word.now) asked.other;
+  input = asked.input;
 }
 
 abbrev pub argument_error_value : ArgumentError → ArgumentErrorValue
 argument_error_value Errors.TooMany = too_many
 argument_error_value (Errors.UnknownOption quoted) = unknown_option quoted.text.now
-argument_error_value (Errors.SecondFile quoted) = second_file quoted.text.now
+argument_error_value Errors.SecondInput = second_input
+argument_error_value (Errors.ManyFiles quoted) = many_files quoted.text.now
 argument_error_value (Errors.NoValue quoted) = no_value quoted.text.now
 argument_error_value (Errors.Format quoted) = no_format quoted.text.now
 argument_error_value (Errors.Kind quoted) = no_kind quoted.text.now

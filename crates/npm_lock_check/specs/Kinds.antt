@@ -30,8 +30,7 @@ abbrev pub with_named : Kinds → Ignorable → Kinds
 with_named kinds Group = record kinds { group = true }
 with_named kinds (Problem kind) = with_kind kinds kind
 
--- what a word of the command line names: where a manifest and the lock file do not ask for the same, or a kind of
--- problem
+-- the kind that a word of the command line names: `group` is for mismatches of a manifest and the lock file
 abbrev pub named_by : (text : List ℕ) → Option Ignorable
 named_by text = if bytes_eq text (codes "group") then Some Group
     else if bytes_eq text (codes "missing") then Some (Problem Missing)

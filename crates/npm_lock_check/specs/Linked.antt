@@ -40,7 +40,7 @@ pub record LoadedValue : Type 0 where
   pub unread : List (List ℕ)
   pub workspaces : List WorkspaceValue
 
--- what a contract sees of what was loaded
+-- a contract sees the values of these
 abbrev pub loaded_value : Loaded → LoadedValue
 loaded_value loaded = record {
   linked = map linked_value loaded.linked.items;
@@ -51,14 +51,14 @@ loaded_value loaded = record {
 abbrev pub nothing_loaded : LoadedValue
 nothing_loaded = record { linked = []; unread = []; workspaces = [] }
 
--- with what was found in one more folder
+-- with the manifest of one more folder, if it has one
 abbrev pub with_found : (folder : List ℕ) → Found → LoadedValue → LoadedValue
 with_found folder Nothing loaded = loaded
 with_found folder Unread loaded = record loaded { unread = loaded.unread ++ (folder ∷ []) }
 with_found folder (Manifest manifest) loaded =
     record loaded { linked = loaded.linked ++ (record { folder = folder; manifest = view manifest } ∷ []) }
 
--- what was found in these folders, in their order, after what was loaded before
+-- the manifests of these folders, in their order, after those that were loaded before
 pub data AreReadAfter (Gives : (folder : List ℕ) → Result Found LoadError → Type 0)
     : (before : LoadedValue) → (folders : List (List ℕ)) → (after : LoadedValue) → Type 0 where
   no_folder : (loaded : LoadedValue) → AreReadAfter Gives loaded [] loaded

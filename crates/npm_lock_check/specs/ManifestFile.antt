@@ -40,7 +40,7 @@ abbrev pub IsNotOpened : (folder : List ℕ) → LoadError → Type 0
 IsNotOpened folder result =
     ((name : FolderName) × (string_bytes name.text ≡ folder) × (result ≡ Open name)) ⊎ (result ≡ Memory)
 
--- what is returned for a file that was not opened for this reason: nothing if it is not there
+-- the result for a file that was not opened for this reason: nothing if it is not there
 abbrev pub IsNoFile : (folder : List ℕ) → ErrorKind → Result Found LoadError → Type 0
 IsNoFile folder kind result = ((kind ≡ NotFound) × (result ≡ Ok Nothing))
     ⊎ ((kind ≢ NotFound) × (error : LoadError) × IsNotOpened folder error × (result ≡ Err error))

@@ -1,4 +1,4 @@
--- What the program reads, and what it writes for it.
+-- The check of one lock file.
 use Rattle.std.specs.Prelude.{◌≡◌, ◌≢◌, ◌⊎◌, ℕ, List, [], ◌∷◌, true, IsUtf8, Option, None, Some}
 use Rattle.std.specs.Prelude.{Result, option_and_then, option_map, string_bytes}
 use Rattle.std.specs.Option.{option_or}
@@ -11,6 +11,8 @@ use Rattle.npm_lock_faults.specs.FaultPlaces.{IsLockFaultPlace, fault_place_valu
 use Rattle.npm_lock_faults.specs.declared.fault_place.FaultPlace.{FaultPlace}
 use Rattle.npm_packages.specs.declared.fault.Fault.{Fault}
 use Rattle.npm_advisories.specs.Audit.{FoundValue}
+use Rattle.npm_advisories.specs.Faults.{fault_at}
+use Rattle.npm_advisories.specs.Ids.{IdValue}
 use Rattle.npm_advisories.specs.LockFaults.{IsFileFaultBeside}
 use Rattle.npm_advisories.specs.declared.fault.FaultKind.{FaultKind}
 use Rattle.npm_lock_check.specs.Linked.{LinkedValue, LoadedValue}
@@ -20,9 +22,10 @@ use Rattle.command_lines.specs.WatchedValue.{WatchedValue}
 use Rattle.npm_lock_check.specs.Report.{AreLoaded, IsNotLoaded, IsReportOf, WantedValue, has_packages, manifests_of}
 use Rattle.npm_lock_check.specs.Report.{checked_lock, placed}
 use Rattle.npm_lock_reports.specs.declared.folder_name.FolderName.{FolderName}
-use Rattle.npm_lock_check.specs.Written.{IsWritten}
+use Rattle.npm_lock_check.specs.Written.{IsOutput}
 use Rattle.npm_lock_check.specs.declared.linked.Loaded.{Loaded}
 use Rattle.npm_lock_check.specs.declared.list_name.ListName.{ListName}
+use Rattle.npm_lock_check.specs.declared.outputs.Output.{Output}
 use Rattle.npm_lock_reports.specs.declared.report.Report.{Report}
 use Rattle.npm_lock_check.specs.declared.run_error.LoadError.{LoadError}
 use Rattle.npm_lock_check.specs.declared.run_error.RunError.{RunError}
@@ -31,18 +34,17 @@ use Rattle.npm_lock_check.specs.declared.run_error.RunError.TheVariants.{NoLinke
 use Rattle.npm_lock_check.specs.declared.run_error.StopError.{StopError}
 use Rattle.npm_lock_check.specs.declared.run_error.StopError.TheVariants.{Advisories, Check, Load, Manifest}
 
--- a lock file was read, and the manifests of linked folders were loaded, and this is the report of all, and what is
--- written of it
+-- a lock file was read, and the manifests of linked folders were loaded, and these are the report and its output
 pub record IsReported {R : Type 0} (remaining : R → Option (List ℕ)) (old new : WatchedValue R)
     (Gives : Value → Result Loaded LoadError → Type 0) (wanted : WantedValue) (report : Report)
-    (found : List FoundValue) (text : List ℕ) : Type 0 where
+    (found : List FoundValue) (output : Output) : Type 0 where
   pub lock : Value
   pub lock_text : List ℕ
   pub loaded : LoadedValue
   pub input : IsInputText remaining old new lock_text (view lock)
   pub given : AreLoaded Gives lock wanted.manifest loaded
   pub report_of : IsReportOf (view lock) loaded wanted report found
-  pub written : IsWritten wanted lock_text report found text
+  pub written : IsOutput wanted lock_text report found output
 
 -- ---- why nothing was written
 
@@ -76,7 +78,7 @@ IsNoLockFile text placed manifest found =
 -- under this name
 abbrev pub AreNoAdvisories : (checked : Data) → (advisories : Option Data) → FaultKind → ListName → (place : ℕ) → Type 0
 AreNoAdvisories checked advisories kind name place = (file : Data) × (advisories ≡ Some file)
-    × IsFileFaultBeside checked file (Some (record { kind = kind; name = string_bytes name.text; place = place }))
+    × (id : Option IdValue) × IsFileFaultBeside checked file (Some (fault_at (string_bytes name.text) place id kind))
 
 -- Why no value was read, or memory ran out later: then all was read, and it is in UTF-8 and not empty.
 abbrev pub IsUnread : {R : Type 0} → (remaining : R → Option (List ℕ)) → (old new : WatchedValue R) → RunError → Type 0

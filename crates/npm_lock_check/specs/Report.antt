@@ -1,4 +1,4 @@
--- What is found out about a lock file.
+-- The report of a lock file.
 use Rattle.std.specs.Prelude.{◌≡◌, ◌&&◌, ℕ, List, [], ◌∷◌, ◌++◌, Bool, Option, Some, None, filter}
 use Rattle.std.specs.Prelude.{if◌then◌else◌}
 use Rattle.std.specs.Prelude.{codes, is_some, length, map, not, option_map}
@@ -33,9 +33,10 @@ use Rattle.npm_lock_check.specs.declared.linked.Loaded.{Loaded}
 use Rattle.npm_lock_check.specs.declared.run_error.LoadError.{LoadError}
 use Rattle.npm_lock_check.specs.declared.wanted.Wanted.{Wanted}
 
--- what a check is asked for: the manifest of the root, whether mismatches count for the status, the advisories, and the
--- least severity of those that count; the version of Node that each package is checked with, the kinds of problems that
--- are left out, whether dependencies that are not checked are listed, the format, and the path of the lock file
+-- The settings of a check: the manifest of the root, whether mismatches count for the status, the advisories, and the least
+-- severity of those that count; the version of Node that each package is checked with, the kinds of problems that are left
+-- out, whether dependencies that are not checked are listed, the format, the path of the lock file, and whether each line
+-- names it.
 pub record WantedValue : Type 0 where
   pub manifest : Option Data
   pub exact : Bool
@@ -46,6 +47,7 @@ pub record WantedValue : Type 0 where
   pub unchecked : Bool
   pub format : Format
   pub file : List ℕ
+  pub named : Bool
 
 -- what a contract sees of it
 abbrev pub wanted_value : Wanted → WantedValue
@@ -59,12 +61,12 @@ wanted_value wanted = record {
   unchecked = wanted.unchecked;
   format = wanted.format;
   file = wanted.file.now;
+  named = wanted.named;
 }
 
 -- ---- the manifests
 
--- the lock file has `packages`, as one of version 2 or 3 has; one of version 1 has none, and does not say what its root
--- asks for
+-- the lock file has `packages`, as one of version 2 or 3 has; one of version 1 has none, and no specs of its root
 abbrev pub has_packages : (lock : Data) → Bool
 has_packages lock = is_some (get (codes "packages") lock)
 

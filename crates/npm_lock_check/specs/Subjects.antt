@@ -38,26 +38,25 @@ input_of (Stops.Load error) = None
 
 -- ---- how it is named
 
--- the lock file: `"a.json": `, and `standard input: ` without a file and for `-`
-abbrev pub lock_words : (file : Option (List ℕ)) → List ℕ
-lock_words None = codes "standard input: "
-lock_words (Some file) = if bytes_eq file (codes "-") then codes "standard input: " else quoted file ++ codes ": "
+-- the lock file: `"a.json": `, and `standard input: ` for `-`
+abbrev pub lock_words : (file : List ℕ) → List ℕ
+lock_words file = if bytes_eq file (codes "-") then codes "standard input: " else quoted file ++ codes ": "
 
 -- the file after an option: `--manifest "package.json": `
 abbrev pub option_words : (option : List ℕ) → (file : Option (List ℕ)) → List ℕ
 option_words option None = []
 option_words option (Some file) = option ++ (quoted file ++ codes ": ")
 
--- the input, as these arguments name it
-abbrev pub input_words : ArgumentsValue → Option Source → List ℕ
-input_words asked None = []
-input_words asked (Some Sources.Lock) = lock_words asked.file
-input_words asked (Some Sources.Manifest) = option_words (codes "--manifest ") asked.manifest
-input_words asked (Some Sources.Advisories) = option_words (codes "--advisories ") asked.advisories
+-- the input, as these arguments name it, of a check of this lock file
+abbrev pub input_words : ArgumentsValue → (file : List ℕ) → Option Source → List ℕ
+input_words asked file None = []
+input_words asked file (Some Sources.Lock) = lock_words file
+input_words asked file (Some Sources.Manifest) = option_words (codes "--manifest ") asked.manifest
+input_words asked file (Some Sources.Advisories) = option_words (codes "--advisories ") asked.advisories
 
 -- what the line of an error begins with
-abbrev pub subject_of : ArgumentsValue → StopError → List ℕ
-subject_of asked error = input_words asked (input_of error)
+abbrev pub subject_of : ArgumentsValue → (file : List ℕ) → StopError → List ℕ
+subject_of asked file error = input_words asked file (input_of error)
 
 -- the name of a list of advisories, or the first installed package of one in OSV's form; it may be empty: `, of "lodash"`
 abbrev pub list_words : (name : List ℕ) → List ℕ

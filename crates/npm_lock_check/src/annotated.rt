@@ -20,13 +20,13 @@ pub struct Spot {
     pub column: usize,
 }
 
-/// Writes the annotation of an error that is about a file, if the format is that of GitHub. The error has its line on standard
+/// Writes the annotation of an error of the check of a lock file, if the error is about a file and the format is that of GitHub. The error has its line on standard
 /// error as well, so nothing more is done if this write fails.
-pub fn annotate(rt: &HostRuntime, asked: Arguments<'_>, error: &StopError) {
+pub fn annotate(rt: &HostRuntime, asked: Arguments<'_>, lock_file: &str, error: &StopError) {
     if asked.format != Some(Format::Annotations(AnnotationFormat::Github)) {
         return;
     }
-    if let Ok(line) = annotation_of(rt, asked, error) {
+    if let Ok(line) = annotation_of(rt, asked, lock_file, error) {
         match rt.stdout().write_all(line.as_slice()) {
             Ok(()) | Err(_) => {}
         }
@@ -37,6 +37,7 @@ pub fn annotate(rt: &HostRuntime, asked: Arguments<'_>, error: &StopError) {
 fn annotation_of(
     rt: &HostRuntime,
     asked: Arguments<'_>,
+    lock_file: &str,
     error: &StopError,
 ) -> Result<Vec<u8>, AllocError> {
     let alloc = rt.alloc();
@@ -44,7 +45,7 @@ fn annotation_of(
     let inside = path_inside(rt, asked, error)?;
     let file = match &inside {
         Some(path) => Some(path.as_str()),
-        None => file_of(asked, error),
+        None => file_of(asked, lock_file, error),
     };
     if let Some(file) = file {
         let spot = spot_of(error);
@@ -81,9 +82,9 @@ fn path_inside(
 }
 
 /// The file that the error is about, as the command line names it: `-` is standard input.
-fn file_of<'a>(asked: Arguments<'a>, error: &StopError) -> Option<&'a str> {
+fn file_of<'a>(asked: Arguments<'a>, lock_file: &'a str, error: &StopError) -> Option<&'a str> {
     match input_of(error)? {
-        Source::Lock => Some(asked.file.unwrap_or("-")),
+        Source::Lock => Some(lock_file),
         Source::Manifest => asked.manifest,
         Source::Advisories => asked.advisories,
     }

@@ -11,9 +11,12 @@ pub enum ArgumentError<'a> {
     /// An option that is not known.
     #[error("no such option: {0}; --help lists the options")]
     UnknownOption(Quoted<'a>),
-    /// A second word that is no option.
-    #[error("more than one FILE: {0} is the second; --help shows what is read")]
-    SecondFile(Quoted<'a>),
+    /// `-` is given twice.
+    #[error("standard input is read once, and - is given twice; --help shows what is read")]
+    SecondInput,
+    /// A manifest is given for several lock files.
+    #[error("--manifest goes with one FILE, and {0} is another; --help shows what is read")]
+    ManyFiles(Quoted<'a>),
     /// An option that has a value is the last word.
     #[error("{0} has no value; --help lists the options")]
     NoValue(Quoted<'a>),

@@ -1,7 +1,7 @@
-//! What the arguments of the program ask for.
+//! The arguments of the program.
 //!
 //! See docs/DECISIONS.md, "The arguments of `npm_lock_check` are read by hand".
-ghost use Rattle.std.specs.Prelude.{◌≡◌, length, map, string_bytes};
+ghost use Rattle.std.specs.Prelude.{◌≡◌, length, map, option_map, string_bytes};
 ghost use Rattle.command_lines.specs.Arguments.{argument_value};
 ghost use Rattle.npm_lock_check.specs.Arguments as ArgumentRules;
 ghost use Rattle.npm_lock_check.specs.Arguments.{arguments_of, asked_by, arguments_result, arguments_value};
@@ -21,7 +21,7 @@ pub enum Shown {
     Version,
 }
 
-/// What the arguments ask for.
+/// The arguments.
 #[derive(Clone, Copy, Drop)]
 pub struct Arguments<'a> {
     pub shown: Option<Shown>,
@@ -42,12 +42,17 @@ pub struct Arguments<'a> {
     pub advisories: Option<&'a str>,
     /// Advisories that are less severe are left out.
     pub level: Severity,
+    /// The first lock file.
     pub file: Option<&'a str>,
+    /// The last lock file, if there are several.
+    pub other: Option<&'a str>,
+    /// One of them is standard input.
+    pub input: bool,
 }
 
 /// The options that have a value.
 #[derive(Clone, Copy, Drop)]
-enum Setting {
+pub enum Setting {
     Node,
     Format,
     Ignore,
@@ -58,7 +63,7 @@ enum Setting {
 
 /// The options.
 #[derive(Clone, Copy, Drop)]
-enum Name {
+pub enum Name {
     Alone(Shown),
     Unchecked,
     Exact,
@@ -66,17 +71,30 @@ enum Name {
     Valued(Setting),
 }
 
-/// Returns what the words after the program's name ask for. Of two values of an option the last one counts.
+/// Returns the arguments that the words after the program's name are. Of two values of an option the last one counts.
 pub fn read_arguments<'a>(words: &'a [String]) -> Result<Arguments<'a>, ArgumentError<'a>>
     ensures { arguments_result result ≡ ArgumentRules.read_arguments (map string_bytes words.now) }
 {
     if MAX_WORDS < words.len() {
         return Err(ArgumentError::TooMany);
     }
-    asked_from(nothing_asked(), words)
+    if_fitting(asked_from(nothing_asked(), words)?)
 }
 
-/// What these words ask for, after others.
+/// Returns the arguments, unless a manifest is given for several lock files.
+fn if_fitting<'a>(asked: Arguments<'a>) -> Result<Arguments<'a>, ArgumentError<'a>>
+    ensures { arguments_result result ≡ ArgumentRules.if_fitting (arguments_value asked.entry) }
+{
+    if asked.manifest.is_none() {
+        return Ok(asked);
+    }
+    match asked.other {
+        Some(text) => Err(ArgumentError::ManyFiles(Quoted { text })),
+        None => Ok(asked),
+    }
+}
+
+/// Returns the arguments with those of these words.
 fn asked_from<'a>(
     asked: Arguments<'a>,
     words: &'a [String],
@@ -90,7 +108,7 @@ fn asked_from<'a>(
     }
 }
 
-/// What no argument asks for.
+/// Returns the arguments of no words.
 fn nothing_asked<'a>() -> Arguments<'a>
     ensures { arguments_value result ≡ ArgumentRules.nothing_asked }
 {
@@ -106,11 +124,13 @@ fn nothing_asked<'a>() -> Arguments<'a>
         advisories: None,
         level: Severity::Info,
         file: None,
+        other: None,
+        input: false,
     }
 }
 
 /// The options of this program.
-struct LockOptions;
+pub struct LockOptions;
 
 impl Options for LockOptions {
     ghost takes_value = { ArgumentRules.takes_value };
@@ -120,8 +140,8 @@ impl Options for LockOptions {
     }
 }
 
-/// The option that the word names.
-fn name_of(word: &str) -> Option<Name>
+/// Returns the option that the word names.
+pub fn name_of(word: &str) -> Option<Name>
     ensures { result ≡ ArgumentRules.name_of word.now }
 {
     if word == "--help" || word == "-h" {
@@ -160,7 +180,7 @@ fn input_name_of(word: &str) -> Option<Name>
     }
 }
 
-/// What is asked for with one more argument.
+/// Returns the arguments with one more.
 fn asked_with<'a>(
     asked: Arguments<'a>,
     argument: Argument<'a>,
@@ -195,7 +215,7 @@ fn asked_with<'a>(
     }
 }
 
-/// What is asked for with one more option that has a value.
+/// Returns the arguments with one more option that has a value.
 fn with_value<'a>(
     asked: Arguments<'a>,
     setting: Setting,
@@ -222,7 +242,7 @@ fn with_value<'a>(
     }
 }
 
-/// What is asked for with one more format.
+/// Returns the arguments with another format.
 fn with_format<'a>(asked: Arguments<'a>, text: &'a str) -> Result<Arguments<'a>, ArgumentError<'a>>
     ensures { arguments_result result ≡ ArgumentRules.with_format (arguments_value asked.entry) text.now }
 {
@@ -235,7 +255,7 @@ fn with_format<'a>(asked: Arguments<'a>, text: &'a str) -> Result<Arguments<'a>,
     }
 }
 
-/// What is asked for with one more kind that is left out.
+/// Returns the arguments with one more kind that is left out.
 fn with_ignored<'a>(asked: Arguments<'a>, text: &'a str) -> Result<Arguments<'a>, ArgumentError<'a>>
     ensures { arguments_result result ≡ ArgumentRules.with_ignored (arguments_value asked.entry) text.now }
 {
@@ -248,7 +268,7 @@ fn with_ignored<'a>(asked: Arguments<'a>, text: &'a str) -> Result<Arguments<'a>
     }
 }
 
-/// What is asked for with another least severity.
+/// Returns the arguments with another least severity.
 fn with_level<'a>(asked: Arguments<'a>, text: &'a str) -> Result<Arguments<'a>, ArgumentError<'a>>
     ensures { arguments_result result ≡ ArgumentRules.with_level (arguments_value asked.entry) text.now }
 {
@@ -275,18 +295,35 @@ fn format_of(text: &str) -> Option<Format>
     }
 }
 
-/// What is asked for with one more word that is no option: the file, of which there is one.
+/// Returns the arguments with one more word that is no option: a lock file.
 fn with_file<'a>(asked: Arguments<'a>, word: &'a str) -> Result<Arguments<'a>, ArgumentError<'a>>
     ensures { arguments_result result ≡ ArgumentRules.with_file (arguments_value asked.entry) word.now }
 {
     if word.starts_with("-") && word != "-" {
         Err(ArgumentError::UnknownOption(Quoted { text: word }))
-    } else if asked.file.is_some() {
-        Err(ArgumentError::SecondFile(Quoted { text: word }))
+    } else if asked.input && word == "-" {
+        Err(ArgumentError::SecondInput)
     } else {
-        Ok(Arguments {
+        Ok(with_next(asked, word))
+    }
+}
+
+/// Returns the arguments with one more lock file.
+fn with_next<'a>(asked: Arguments<'a>, word: &'a str) -> Arguments<'a>
+    ensures { arguments_value result ≡ ArgumentRules.with_next (option_map (λ word. word.now) asked.entry.file)
+        (arguments_value asked.entry) word.now }
+{
+    let input = asked.input || word == "-";
+    match asked.file {
+        None => Arguments {
             file: Some(word),
+            input,
             ..asked
-        })
+        },
+        Some(_) => Arguments {
+            other: Some(word),
+            input,
+            ..asked
+        },
     }
 }

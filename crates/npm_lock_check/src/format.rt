@@ -1,8 +1,8 @@
-//! How what is found is written.
+//! Formats.
 use npm_lock_annotations::AnnotationFormat;
 use npm_lock_reports::ReportFormat;
 
-/// How what is found is written.
+/// A format.
 #[derive(Clone, Copy, Debug, PartialEq, Eq, Drop)]
 pub enum Format {
     /// A line for each thing that is found.

@@ -10,9 +10,10 @@ pub const NUMBER: &str = "1.0.0";
 pub const HELP: &str = "\
 Checks the packages of a package-lock.json against what they depend on.
 
-Usage: npm_lock_check [OPTIONS] [FILE]
+Usage: npm_lock_check [OPTIONS] [FILE]..
 
 FILE is a package-lock.json. With no FILE, and if FILE is -, standard input is read.
+With several each line of the formats text and json names its FILE.
 
 Options, of which the value may also be in the same word, as in --node=20:
   --node VERSION     Also check engines.node of each package against this version of Node.
@@ -21,6 +22,7 @@ Options, of which the value may also be in the same word, as in --node=20:
   --manifest FILE    The package.json of the root: write where it and the lock file do not ask for the
                      same, and check the lock file for what the package.json asks for. The package.json
                      of each workspace, below the folder of FILE, is checked alike if it is there.
+                     Goes with one lock file.
                      Example: npm_lock_check --manifest package.json package-lock.json
   --exact            The exit status is also 1 if FILE and the lock file do not ask for the same. npm ci
                      installs such a lock file, if it has what FILE asks for.
@@ -37,7 +39,7 @@ Options, of which the value may also be in the same word, as in --node=20:
                      Example: npm_lock_check --unchecked package-lock.json
   --format FORMAT    text: write each problem as a sentence. json: write it as a JSON object.
                      github: write it as an annotation of GitHub Actions. sarif: write all of them as
-                     one SARIF 2.1.0 log. Both have the line and the column in FILE.
+                     one SARIF 2.1.0 log, of all lock files. Both have the line and the column in FILE.
                      The default is text if standard output is a terminal, and json if not.
                      Example: npm_lock_check --format text package-lock.json > problems.txt
   --ignore KIND      Leave out problems of this kind: group (package.json and the lock file do not ask
@@ -49,4 +51,5 @@ Options, of which the value may also be in the same word, as in --node=20:
                      Example: npm_lock_check --version
 
 The exit status is 0 if nothing was found, 1 if something was, and 2 if the file was not checked.
+With several it is the worst of all: each of the others is checked nevertheless.
 ";

@@ -18,7 +18,7 @@ use std::alloc::Global;
 pub fn hits_of<'f, 'v>(
     alloc: Global,
     lock: &'v Value,
-    wanted: Wanted<'f>,
+    wanted: Wanted<'f, '_>,
 ) -> Result<Vec<Found<'f, 'v>>, RunError>
     ensures found { IfOk result (λ found. AreHit (view lock.now) (wanted_value wanted.entry).advisories
         wanted.entry.level (map found_value found.items)) }

@@ -93,7 +93,7 @@ pub fn manifests_of<F: Fn(&str) -> Result<Found, LoadError>>(
     Ok(made)
 }
 
-/// Adds what was found in a folder.
+/// Adds the manifest of a folder, if it has one.
 fn add(alloc: Global, made: &mut Loaded, folder: &str, found: Found) -> Result<(), AllocError>
     ensures { OnOk result (loaded_value made.new ≡ with_found folder.now found (loaded_value made.old)) }
 {

@@ -1,7 +1,6 @@
-//! What the program reads, and what it writes for it.
-ghost use Rattle.std.specs.Prelude.{◌≡◌, ◌≢◌, List, ℕ, IfErr, IfOk, IsErrOf, IsSome, None, OnOk, filter, map, not, option_map};
+//! The check of one lock file.
+ghost use Rattle.std.specs.Prelude.{◌≡◌, List, ℕ, IfErr, IfOk, None, OnOk, filter, map, not, option_map};
 ghost use Rattle.std.specs.Fn.{FnOnceReturnsAt};
-ghost use Rattle.std.specs.Io.KnownBytes.{Appends};
 ghost use Rattle.serde_json.specs.View.{view};
 ghost use Rattle.npm_packages.specs.Faults.{lock_fault};
 ghost use Rattle.npm_lock.specs.Findings.{IsChecked};
@@ -9,9 +8,8 @@ ghost use Rattle.npm_lock_version_one.specs.VersionOne.{any_fault, converted};
 ghost use Rattle.npm_advisories.specs.Audit.{FoundValue};
 ghost use Rattle.npm_lock_check.specs.Kinds.{has};
 ghost use Rattle.npm_lock_check.specs.Linked.{loaded_value, workspace_value};
-ghost use Rattle.npm_lock_reports.specs.declared.report.Report.{Report};
 ghost use Rattle.npm_lock_check.specs.Output.{IsReported, IsStopped};
-ghost use Rattle.npm_lock_check.specs.Written.{IsWritten};
+ghost use Rattle.npm_lock_check.specs.Written.{IsOutput};
 ghost use Rattle.npm_lock_check.specs.Private.Refusals.{IsCheckRefused, IsLockRefused, IsRefused};
 ghost use Rattle.npm_lock_check.specs.Report.{AreLeft, IsReportOf, manifests_of, placed};
 ghost use Rattle.npm_lock_check.specs.Report.{wanted_value};
@@ -19,11 +17,12 @@ ghost use Rattle.npm_lock_check.specs.Report.{wanted_value};
 use crate::hits::hits_of;
 use crate::kinds::Kinds;
 use crate::linked::{Loaded, Workspace, load_compared};
+use crate::outputs::Output;
 use crate::run_error::{LoadError, RunError, StopError};
 use crate::sync::{compare, is_compared};
 use crate::wanted::Wanted;
 use crate::workspaces::add_workspaces;
-use crate::written::written;
+use crate::written::output_of;
 use command_lines::{Watched, read_json_with_text};
 use npm_lock::{CheckError, Problem, Problems, check};
 use npm_lock_faults::{FaultPlace, lock_fault_place};
@@ -31,38 +30,25 @@ use npm_lock_reports::Report;
 use npm_lock_version_one::convert;
 use serde_json::Value;
 use std::alloc::Global;
-use std::io::{Read, Write};
+use std::io::Read;
 
-/// Reads a lock file to the end, and writes what is found out about it, a line each: the mismatches of the manifests, the
-/// problems but those of ignored kinds, the packages that an advisory hits, and the dependencies that are not checked if they
-/// are asked for. Returns what was written, with the counts of all.
+/// Reads a lock file to the end, and returns its report and its output: the mismatches of the manifests, the problems but those of
+/// ignored kinds, the packages that an advisory hits, and the dependencies that are not checked if they are listed.
 ///
 /// `load` is called with the lock file if that is compared with a manifest, and not otherwise. It returns the manifests of
 /// workspaces and of other packages that links name, and the folders of those that are not read.
-///
-/// # Errors
-///
-/// Nothing was written, but after `Write`: then a beginning of the lines was.
-pub fn run<R: Read, W: Write, F: FnOnce(&Value) -> Result<Loaded, LoadError>>(
+pub fn checked_in<'f, R: Read, F: FnOnce(&Value) -> Result<Loaded, LoadError>>(
     alloc: Global,
     reader: &mut Watched<R>,
-    writer: &mut Watched<W>,
-    wanted: Wanted<'_>,
+    wanted: Wanted<'_, 'f>,
     load: F,
-) -> Result<Report, StopError>
+) -> Result<(Report, Output<'f>), StopError>
     requires { F.IsAlwaysCallable load }
-    ensures written { IfOk result (λ report. (found : List FoundValue) × (text : List ℕ)
+    ensures found { IfOk result (λ made. (found : List FoundValue)
         × IsReported R.remaining reader.old reader.new (FnOnceReturnsAt F.FnOnce load) (wanted_value wanted.entry)
-        report found text
-        × Appends (W.contents writer.old.inner) (W.contents writer.new.inner) text) }
-    ensures refused { IfErr result (λ error. error ≢ StopError.Check RunError.Write
-        → IsStopped R.remaining (FnOnceReturnsAt F.FnOnce load) (wanted_value wanted.entry) reader.old reader.new
-        error) }
-    ensures unwritten { IfErr result (λ error. error ≢ StopError.Check RunError.Write → writer.new ≡ writer.old) }
-    ensures write { IsErrOf result (StopError.Check RunError.Write) → IsSome writer.new.failure
-        × ((report : Report) × (found : List FoundValue) × (text : List ℕ)
-        × IsReported R.remaining reader.old reader.new (FnOnceReturnsAt F.FnOnce load) (wanted_value wanted.entry)
-        report found text) }
+        made.0 found made.1) }
+    ensures refused { IfErr result (λ error. IsStopped R.remaining (FnOnceReturnsAt F.FnOnce load)
+        (wanted_value wanted.entry) reader.old reader.new error) }
 {
     let (lock, text) = match read_json_with_text(alloc, reader) {
         Ok(read) => read,
@@ -72,27 +58,23 @@ pub fn run<R: Read, W: Write, F: FnOnce(&Value) -> Result<Loaded, LoadError>>(
         Ok(loaded) => loaded,
         Err(error) => return Err(StopError::Load(error)),
     };
-    let (report, lines) = match report_of(alloc, lock, text.as_str(), loaded, wanted) {
-        Ok(made) => made,
-        Err(error) => return Err(StopError::Check(error)),
-    };
-    match writer.write_all(lines.as_slice()) {
-        Ok(()) => Ok(report),
-        Err(_) => Err(StopError::Check(RunError::Write)),
+    match report_of(alloc, lock, text.as_str(), loaded, wanted) {
+        Ok(made) => Ok(made),
+        Err(error) => Err(StopError::Check(error)),
     }
 }
 
-/// The report of a lock file, and what is written of it.
-fn report_of(
+/// Returns the report of a lock file, and its output.
+fn report_of<'f>(
     alloc: Global,
     lock: Value,
     text: &str,
     loaded: Loaded,
-    wanted: Wanted<'_>,
-) -> Result<(Report, Vec<u8>), RunError>
+    wanted: Wanted<'_, 'f>,
+) -> Result<(Report, Output<'f>), RunError>
     ensures found { IfOk result (λ made. (found : List FoundValue)
         × IsReportOf (view lock) (loaded_value loaded) (wanted_value wanted.entry) made.0 found
-        × IsWritten (wanted_value wanted.entry) text.now made.0 found made.1.items) }
+        × IsOutput (wanted_value wanted.entry) text.now made.0 found made.1) }
     ensures refused { IfErr result (IsRefused text.now (view lock) (placed (view lock)
         (manifests_of (wanted_value wanted.entry).manifest (loaded_value loaded).linked))
         (loaded_value loaded).linked (wanted_value wanted.entry)) }
@@ -122,8 +104,8 @@ fn report_of(
         hits: found.len(),
         listed: wanted.unchecked,
     };
-    match written(alloc, text, &report, &found, wanted) {
-        Ok(lines) => Ok((report, lines)),
+    match output_of(alloc, text, &report, &found, wanted) {
+        Ok(output) => Ok((report, output)),
         Err(_) => Err(RunError::Memory),
     }
 }
@@ -167,7 +149,7 @@ fn problems_of(
     alloc: Global,
     lock: &Value,
     workspaces: &[Workspace],
-    wanted: Wanted<'_>,
+    wanted: Wanted<'_, '_>,
 ) -> Result<Problems, RunError>
     ensures found { IfOk result (AreLeft (view lock.now) (map workspace_value workspaces.now)
         (wanted_value wanted.entry)) }
@@ -188,7 +170,7 @@ fn problems_left(
     all: Problems,
     lock: &Value,
     workspaces: &[Workspace],
-    wanted: Wanted<'_>,
+    wanted: Wanted<'_, '_>,
 ) -> Result<Problems, RunError>
     requires { IsChecked (view lock.now) (wanted_value wanted).node all }
     ensures found { IfOk result (AreLeft (view lock.now) (map workspace_value workspaces.now)

@@ -11,7 +11,7 @@ pub enum ProgramError<'a> {
     /// The arguments were not read.
     #[error("{0}")]
     Words(&'a WordsError),
-    /// The arguments ask for nothing that is done here.
+    /// The arguments have an error.
     #[error("{0}")]
     Argument(ArgumentError<'a>),
     /// Something went wrong, with this input if it is about one.

@@ -53,7 +53,7 @@ pub enum LoadError {
 /// Why the program stopped.
 #[derive(Debug, PartialEq, Eq, Drop, Error)]
 pub enum StopError {
-    /// An argument, or the lock file, or what is written.
+    /// An argument or the lock file has an error, or a write failed.
     #[error("{0}")]
     Check(RunError),
     /// The file after `--manifest` was not read.

@@ -1,5 +1,5 @@
 //! The input that an error is about.
-ghost use Rattle.std.specs.Prelude.{◌≡◌, Some, option_map};
+ghost use Rattle.std.specs.Prelude.{◌≡◌, Some};
 ghost use Rattle.npm_lock_check.specs.Arguments.{arguments_value};
 ghost use Rattle.npm_lock_check.specs.Subjects as Subjects;
 ghost use Rattle.npm_lock_check.specs.Subjects.{subject_words};
@@ -45,13 +45,13 @@ impl<'a> fmt::Display for Subject<'a> {
     }
 }
 
-/// Returns what the line of this error begins with.
-pub fn subject_of<'a>(asked: Arguments<'a>, error: &StopError) -> Subject<'a>
-    ensures { subject_words result ≡ Subjects.subject_of (arguments_value asked.entry) error.now }
+/// Returns what the line of this error begins with, if it is about a check of this lock file.
+pub fn subject_of<'a>(asked: Arguments<'a>, file: &'a str, error: &StopError) -> Subject<'a>
+    ensures { subject_words result ≡ Subjects.subject_of (arguments_value asked.entry) file.now error.now }
 {
     match input_of(error) {
         None => Subject::Nothing,
-        Some(Source::Lock) => lock_file(asked.file),
+        Some(Source::Lock) => lock_subject(file),
         Some(Source::Manifest) => match asked.manifest {
             Some(text) => Subject::Manifest(Quoted { text }),
             None => Subject::Nothing,
@@ -63,13 +63,14 @@ pub fn subject_of<'a>(asked: Arguments<'a>, error: &StopError) -> Subject<'a>
     }
 }
 
-/// The lock file.
-fn lock_file<'a>(file: Option<&'a str>) -> Subject<'a>
-    ensures { subject_words result ≡ Subjects.lock_words (option_map (λ text. text.now) file.entry) }
+/// Returns a lock file as what a line begins with.
+pub fn lock_subject<'a>(file: &'a str) -> Subject<'a>
+    ensures { subject_words result ≡ Subjects.lock_words file.now }
 {
-    match file {
-        Some(text) if text != "-" => Subject::File(Quoted { text }),
-        _ => Subject::StandardInput,
+    if file == "-" {
+        Subject::StandardInput
+    } else {
+        Subject::File(Quoted { text: file })
     }
 }
 

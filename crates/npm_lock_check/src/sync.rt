@@ -36,7 +36,7 @@ pub fn compare(
     alloc: Global,
     lock: &mut Value,
     linked: Vec<Linked>,
-    wanted: Wanted<'_>,
+    wanted: Wanted<'_, '_>,
 ) -> Result<Vec<Mismatch>, RunError>
     ensures placed { OnOk result (view lock.new ≡ placed (view lock.old)
         (manifests_of (wanted_value wanted.entry).manifest (map linked_value linked.items))) }

@@ -1,13 +1,13 @@
-//! What a check is asked for.
+//! The settings of a check.
 use crate::format::Format;
 use crate::kinds::Kinds;
 use node_semver::Version;
 use npm_advisories::Severity;
 use serde_json::Value;
 
-/// What a check is asked for.
+/// The settings of a check.
 #[derive(Clone, Copy, Drop)]
-pub struct Wanted<'a> {
+pub struct Wanted<'a, 'f> {
     /// The manifest of the root.
     pub manifest: Option<&'a Value>,
     /// Mismatches count for the status.
@@ -24,5 +24,7 @@ pub struct Wanted<'a> {
     pub unchecked: bool,
     pub format: Format,
     /// The path of the lock file, as findings name it.
-    pub file: &'a str,
+    pub file: &'f str,
+    /// Each line names the lock file.
+    pub named: bool,
 }

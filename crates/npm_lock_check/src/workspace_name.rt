@@ -7,7 +7,7 @@ ghost use Rattle.npm_lock_check.specs.WorkspaceName.{above_part, last_part, work
 use serde_json::Value;
 use std::alloc::{AllocError, Global};
 
-/// Returns the name of the workspace with this manifest, at this path: that of the manifest, or else that of the folder.
+/// Returns the name of the workspace with this manifest, at this path: the manifest's, or else the folder's.
 pub fn name_of(alloc: Global, manifest: &Value, path: &str) -> Result<String, AllocError>
     ensures { IfOk result (λ name. string_bytes name ≡ workspace_name (view manifest.now) path.now) }
 {

@@ -17,7 +17,7 @@ use serde_json::Value;
 use std::alloc::{AllocError, Global};
 use std::fs;
 
-/// Adds the workspaces that are found on disk to what was loaded. `outer` is the folder of the root's manifest.
+/// Adds the workspaces that are found on disk. `outer` is the folder of the root's manifest.
 ///
 /// # Errors
 ///

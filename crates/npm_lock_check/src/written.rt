@@ -1,50 +1,64 @@
-//! What is written about a lock file.
-ghost use Rattle.std.specs.Prelude.{IfOk, map};
+//! The output for one lock file.
+ghost use Rattle.std.specs.Prelude.{◌≡◌, IfOk, map, option_map};
 ghost use Rattle.npm_advisories.specs.Audit.{found_value};
 ghost use Rattle.npm_lock_check.specs.Report.{wanted_value};
-ghost use Rattle.npm_lock_check.specs.Written.{IsWritten, IsWrittenAs};
-ghost use Rattle.npm_lock_check.specs.declared.format.Format.TheVariants.{Annotations};
+ghost use Rattle.npm_lock_check.specs.Written.{IsOutput, style_of};
+ghost use Rattle.npm_lock_reports.specs.Report.{IsReportText};
+ghost use Rattle.npm_lock_reports.specs.declared.format.ReportFormat.TheVariants.{Json};
 
 use crate::format::Format;
-use crate::help::NUMBER;
+use crate::outputs::Output;
 use crate::wanted::Wanted;
 use npm_advisories::Found;
-use npm_lock_annotations::{AnnotationFormat, findings_of, push_findings};
-use npm_lock_reports::{Report, lines_of};
+use npm_lock_annotations::findings_of;
+use npm_lock_reports::{LineStyle, Report, ReportFormat, lines_of};
 use std::alloc::{AllocError, Global};
 
-/// Returns what is written of a report and of the packages that are hit. `text` is the text of the lock file, and counts only for a
-/// format with places.
-pub fn written(
+/// Returns the lines or the findings of a report and of the packages that are hit. `text` is the text of the lock file, and counts only
+/// for a format with places.
+pub fn output_of<'f>(
     alloc: Global,
     text: &str,
     report: &Report,
     found: &[Found<'_, '_>],
-    wanted: Wanted<'_>,
-) -> Result<Vec<u8>, AllocError>
-    ensures { IfOk result (λ lines. IsWritten (wanted_value wanted.entry) text.now report.now
-        (map found_value found.now) lines.items) }
+    wanted: Wanted<'_, 'f>,
+) -> Result<Output<'f>, AllocError>
+    ensures { IfOk result (IsOutput (wanted_value wanted.entry) text.now report.now (map found_value found.now)) }
 {
     match wanted.format {
-        Format::Report(format) => lines_of(alloc, report, found, format),
-        Format::Annotations(format) => annotated(alloc, text, report, found, wanted.file, format),
+        Format::Report(format) => Ok(Output {
+            lines: lines_in(alloc, report, found, format, wanted)?,
+            findings: Vec::new(alloc),
+        }),
+        Format::Annotations(_) => Ok(Output {
+            lines: Vec::new(alloc),
+            findings: findings_of(alloc, text, wanted.file, report, found)?,
+        }),
     }
 }
 
-/// The findings of a report.
-fn annotated(
+/// Returns the lines of a report.
+fn lines_in(
     alloc: Global,
-    text: &str,
     report: &Report,
     found: &[Found<'_, '_>],
-    file: &str,
-    format: AnnotationFormat,
+    format: ReportFormat,
+    wanted: Wanted<'_, '_>,
 ) -> Result<Vec<u8>, AllocError>
-    ensures { IfOk result (λ lines. IsWrittenAs (Annotations format) file.now text.now report.now
+    ensures { IfOk result (λ lines. IsReportText (style_of format (wanted_value wanted.entry)) report.now
         (map found_value found.now) lines.items) }
 {
-    let findings = findings_of(alloc, text, file, report, found)?;
-    let mut lines = Vec::new(alloc);
-    push_findings(&mut lines, format, NUMBER, &findings)?;
-    Ok(lines)
+    let file = named_file(wanted);
+    lines_of(alloc, report, found, LineStyle { format, file })
+}
+
+/// Returns the path of the lock file, if each line names it.
+fn named_file<'f>(wanted: Wanted<'_, 'f>) -> Option<&'f str>
+    ensures { option_map (λ file. file.now) result ≡ (style_of Json (wanted_value wanted.entry)).file }
+{
+    if wanted.named {
+        Some(wanted.file)
+    } else {
+        None
+    }
 }

@@ -1,15 +1,21 @@
 -- Lines, one more at a time.
 use Rattle.std.proofs.Common.{◌≡◌, ◌∙◌, ℕ, ◌+◌, ◌<◌, List, [], ◌∷◌, ◌++◌, length, get_or, drop, map, refl, sym, ap}
-use Rattle.std.proofs.Common.{false, Option, Some, None, append_assoc, codes}
+use Rattle.std.proofs.Common.{◌||◌, Bool, true, false, Option, Some, None, Result, Ok, Err, OnOk, append_assoc, codes}
 use Rattle.std.proofs.lemmas.List.{drop_more}
+use Rattle.std.specs.Cmp.Lexicographic.{slice_cmp}
+use Rattle.std.specs.Ordering.{match_ordering, nat_cmp}
+use Rattle.std.specs.declared.cmp.Ordering.{Ordering}
+use Rattle.std.specs.declared.cmp.Ordering.TheVariants.{Equal, Greater, Less}
+use Rattle.std.specs.Prelude.{⊤}
 use Rattle.serde_json.proofs.OnLiterals.{serde_json_on_literals}
-use Rattle.serde_json.specs.Data.{no_members, put, string}
-use Rattle.serde_json.specs.Written.{has_float, members_have_float}
+use Rattle.serde_json.specs.Data.{Data, Members, array, boolean, member, no_members, null, number, object, put, string}
+use Rattle.serde_json.specs.Written.{compact_text, has_float, members_have_float}
 use Rattle.npm_manifests.specs.MismatchJson.{mismatch_data}
 use Rattle.npm_manifests.specs.Mismatches.{MismatchValue}
 use Rattle.npm_lock.specs.Outcomes.{ProblemValue, UncheckedValue}
 use Rattle.npm_lock.specs.ProblemJson.{problem_data, reason_text, unchecked_data, with_text}
-use Rattle.npm_lock_reports.specs.Report.{AreLines, lines, one_more}
+use Rattle.npm_lock_reports.specs.Report.{AreLines, IsJsonLine, lines, one_more}
+use Rattle.npm_lock_reports.specs.Style.{with_file}
 use Rattle.npm_lock_reports.specs.Unread.{unread_data}
 
 last_members : (to version : Option (List ℕ))
@@ -91,3 +97,45 @@ no_float_mismatch mismatch = locked_members mismatch.locked mismatch.spec mismat
 pub no_float_unread : (folder : List ℕ) → has_float (unread_data folder) ≡ false
 unfolding serde_json_on_literals
 no_float_unread folder = refl
+
+-- ---- lines that name the lock file
+
+or_false : (a b : Bool) → (a || b) ≡ false → (a ≡ false) × (b ≡ false)
+or_false false false none = (refl, refl)
+or_false false true none = cc none
+or_false true b none = cc none
+
+in_order : (order : Ordering) (name other : List ℕ) (value here : Data) (later : Members) → has_float value ≡ false
+    → has_float here ≡ false → members_have_float later ≡ false → members_have_float (put name value later) ≡ false
+    → members_have_float (match_ordering order (member name value (member other here later)) (member other value later)
+    (member other here (put name value later))) ≡ false
+in_order Less name other value here later of_value of_here of_later of_rest = rw (of_value, of_here, of_later) refl
+in_order Equal name other value here later of_value of_here of_later of_rest = rw (of_value, of_later) refl
+in_order Greater name other value here later of_value of_here of_later of_rest = rw (of_here, of_rest) refl
+
+-- a member without a float is put into an object without one
+put_member : (name : List ℕ) (value : Data) (members : Members) → has_float value ≡ false
+    → members_have_float members ≡ false → members_have_float (put name value members) ≡ false
+put_member name value no_members of_value of_members = rw of_value refl
+put_member name value (member other here later) of_value of_members =
+    let both = or_false (has_float here) (members_have_float later) of_members in
+    in_order (slice_cmp nat_cmp name other) name other value here later of_value both.0 both.1
+    (put_member name value later of_value both.1)
+
+with_path : (file : Option (List ℕ)) (value : Data) → has_float value ≡ false → has_float (with_file file value) ≡ false
+with_path None value none = none
+with_path (Some file) (object members) none = put_member (codes "file") (string file) members refl none
+with_path (Some file) null none = none
+with_path (Some file) (boolean b) none = none
+with_path (Some file) (number n) none = none
+with_path (Some file) (string s) none = none
+with_path (Some file) (array items) none = none
+
+-- the line of an object without a number
+pub compact_line : {E : Type 0} (file : Option (List ℕ)) (value : Data) (result : Result ⊤ E) (old new : List ℕ)
+    → has_float value ≡ false
+    → OnOk result ((text : List ℕ) × IsJsonLine (with_file file value) text × (new ≡ old ++ text))
+    → OnOk result (new ≡ old ++ compact_text (with_file file value))
+compact_line file value (Ok done) old new none made =
+    made.2 ∙ ap (λ text. old ++ text) (made.1.compact (with_path file value none))
+compact_line file value (Err error) old new none made = tt

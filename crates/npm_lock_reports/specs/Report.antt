@@ -1,5 +1,5 @@
 -- The report of a lock file, and its lines.
-use Rattle.std.specs.Prelude.{◌≡◌, ◌≤◌, ℕ, List, [], ◌∷◌, ◌++◌, false, if◌then◌else◌, Some, map, string_bytes, true}
+use Rattle.std.specs.Prelude.{◌≡◌, ◌≤◌, ℕ, List, [], ◌∷◌, ◌++◌, false, if◌then◌else◌, Option, Some, map, string_bytes, true}
 use Rattle.serde_json.specs.Data.{Data, depth}
 use Rattle.serde_json.specs.Read.{max_depth, read}
 use Rattle.serde_json.specs.Written.{compact_text, has_float}
@@ -11,6 +11,7 @@ use Rattle.npm_advisories.specs.Audit.{FoundValue}
 use Rattle.npm_advisories.specs.FoundJson.{found_data}
 use Rattle.npm_lock_reports.specs.HitSentence.{hit_sentence}
 use Rattle.npm_lock_sentences.specs.Sentence.{mismatch_sentence, sentence, unchecked_sentence}
+use Rattle.npm_lock_reports.specs.Style.{StyleValue, in_file, with_file}
 use Rattle.npm_lock_reports.specs.Unread.{unread_data, unread_sentence}
 use Rattle.npm_lock_reports.specs.declared.folder_name.FolderName.{FolderName}
 use Rattle.npm_lock_reports.specs.declared.format.ReportFormat.{ReportFormat}
@@ -30,25 +31,27 @@ pub record IsClean (report : Report) : Type 0 where
 
 -- ---- the lines
 
--- the line of a mismatch: its sentence, or its JSON object without spaces
-abbrev pub mismatch_text : ReportFormat → MismatchValue → List ℕ
-mismatch_text Text mismatch = mismatch_sentence mismatch
-mismatch_text Json mismatch = compact_text (mismatch_data mismatch)
+-- a line: the sentence, or the JSON object without spaces, and both with the lock file if the line names it
+abbrev pub line_as : ReportFormat → (file : Option (List ℕ)) → (sentence : List ℕ) → (object : Data) → List ℕ
+line_as Text file sentence value = in_file file sentence
+line_as Json file sentence value = compact_text (with_file file value)
+
+-- the line of a mismatch
+abbrev pub mismatch_text : StyleValue → MismatchValue → List ℕ
+mismatch_text style mismatch = line_as style.format style.file (mismatch_sentence mismatch) (mismatch_data mismatch)
 
 -- the line of a problem
-abbrev pub line_text : ReportFormat → ProblemValue → List ℕ
-line_text Text problem = sentence problem
-line_text Json problem = compact_text (problem_data problem)
+abbrev pub line_text : StyleValue → ProblemValue → List ℕ
+line_text style problem = line_as style.format style.file (sentence problem) (problem_data problem)
 
 -- the line of a dependency that is not checked
-abbrev pub unchecked_text : ReportFormat → UncheckedValue → List ℕ
-unchecked_text Text unchecked = unchecked_sentence unchecked
-unchecked_text Json unchecked = compact_text (unchecked_data unchecked)
+abbrev pub unchecked_text : StyleValue → UncheckedValue → List ℕ
+unchecked_text style unchecked =
+    line_as style.format style.file (unchecked_sentence unchecked) (unchecked_data unchecked)
 
 -- the line of a manifest that was not read
-abbrev pub unread_text : ReportFormat → (folder : List ℕ) → List ℕ
-unread_text Text folder = unread_sentence folder
-unread_text Json folder = compact_text (unread_data folder)
+abbrev pub unread_text : StyleValue → (folder : List ℕ) → List ℕ
+unread_text style folder = line_as style.format style.file (unread_sentence folder) (unread_data folder)
 
 -- The line of a package that is hit. An advisory may have a number with a fraction as its `id`: then the JSON text is
 -- not fixed here, but it reads back as the object.
@@ -56,9 +59,12 @@ pub record IsJsonLine (value : Data) (line : List ℕ) : Type 0 where
   pub compact : has_float value ≡ false → line ≡ compact_text value
   pub reads : depth value ≤ max_depth → read line ≡ Some value
 
-abbrev pub IsHitLine : ReportFormat → FoundValue → (line : List ℕ) → Type 0
-IsHitLine Text found line = line ≡ hit_sentence found
-IsHitLine Json found line = IsJsonLine (found_data found) line
+abbrev pub IsHitLineAs : ReportFormat → (file : Option (List ℕ)) → FoundValue → (line : List ℕ) → Type 0
+IsHitLineAs Text file found line = line ≡ in_file file (hit_sentence found)
+IsHitLineAs Json file found line = IsJsonLine (with_file file (found_data found)) line
+
+abbrev pub IsHitLine : StyleValue → FoundValue → (line : List ℕ) → Type 0
+IsHitLine style found line = IsHitLineAs style.format style.file found line
 
 -- a line for each of these, and a newline byte after it
 abbrev pub lines : {V : Type 0} → (line : V → List ℕ) → List V → List ℕ
@@ -73,14 +79,14 @@ pub data AreLines {V : Type 0} (IsLine : V → List ℕ → Type 0) : List V →
 
 -- The whole text: a line for each mismatch, for each problem, for each package that is hit and, if they are listed,
 -- for each dependency that is not checked, and for each manifest that was not read.
-abbrev pub report_text : ReportFormat → Report → (hit_lines : List ℕ) → List ℕ
-report_text format report hit_lines = lines (mismatch_text format) (map mismatch_value report.mismatches.items)
-    ++ (lines (line_text format) (map problem_value report.problems.list.items)
+abbrev pub report_text : StyleValue → Report → (hit_lines : List ℕ) → List ℕ
+report_text style report hit_lines = lines (mismatch_text style) (map mismatch_value report.mismatches.items)
+    ++ (lines (line_text style) (map problem_value report.problems.list.items)
     ++ (hit_lines ++ (if report.listed
-    then lines (unchecked_text format) (map unchecked_value report.problems.unchecked.items)
-    ++ lines (unread_text format) (map folder_text report.unread.items) else [])))
+    then lines (unchecked_text style) (map unchecked_value report.problems.unchecked.items)
+    ++ lines (unread_text style) (map folder_text report.unread.items) else [])))
 
 -- the text of a report, with the lines of the packages that are hit
-abbrev pub IsReportText : ReportFormat → Report → List FoundValue → (text : List ℕ) → Type 0
-IsReportText format report found text = (hit_lines : List ℕ) × AreLines (IsHitLine format) found hit_lines
-    × (text ≡ report_text format report hit_lines)
+abbrev pub IsReportText : StyleValue → Report → List FoundValue → (text : List ℕ) → Type 0
+IsReportText style report found text = (hit_lines : List ℕ) × AreLines (IsHitLine style) found hit_lines
+    × (text ≡ report_text style report hit_lines)

@@ -1,7 +1,7 @@
 //! The report of a lock file, and its lines.
 //!
 //! [`Report`] has the mismatches and the problems, and prints their counts. [`lines_of`] writes a line for each, in a
-//! [`ReportFormat`]: a sentence, or a JSON object.
+//! [`LineStyle`]: a sentence, or a JSON object, and either with the lock file or without.
 #![tactic(auto)]
 
 mod folder_name;
@@ -9,6 +9,7 @@ mod format;
 mod hit_sentence;
 mod lines;
 mod report;
+mod style;
 mod unread;
 
 pub use folder_name::FolderName;
@@ -16,4 +17,5 @@ pub use format::ReportFormat;
 pub use hit_sentence::push_hit_sentence;
 pub use lines::lines_of;
 pub use report::Report;
+pub use style::LineStyle;
 pub use unread::{push_unread_sentence, unread_json};

@@ -6,17 +6,18 @@ ghost use Rattle.npm_lock.specs.Outcomes.{problem_value, unchecked_value};
 ghost use Rattle.npm_lock_reports.specs.Report as Reports;
 ghost use Rattle.npm_lock_reports.specs.Report.{AreLines, IsHitLine, IsReportText, folder_text, line_text, mismatch_text};
 ghost use Rattle.npm_lock_reports.specs.Report.{unchecked_text, unread_text};
+ghost use Rattle.npm_lock_reports.specs.Style.{style_value};
 
 use crate::folder_name::FolderName;
 use crate::format::ReportFormat;
 use crate::hit_sentence::push_hit_sentence;
 use crate::report::Report;
+use crate::style::{LineStyle, push_file, push_object};
 use crate::unread::{push_unread_sentence, unread_json};
 use npm_advisories::Found;
 use npm_lock::{Problem, Unchecked};
 use npm_lock_sentences::{push_mismatch_sentence, push_sentence, push_unchecked_sentence};
 use npm_manifests::Mismatch;
-use serde_json::Value;
 use std::alloc::{AllocError, Global};
 
 /// Returns the lines of a report, and of the packages that are hit: of the mismatches, of the problems, of the packages, and if
@@ -33,17 +34,17 @@ pub fn lines_of(
     alloc: Global,
     report: &Report,
     found: &[Found<'_, '_>],
-    format: ReportFormat,
+    style: LineStyle<'_>,
 ) -> Result<Vec<u8>, AllocError>
-    ensures { IfOk result (λ text. IsReportText format report.now (map found_value found.now) text.items) }
+    ensures { IfOk result (λ text. IsReportText (style_value style.entry) report.now (map found_value found.now) text.items) }
 {
     let mut lines = Vec::new(alloc);
-    push_mismatches(alloc, &mut lines, &report.mismatches, format)?;
-    push_problems(alloc, &mut lines, &report.problems.list, format)?;
-    push_hits(alloc, &mut lines, found, format)?;
+    push_mismatches(alloc, &mut lines, &report.mismatches, style)?;
+    push_problems(alloc, &mut lines, &report.problems.list, style)?;
+    push_hits(alloc, &mut lines, found, style)?;
     if report.listed {
-        push_all_unchecked(alloc, &mut lines, &report.problems.unchecked, format)?;
-        push_all_unread(alloc, &mut lines, &report.unread, format)?;
+        push_all_unchecked(alloc, &mut lines, &report.problems.unchecked, style)?;
+        push_all_unread(alloc, &mut lines, &report.unread, style)?;
     }
     Ok(lines)
 }
@@ -53,13 +54,13 @@ fn push_mismatches(
     alloc: Global,
     lines: &mut Vec<u8>,
     mismatches: &[Mismatch],
-    format: ReportFormat,
+    style: LineStyle<'_>,
 ) -> Result<(), AllocError>
     ensures { OnOk result (lines.new.items
-        ≡ lines.old.items ++ Reports.lines (mismatch_text format) (map mismatch_value mismatches.now)) }
+        ≡ lines.old.items ++ Reports.lines (mismatch_text (style_value style.entry)) (map mismatch_value mismatches.now)) }
 {
     for mismatch in mismatches {
-        push_mismatch(alloc, lines, mismatch, format)?;
+        push_mismatch(alloc, lines, mismatch, style)?;
         lines.extend_from_slice(b"\n")?;
     }
     Ok(())
@@ -70,13 +71,13 @@ fn push_problems(
     alloc: Global,
     lines: &mut Vec<u8>,
     problems: &[Problem],
-    format: ReportFormat,
+    style: LineStyle<'_>,
 ) -> Result<(), AllocError>
     ensures { OnOk result (lines.new.items
-        ≡ lines.old.items ++ Reports.lines (line_text format) (map problem_value problems.now)) }
+        ≡ lines.old.items ++ Reports.lines (line_text (style_value style.entry)) (map problem_value problems.now)) }
 {
     for problem in problems {
-        push_problem(alloc, lines, problem, format)?;
+        push_problem(alloc, lines, problem, style)?;
         lines.extend_from_slice(b"\n")?;
     }
     Ok(())
@@ -87,13 +88,13 @@ fn push_hits(
     alloc: Global,
     lines: &mut Vec<u8>,
     found: &[Found<'_, '_>],
-    format: ReportFormat,
+    style: LineStyle<'_>,
 ) -> Result<(), AllocError>
-    ensures { OnOk result ((text : List ℕ) × AreLines (IsHitLine format) (map found_value found.now) text
+    ensures { OnOk result ((text : List ℕ) × AreLines (IsHitLine (style_value style.entry)) (map found_value found.now) text
         × (lines.new.items ≡ lines.old.items ++ text)) }
 {
     for one in found {
-        push_hit(alloc, lines, one, format)?;
+        push_hit(alloc, lines, one, style)?;
         lines.extend_from_slice(b"\n")?;
     }
     Ok(())
@@ -104,13 +105,13 @@ fn push_all_unchecked(
     alloc: Global,
     lines: &mut Vec<u8>,
     all: &[Unchecked],
-    format: ReportFormat,
+    style: LineStyle<'_>,
 ) -> Result<(), AllocError>
     ensures { OnOk result (lines.new.items
-        ≡ lines.old.items ++ Reports.lines (unchecked_text format) (map unchecked_value all.now)) }
+        ≡ lines.old.items ++ Reports.lines (unchecked_text (style_value style.entry)) (map unchecked_value all.now)) }
 {
     for unchecked in all {
-        push_unchecked(alloc, lines, unchecked, format)?;
+        push_unchecked(alloc, lines, unchecked, style)?;
         lines.extend_from_slice(b"\n")?;
     }
     Ok(())
@@ -121,13 +122,13 @@ fn push_all_unread(
     alloc: Global,
     lines: &mut Vec<u8>,
     all: &[FolderName],
-    format: ReportFormat,
+    style: LineStyle<'_>,
 ) -> Result<(), AllocError>
     ensures { OnOk result (lines.new.items
-        ≡ lines.old.items ++ Reports.lines (unread_text format) (map folder_text all.now)) }
+        ≡ lines.old.items ++ Reports.lines (unread_text (style_value style.entry)) (map folder_text all.now)) }
 {
     for folder in all {
-        push_unread(alloc, lines, folder, format)?;
+        push_unread(alloc, lines, folder, style)?;
         lines.extend_from_slice(b"\n")?;
     }
     Ok(())
@@ -138,16 +139,16 @@ fn push_mismatch(
     alloc: Global,
     line: &mut Vec<u8>,
     mismatch: &Mismatch,
-    format: ReportFormat,
+    style: LineStyle<'_>,
 ) -> Result<(), AllocError>
-    ensures { OnOk result (line.new.items ≡ line.old.items ++ mismatch_text format (mismatch_value mismatch.now)) }
+    ensures { OnOk result (line.new.items ≡ line.old.items ++ mismatch_text (style_value style.entry) (mismatch_value mismatch.now)) }
 {
-    match format {
-        ReportFormat::Text => push_mismatch_sentence(line, mismatch),
-        ReportFormat::Json => {
-            let text = mismatch.to_json(alloc)?.to_string(alloc)?;
-            line.extend_from_slice(text.as_bytes())
+    match style.format {
+        ReportFormat::Text => {
+            push_file(line, style.file)?;
+            push_mismatch_sentence(line, mismatch)
         }
+        ReportFormat::Json => push_object(alloc, line, mismatch.to_json(alloc)?, style.file),
     }
 }
 
@@ -156,16 +157,16 @@ fn push_problem(
     alloc: Global,
     line: &mut Vec<u8>,
     problem: &Problem,
-    format: ReportFormat,
+    style: LineStyle<'_>,
 ) -> Result<(), AllocError>
-    ensures { OnOk result (line.new.items ≡ line.old.items ++ line_text format (problem_value problem.now)) }
+    ensures { OnOk result (line.new.items ≡ line.old.items ++ line_text (style_value style.entry) (problem_value problem.now)) }
 {
-    match format {
-        ReportFormat::Text => push_sentence(line, problem),
-        ReportFormat::Json => {
-            let text = problem.to_json(alloc)?.to_string(alloc)?;
-            line.extend_from_slice(text.as_bytes())
+    match style.format {
+        ReportFormat::Text => {
+            push_file(line, style.file)?;
+            push_sentence(line, problem)
         }
+        ReportFormat::Json => push_object(alloc, line, problem.to_json(alloc)?, style.file),
     }
 }
 
@@ -174,17 +175,17 @@ fn push_hit(
     alloc: Global,
     line: &mut Vec<u8>,
     found: &Found<'_, '_>,
-    format: ReportFormat,
+    style: LineStyle<'_>,
 ) -> Result<(), AllocError>
-    ensures { OnOk result ((text : List ℕ) × IsHitLine format (found_value found.now) text
+    ensures { OnOk result ((text : List ℕ) × IsHitLine (style_value style.entry) (found_value found.now) text
         × (line.new.items ≡ line.old.items ++ text)) }
 {
-    match format {
-        ReportFormat::Text => push_hit_sentence(alloc, line, found),
-        ReportFormat::Json => {
-            let text = found.to_json(alloc)?.to_string(alloc)?;
-            line.extend_from_slice(text.as_bytes())
+    match style.format {
+        ReportFormat::Text => {
+            push_file(line, style.file)?;
+            push_hit_sentence(alloc, line, found)
         }
+        ReportFormat::Json => push_object(alloc, line, found.to_json(alloc)?, style.file),
     }
 }
 
@@ -193,17 +194,17 @@ fn push_unchecked(
     alloc: Global,
     line: &mut Vec<u8>,
     unchecked: &Unchecked,
-    format: ReportFormat,
+    style: LineStyle<'_>,
 ) -> Result<(), AllocError>
     ensures { OnOk result (line.new.items
-        ≡ line.old.items ++ unchecked_text format (unchecked_value unchecked.now)) }
+        ≡ line.old.items ++ unchecked_text (style_value style.entry) (unchecked_value unchecked.now)) }
 {
-    match format {
-        ReportFormat::Text => push_unchecked_sentence(line, unchecked),
-        ReportFormat::Json => {
-            let text = unchecked.to_json(alloc)?.to_string(alloc)?;
-            line.extend_from_slice(text.as_bytes())
+    match style.format {
+        ReportFormat::Text => {
+            push_file(line, style.file)?;
+            push_unchecked_sentence(line, unchecked)
         }
+        ReportFormat::Json => push_object(alloc, line, unchecked.to_json(alloc)?, style.file),
     }
 }
 
@@ -212,15 +213,15 @@ fn push_unread(
     alloc: Global,
     line: &mut Vec<u8>,
     folder: &FolderName,
-    format: ReportFormat,
+    style: LineStyle<'_>,
 ) -> Result<(), AllocError>
-    ensures { OnOk result (line.new.items ≡ line.old.items ++ unread_text format (folder_text folder.now)) }
+    ensures { OnOk result (line.new.items ≡ line.old.items ++ unread_text (style_value style.entry) (folder_text folder.now)) }
 {
-    match format {
-        ReportFormat::Text => push_unread_sentence(line, folder),
-        ReportFormat::Json => {
-            let text = unread_json(alloc, folder)?.to_string(alloc)?;
-            line.extend_from_slice(text.as_bytes())
+    match style.format {
+        ReportFormat::Text => {
+            push_file(line, style.file)?;
+            push_unread_sentence(line, folder)
         }
+        ReportFormat::Json => push_object(alloc, line, unread_json(alloc, folder)?, style.file),
     }
 }

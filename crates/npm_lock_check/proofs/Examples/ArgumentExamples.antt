@@ -2,7 +2,7 @@
 use Rattle.std.proofs.Common.{◌≡◌, ◌∷◌, [], Err, Ok, Some, codes, false, map, refl, true}
 use Rattle.npm_advisories.specs.declared.severity.Severity.TheVariants.{High}
 use Rattle.npm_lock.specs.declared.problem.Kind.TheVariants.{Engine, Invalid, Missing, PeerLocal}
-use Rattle.npm_lock_check.specs.Arguments.{no_kind, no_severity, no_value, nothing_asked, read_arguments, second_file, unknown_option}
+use Rattle.npm_lock_check.specs.Arguments.{files_of, many_files, no_kind, no_severity, no_value, nothing_asked, read_arguments, second_input, unknown_option}
 use Rattle.npm_lock_check.specs.Kinds.{has, named_by, no_kinds, with_kind, with_named}
 use Rattle.npm_lock_reports.specs.declared.format.ReportFormat.TheVariants.{Json}
 use Rattle.npm_lock_annotations.specs.declared.format.AnnotationFormat.TheVariants.{Github, Sarif}
@@ -35,11 +35,27 @@ pub help : read_arguments (codes "-h" ∷ []) ≡ Ok (record nothing_asked { sho
 help = refl
 
 -- `-` is standard input, by its name
-pub a_hyphen_is_a_file : read_arguments (codes "-" ∷ []) ≡ Ok (record nothing_asked { file = Some (codes "-") })
+pub a_hyphen_is_a_file : read_arguments (codes "-" ∷ []) ≡ Ok (record nothing_asked { file = Some (codes "-"); input = true })
 a_hyphen_is_a_file = refl
 
-pub two_files : read_arguments (codes "-" ∷ codes "a.json" ∷ []) ≡ Err (second_file (codes "a.json"))
+pub two_files : read_arguments (codes "-" ∷ codes "a.json" ∷ [])
+    ≡ Ok (record nothing_asked { file = Some (codes "-"); other = Some (codes "a.json"); input = true })
 two_files = refl
+
+pub standard_input_twice : read_arguments (codes "-" ∷ codes "a.json" ∷ codes "-" ∷ []) ≡ Err second_input
+standard_input_twice = refl
+
+-- in either order
+pub a_manifest_of_two_files : read_arguments (codes "a.json" ∷ codes "b.json" ∷ codes "--manifest=p.json" ∷ [])
+    ≡ Err (many_files (codes "b.json"))
+a_manifest_of_two_files = refl
+
+-- the value of an option is no lock file
+pub all_files : files_of (codes "a.json" ∷ codes "--node" ∷ codes "20" ∷ codes "-" ∷ []) ≡ codes "a.json" ∷ codes "-" ∷ []
+all_files = refl
+
+pub no_file_is_standard_input : files_of (codes "--unchecked" ∷ []) ≡ codes "-" ∷ []
+no_file_is_standard_input = refl
 
 pub a_missing_value : read_arguments (codes "a.json" ∷ codes "--node" ∷ []) ≡ Err (no_value (codes "--node"))
 a_missing_value = refl

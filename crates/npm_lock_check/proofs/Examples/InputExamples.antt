@@ -1,4 +1,4 @@
--- What the definitions say of what was read.
+-- Worked examples of inputs.
 use Rattle.std.proofs.Common.{◌≡◌, ◌∷◌, ℕ, List, [], Option, Result, Some, codes, false, inl, inr, refl, true}
 use Rattle.std.specs.declared.io.ErrorKind.TheVariants.{Other, OutOfMemory}
 use Rattle.serde_json.specs.Data.{Data}
@@ -13,17 +13,17 @@ use Rattle.npm_lock_check.specs.declared.run_error.LoadError.{LoadError}
 use Rattle.npm_lock_check.specs.declared.run_error.RunError.TheVariants.{Input}
 use Rattle.npm_lock_check.specs.declared.run_error.StopError.TheVariants.{Check, Load}
 
--- ---- what was read
+-- ---- inputs
 
 module _ (remaining : List ℕ → Option (List ℕ)) (old : WatchedValue (List ℕ)) where
-  -- a read that failed for want of memory is no failed read of another kind
+  -- a read that ran out of memory is no failed read of another kind
   pub no_memory_is_no_failed_read : ¬ IsUnread remaining old (record { inner = []; failure = Some OutOfMemory }) Read
   no_memory_is_no_failed_read stopped = stopped.1 refl
 
   pub another_failure_is_a_failed_read : IsUnread remaining old (record { inner = []; failure = Some Other }) Read
   another_failure_is_a_failed_read = (refl, λ same. cc same)
 
-  -- after a failed call nothing was read, and no input is called no JSON
+  -- after a failed call no input was read, and none is called no JSON
   pub after_a_failure_nothing_was_read : (lock : Data) → ¬ IsInput remaining old
       (record { inner = []; failure = Some Other }) lock
   after_a_failure_nothing_was_read lock input = cc input.unfailed

@@ -59,7 +59,7 @@ abbrev v_then_w : List (List ℕ)
 v_then_w = codes "v" ∷ codes "w" ∷ []
 
 module _ (Gives : (folder : List ℕ) → Result Found LoadError → Type 0) (manifest : Value) where
-  -- what is there counts, and what is not read is told
+  -- a manifest that was read counts, and the folder of one that was not read is kept
   pub all_that_is_found : Gives (codes "v") (Ok Unread) → Gives (codes "w") (Ok (Manifest manifest))
       → AreRead Gives v_then_w (record { linked = at_w (view manifest) ∷ []; unread = codes "v" ∷ []; workspaces = [] })
   all_that_is_found v w = one_more _ _ _ _ _ v (one_more _ _ _ _ _ w (no_folder _))

@@ -9,7 +9,7 @@ use Rattle.npm_manifests.specs.declared.group.Group.TheVariants.{Dependencies, D
 use Rattle.npm_lock_check.specs.Report.{is_compared, manifests_of, placed}
 use Rattle.npm_lock_sentences.specs.Sentence.{mismatch_sentence}
 
--- an object with one member, a package that asks for `a`, and a lock file whose root asks for it
+-- an object with one member, a package that depends on `a`, and a lock file whose root depends on it
 abbrev one : (key : List ℕ) → Data → Data
 one key value = object (member key value no_members)
 

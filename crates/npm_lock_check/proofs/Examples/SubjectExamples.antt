@@ -13,39 +13,34 @@ use Rattle.npm_lock_check.specs.declared.run_error.StopError.TheVariants.{Adviso
 
 abbrev asked : ArgumentsValue
 asked = record nothing_asked {
-  file = Some (codes "a.json");
   manifest = Some (codes "m.json");
   advisories = Some (codes "v.json");
 }
 
-pub a_file : subject_of asked (Check (Input Inputs.NoFile)) ≡ codes "\"a.json\": "
+pub a_file : subject_of asked (codes "a.json") (Check (Input Inputs.NoFile)) ≡ codes "\"a.json\": "
 a_file = refl
 
-pub no_file : subject_of nothing_asked (Check (Input Inputs.NoUtf8)) ≡ codes "standard input: "
-no_file = refl
+pub standard_input : subject_of asked (codes "-") (Check (Input Inputs.NoUtf8)) ≡ codes "standard input: "
+standard_input = refl
 
-pub standard_input_by_its_name : subject_of (record asked { file = Some (codes "-") }) (Check (Input Inputs.Read))
-    ≡ codes "standard input: "
-standard_input_by_its_name = refl
-
-pub a_manifest : subject_of asked (Manifest (Input Inputs.NoFile)) ≡ codes "--manifest \"m.json\": "
+pub a_manifest : subject_of asked (codes "a.json") (Manifest (Input Inputs.NoFile)) ≡ codes "--manifest \"m.json\": "
 a_manifest = refl
 
-pub advisories : subject_of asked (Advisories (Input Inputs.Read)) ≡ codes "--advisories \"v.json\": "
+pub advisories : subject_of asked (codes "a.json") (Advisories (Input Inputs.Read)) ≡ codes "--advisories \"v.json\": "
 advisories = refl
 
 -- a write and memory are about no file
-pub a_write : subject_of asked (Check Write) ≡ []
+pub a_write : subject_of asked (codes "a.json") (Check Write) ≡ []
 a_write = refl
 
-pub memory : subject_of asked (Check Memory) ≡ []
+pub memory : subject_of asked (codes "a.json") (Check Memory) ≡ []
 memory = refl
 
-pub memory_of_a_read : subject_of asked (Check (Input Inputs.Memory)) ≡ []
+pub memory_of_a_read : subject_of asked (codes "a.json") (Check (Input Inputs.Memory)) ≡ []
 memory_of_a_read = refl
 
 -- the manifest of a workspace is named by the rest of the line
-pub a_workspace : subject_of asked (Load Loads.Memory) ≡ []
+pub a_workspace : subject_of asked (codes "a.json") (Load Loads.Memory) ≡ []
 a_workspace = refl
 
 -- an escape sequence, and what would end the quotation

@@ -1,4 +1,4 @@
--- What was found so far, and then what is found in the folders that are left, is what is found in all folders.
+-- The manifests so far, and then those in the folders that are left, are those of all folders.
 use Rattle.std.proofs.Common.{drop, map}
 use Rattle.std.specs.Fn.{FnReturnsAt}
 use Rattle.npm_lock_check.specs.Linked.{AreRead, AreReadAfter, LoadedValue, loaded_value}

@@ -47,8 +47,8 @@ returns-in-Err-clause-refused c =
     (rw c.in_ok-mismatches.ensures.placed at c.in_ok-lock.ensures.sound)
     (rw c.in_ok-mismatches.ensures.placed at c.in_ok-refuse.ensures.sound) c.in-Err.ensures.refused
 
-pub returns-in-Ok-written-clause-found : goal.returns-in-Ok-written-clause-found
-returns-in-Ok-written-clause-found c =
+pub returns-in-Ok-output_of-clause-found : goal.returns-in-Ok-output_of-clause-found
+returns-in-Ok-output_of-clause-found c =
     let made = rw c.in_ok-mismatches.ensures.placed at c.in_ok-lock.ensures.made in (
       map found_value c.in-Ok.found.items,
       record {
@@ -63,5 +63,5 @@ returns-in-Ok-written-clause-found c =
             c.in-Ok.found.items;
         listed = refl;
       },
-      rw c.deref-2.ensures.value at c.in-Ok-written.ensures,
+      rw c.deref-2.ensures.value at c.in-Ok-output_of.ensures,
     )

@@ -2,9 +2,10 @@
 use Rattle.std.proofs.Common.{◌≡◌, ◌++◌, drop, map}
 use Rattle.npm_manifests.specs.Mismatches.{mismatch_value}
 use Rattle.npm_lock_reports.specs.Report.{lines, mismatch_text}
+use Rattle.npm_lock_reports.specs.Style.{style_value}
 use Rattle.npm_lock_reports.proofs.lines.push_mismatches.Given as goal
 
 abbrev pub invariant-loop-mismatch : goal.invariant-loop-mismatch
 invariant-loop-mismatch l =
-    l.lines.items ++ lines (mismatch_text l.format) (map mismatch_value (drop l.mismatch-index l.mismatches))
-    ≡ l.initial.lines.items ++ lines (mismatch_text l.format) (map mismatch_value l.mismatches)
+    l.lines.items ++ lines (mismatch_text (style_value l.style)) (map mismatch_value (drop l.mismatch-index l.mismatches))
+    ≡ l.initial.lines.items ++ lines (mismatch_text (style_value l.style)) (map mismatch_value l.mismatches)

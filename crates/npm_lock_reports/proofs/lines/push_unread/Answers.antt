@@ -1,17 +1,12 @@
 -- The text of an object without a number is compact.
-use Rattle.std.proofs.Common.{◌≡◌, arith, string_bytes}
-use Rattle.std.proofs.lemmas.Grind.{common_steps}
-use Rattle.serde_json.specs.Written.{compact_text}
-use Rattle.npm_lock_reports.specs.Report.{folder_text}
+use Rattle.std.proofs.Common.{option_map}
 use Rattle.npm_lock_reports.specs.Unread.{unread_data}
-use Rattle.npm_lock_reports.proofs.OutputLines.{no_float_unread}
+use Rattle.npm_lock_reports.specs.Report.{folder_text}
+use Rattle.npm_lock_reports.proofs.OutputLines.{compact_line, no_float_unread}
 use Rattle.npm_lock_reports.proofs.lines.push_unread.Goals as goal
 
-pub returns-in_ok-text-in-Json : goal.returns-in_ok-text-in-Json
-returns-in_ok-text-in-Json c =
-    let text : string_bytes c.in_ok-text-in-Json.text ≡ compact_text
-    (unread_data (folder_text c.args.folder.now)) =
-    rw c.in_ok-unread_json-in-Json.ensures
-    at (c.in_ok-text-in-Json.ensures.text (rw c.in_ok-unread_json-in-Json.ensures
-    (no_float_unread (folder_text c.args.folder.now)))) in
-    grind (arith, common_steps, text, c.as_bytes.ensures.value)
+pub returns-in_ok-unread_json-in-Json : goal.returns-in_ok-unread_json-in-Json
+returns-in_ok-unread_json-in-Json c =
+    rw c.in-Json.is (compact_line (option_map (λ file. file.now) c.args.style.file) (unread_data (folder_text c.args.folder.now))
+    c.push_object.result c.args.line.now.items c.push_object.new.line.items (no_float_unread (folder_text c.args.folder.now))
+    (rw c.in_ok-unread_json-in-Json.ensures at c.push_object.ensures))

@@ -1,5 +1,5 @@
 -- The check of one lock file.
-use Rattle.std.specs.Prelude.{◌≡◌, ◌≢◌, ◌⊎◌, ℕ, List, [], ◌∷◌, true, IsUtf8, Option, None, Some}
+use Rattle.std.specs.Prelude.{◌≡◌, ◌≢◌, ◌⊎◌, ℕ, List, [], ◌∷◌, true, IsUtf8, Option, None, Some, option_map}
 use Rattle.std.specs.Prelude.{Result, option_and_then, option_map, string_bytes}
 use Rattle.std.specs.Option.{option_or}
 use Rattle.serde_json.specs.Data.{Data}
@@ -22,6 +22,7 @@ use Rattle.command_lines.specs.WatchedValue.{WatchedValue}
 use Rattle.npm_lock_check.specs.Report.{AreLoaded, IsNotLoaded, IsReportOf, WantedValue, has_packages, manifests_of}
 use Rattle.npm_lock_check.specs.Report.{checked_lock, placed}
 use Rattle.npm_lock_reports.specs.declared.folder_name.FolderName.{FolderName}
+use Rattle.npm_lock_check.specs.Subjects.{id_text}
 use Rattle.npm_lock_check.specs.Written.{IsOutput}
 use Rattle.npm_lock_check.specs.declared.linked.Loaded.{Loaded}
 use Rattle.npm_lock_check.specs.declared.list_name.ListName.{ListName}
@@ -75,10 +76,11 @@ IsNoLockFile text placed manifest found =
     (any_fault placed manifest ≡ Some found.fault) × IsLockFaultPlace text placed (fault_place_value found)
 
 -- the value of the advisories has a fault where the packages of this lock file are installed, at this place in the list
--- under this name
+-- under this name, of an advisory with this id
 abbrev pub AreNoAdvisories : (checked : Data) → (advisories : Option Data) → FaultKind → ListName → (place : ℕ) → Type 0
 AreNoAdvisories checked advisories kind name place = (file : Data) × (advisories ≡ Some file)
-    × (id : Option IdValue) × IsFileFaultBeside checked file (Some (fault_at (string_bytes name.text) place id kind))
+    × (id : Option IdValue) × (option_map string_bytes name.id ≡ option_map id_text id)
+    × IsFileFaultBeside checked file (Some (fault_at (string_bytes name.text) place id kind))
 
 -- Why no value was read, or memory ran out later: then all was read, and it is in UTF-8 and not empty.
 abbrev pub IsUnread : {R : Type 0} → (remaining : R → Option (List ℕ)) → (old new : WatchedValue R) → RunError → Type 0

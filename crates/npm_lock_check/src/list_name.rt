@@ -1,5 +1,5 @@
-//! The name of a list of advisories, and where in a file a fault is, in the line of an error.
-ghost use Rattle.std.specs.Prelude.{Some, string_bytes};
+//! Which advisory has a fault, and where in a file it is, in the line of an error.
+ghost use Rattle.std.specs.Prelude.{Some, option_map, string_bytes};
 ghost use Rattle.std.specs.Fmt.{WritesOnOk};
 ghost use Rattle.npm_lock_check.specs.Subjects as Subjects;
 
@@ -7,23 +7,46 @@ use command_lines::write_quoted;
 use npm_advisories::FaultKind;
 use std::fmt;
 
-/// The name that a list of advisories stands under. In OSV's form the first installed package that the advisory is about, and
-/// empty if there is none.
+/// The name that a list of advisories stands under, and the id of the one with a fault. In OSV's form the name is that of the first
+/// installed package that the advisory is about, and empty if there is none.
 #[derive(Debug, PartialEq, Eq, Drop)]
 pub struct ListName {
     pub text: String,
+    pub id: Option<String>,
 }
 
-/// Prints `, of "lodash"`, or nothing for the empty name. Format options such as a width are ignored.
+/// Prints `, of "lodash", with id "GHSA-1"`, without the empty name and an id that is absent. Format options such as a width are
+/// ignored.
 impl fmt::Display for ListName {
-    ghost output = { λ name. Some (Subjects.list_words (string_bytes name.text)) };
+    ghost output = { λ name. Some (Subjects.name_words (string_bytes name.text) (option_map string_bytes name.id)) };
 
     fn fmt<W: fmt::Write>(&self, f: &mut fmt::Formatter<W>) -> fmt::Result {
-        if self.text.is_empty() {
-            return Ok(());
+        write_list(f, self.text.as_str())?;
+        write_id(f, &self.id)
+    }
+}
+
+/// Prints the name of a list, if it is not empty.
+fn write_list<W: fmt::Write>(f: &mut fmt::Formatter<W>, name: &str) -> fmt::Result
+    ensures { WritesOnOk W.write_str_gives f.old result (Subjects.list_words name.now) f.new }
+{
+    if name.is_empty() {
+        return Ok(());
+    }
+    f.write_str(", of ")?;
+    write_quoted(f, name.as_bytes())
+}
+
+/// Prints the id of an advisory, if it has one.
+fn write_id<W: fmt::Write>(f: &mut fmt::Formatter<W>, id: &Option<String>) -> fmt::Result
+    ensures { WritesOnOk W.write_str_gives f.old result (Subjects.id_words (option_map string_bytes id.now)) f.new }
+{
+    match id {
+        Some(id) => {
+            f.write_str(", with id ")?;
+            write_quoted(f, id.as_bytes())
         }
-        f.write_str(", of ")?;
-        write_quoted(f, self.text.as_bytes())
+        None => Ok(()),
     }
 }
 
@@ -36,7 +59,7 @@ pub struct PlacedFault<'a> {
     pub place: usize,
 }
 
-/// Prints the fault, and where it is: `; advisory 1, counted from 0, of "lodash"`. Of a list that is none it prints the name, and of
+/// Prints the fault, and where it is: `; advisory 1, counted from 0, of "lodash", with id "7"`. Of a list that is none it prints the name, and of
 /// a file that is none no more. Format options such as a width are ignored.
 impl<'a> fmt::Display for PlacedFault<'a> {
     fn fmt<W: fmt::Write>(&self, f: &mut fmt::Formatter<W>) -> fmt::Result {
@@ -53,7 +76,8 @@ fn write_place<W: fmt::Write>(
     name: &ListName,
     place: usize,
 ) -> fmt::Result
-    ensures { WritesOnOk W.write_str_gives f.old result (Subjects.place_words kind (string_bytes name.now.text) place) f.new }
+    ensures { WritesOnOk W.write_str_gives f.old result (Subjects.place_words kind (string_bytes name.now.text)
+        (option_map string_bytes name.now.id) place) f.new }
 {
     match kind {
         FaultKind::File => Ok(()),

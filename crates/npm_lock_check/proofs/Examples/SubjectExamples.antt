@@ -55,12 +55,13 @@ no_list = refl
 
 -- ---- where a fault of advisories is
 
-pub an_advisory : place_words Range (codes "lodash") 1 ≡ codes "; advisory 1, counted from 0, of \"lodash\""
+pub an_advisory : place_words Range (codes "lodash") (Some (codes "7")) 1
+    ≡ codes "; advisory 1, counted from 0, of \"lodash\", with id \"7\""
 unfolding digits
 an_advisory = refl
 
-pub a_list : place_words FaultKinds.List (codes "lodash") 0 ≡ codes "; the name is \"lodash\""
+pub a_list : place_words FaultKinds.List (codes "lodash") None 0 ≡ codes "; the name is \"lodash\""
 a_list = refl
 
-pub a_whole_file : place_words File [] 0 ≡ []
+pub a_whole_file : place_words File [] None 0 ≡ []
 a_whole_file = refl

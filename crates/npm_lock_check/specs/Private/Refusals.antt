@@ -1,6 +1,6 @@
 -- Why the values of a lock file, of a manifest and of advisories are refused: one of them has a fault, or memory ran
 -- out.
-use Rattle.std.specs.Prelude.{◌≡◌, ◌⊎◌, ℕ, List, Option, None, Some, string_bytes}
+use Rattle.std.specs.Prelude.{◌≡◌, ◌⊎◌, ℕ, List, Option, None, Some, option_map, string_bytes}
 use Rattle.serde_json.specs.Data.{Data}
 use Rattle.npm_packages.specs.Faults.{lock_fault}
 use Rattle.npm_manifests.specs.Mismatches.{manifest_fault}
@@ -12,6 +12,7 @@ use Rattle.npm_advisories.specs.declared.fault.FaultKind.{FaultKind}
 use Rattle.npm_lock_check.specs.Linked.{LinkedValue}
 use Rattle.npm_lock_check.specs.Output.{AreNoAdvisories, IsNoLinked, IsNoLockFile, IsNoManifest}
 use Rattle.npm_lock_check.specs.Report.{WantedValue}
+use Rattle.npm_lock_check.specs.Subjects.{id_text}
 use Rattle.npm_lock_reports.specs.declared.folder_name.FolderName.{FolderName}
 use Rattle.npm_lock_check.specs.declared.list_name.ListName.{ListName}
 use Rattle.npm_lock_check.specs.declared.run_error.RunError.{RunError}
@@ -51,10 +52,15 @@ IsLockRefused text placed manifest error =
 abbrev pub IsCheckRefused : (checked : Data) → RunError → Type 0
 IsCheckRefused checked error = lock_fault checked ≡ None → error ≡ Memory
 
+-- the name and the id of the advisory with this fault
+abbrev pub IsNameOf : FaultValue → ListName → Type 0
+IsNameOf fault name = (string_bytes name.text ≡ fault.name)
+    × (option_map string_bytes name.id ≡ option_map id_text fault.id)
+
 -- the advisories, with this fault
 abbrev pub AreRefusedAs : FaultValue → RunError → Type 0
 AreRefusedAs fault error = ((name : ListName) × (error ≡ NoAdvisories fault.kind name fault.place)
-    × (string_bytes name.text ≡ fault.name)) ⊎ (error ≡ Memory)
+    × IsNameOf fault name) ⊎ (error ≡ Memory)
 
 -- the advisories of a check
 abbrev pub AreAdvisoriesRefused : (checked : Data) → (advisories : Option Data) → RunError → Type 0

@@ -71,9 +71,9 @@ pub struct Found<'f, 'v> {
 ///
 /// # Memory
 ///
-/// Allocates an index of the advisories about installed packages, with their ranges, and for each name the union of these. Of a
-/// package that is hit, allocates its hits and, for the time of the call, the sets of all advisories about its name and of the
-/// range texts.
+/// Allocates an index of the advisories about installed packages, with their ranges, and for each name the versions and the
+/// releases that these are about, and those of each half of more than eight. Of a package that is hit, allocates its hits and, for
+/// the time of the call, the sets of the range texts.
 pub fn audit<'f, 'v>(
     alloc: Global,
     file: &'f Value,

@@ -16,7 +16,7 @@ use Rattle.npm_lock_check.specs.declared.run_error.RunError.{RunError}
 pub refused_as : (checked file : Data) (advisories : Option Data) (fault : FaultValue) (error : RunError)
     → advisories ≡ Some file → IsFileFaultBeside checked file (Some fault) → AreRefusedAs fault error
     → IsAuditRefused checked advisories error
-refused_as checked file advisories fault error is told (inl (name, same, text, id)) =
+refused_as checked file advisories fault error is told (inl (name, same, (text, id))) =
     inl (fault.kind, name, fault.place, same, (file, is, fault.id, id, rw text told))
 refused_as checked file advisories fault error is told (inr memory) = inr (λ none. memory)
 

@@ -1,5 +1,5 @@
 -- What the definitions say of the beginnings of lines.
-use Rattle.std.proofs.Common.{◌≡◌, ◌∷◌, [], Some, codes, refl}
+use Rattle.std.proofs.Common.{◌≡◌, ◌∷◌, [], None, Some, codes, refl}
 use Rattle.std.specs.Fmt.{digits}
 use Rattle.npm_advisories.specs.declared.fault.FaultKind.TheVariants as FaultKinds
 use Rattle.npm_advisories.specs.declared.fault.FaultKind.TheVariants.{File, Range}

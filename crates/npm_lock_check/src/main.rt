@@ -132,7 +132,10 @@ fn said(
             Ok(report) => eprintln!(rt; "{report}"),
             Err(error) => {
                 annotate(rt, asked, *file, error);
-                eprintln!(rt; "npm_lock_check: {}{error}", subject_of(asked, *file, error))
+                eprintln!(rt;
+                    "npm_lock_check: {}{error}",
+                    subject_of(asked, *file, error)
+                )
             }
         };
         if line.is_err() {

@@ -7,6 +7,7 @@
     wide      one package asks for N names, which are installed
     links     one package asks for N names, which are links
     workspaces  the root asks for N names, which are workspaces, listed one by one
+    stars     the root asks for N names, which are workspaces, each in a folder of its own, before the `/*` or `/**` of a pattern
     copies    N packages, each with a copy of one name in its own `node_modules`, ask for that name
     chain     N packages of one name, each in the `node_modules` of the one before, and beside each one a package that asks for it
     crowded   N folders with twenty names in their `node_modules`, and N packages in a folder `z/z/z/..` of N parts that ask for
@@ -46,12 +47,15 @@ elif shape == "copies":
         packages[f"node_modules/{name}"] = {"version": "1.2.3", "dependencies": {"copied": "^1.0.0"}}
         packages[f"node_modules/{name}/node_modules/copied"] = {"version": "1.2.3"}
 else:
-    linked = shape in ("links", "workspaces")
+    linked = shape in ("links", "workspaces", "stars")
     packages[""]["dependencies"] = {name: "^1.0.0" for name in names}
     if shape == "workspaces":
         packages[""]["workspaces"] = [f"linked/{name}" for name in names]
+    if shape == "stars":
+        packages[""]["workspaces"] = [f"linked/{name}/*{'*' * (i % 2)}" for i, name in enumerate(names)]
     for name in names:
+        folder = f"linked/{name}/{name}" if shape == "stars" else f"linked/{name}"
         if linked:
-            packages[f"node_modules/{name}"] = {"link": True, "resolved": f"linked/{name}"}
-        packages[f"linked/{name}" if linked else f"node_modules/{name}"] = {"version": "1.2.3"}
+            packages[f"node_modules/{name}"] = {"link": True, "resolved": folder}
+        packages[folder if linked else f"node_modules/{name}"] = {"version": "1.2.3"}
 json.dump({"lockfileVersion": 3, "packages": packages}, sys.stdout)

@@ -6,7 +6,6 @@ ghost use Rattle.node_semver_c.specs.Answers.{IsMinimumContained};
 use crate::handle::range::RangeRef;
 use crate::handle::version::VersionHandle;
 use crate::status::{OUT_OF_MEMORY, keep_version_found};
-use node_semver::Range;
 use std::alloc::Global;
 
 /// `WithPrereleases::min_version`.
@@ -19,14 +18,7 @@ pub extern "C" fn node_semver_min_version_with_prereleases(
     requires empty { answer.old.value ≡ None }
     ensures { IsFound (IsMinimumContained range.now.value) result answer.new.value }
 {
-    min_version(alloc, range.get(), answer)
-}
-
-fn min_version(alloc: Global, range: &Range, answer: &mut VersionHandle) -> u32
-    requires { answer.old.value ≡ None }
-    ensures { IsFound (IsMinimumContained range.now) result answer.new.value }
-{
-    match range.with_prereleases().min_version(alloc) {
+    match range.get().with_prereleases().min_version(alloc) {
         Ok(found) => keep_version_found(alloc, found, answer),
         Err(_) => OUT_OF_MEMORY,
     }
@@ -43,14 +35,7 @@ pub extern "C" fn node_semver_least_beyond_with_prereleases(
     requires empty { answer.old.value ≡ None }
     ensures { IsFound (IsLeastContainedBeyond one.now.value other.now.value) result answer.new.value }
 {
-    least_beyond(alloc, one.get(), other.get(), answer)
-}
-
-fn least_beyond(alloc: Global, one: &Range, other: &Range, answer: &mut VersionHandle) -> u32
-    requires { answer.old.value ≡ None }
-    ensures { IsFound (IsLeastContainedBeyond one.now other.now) result answer.new.value }
-{
-    match one.with_prereleases().least_beyond(alloc, other) {
+    match one.get().with_prereleases().least_beyond(alloc, other.get()) {
         Ok(found) => keep_version_found(alloc, found, answer),
         Err(_) => OUT_OF_MEMORY,
     }
@@ -67,14 +52,7 @@ pub extern "C" fn node_semver_range_least_common_with_prereleases(
     requires empty { answer.old.value ≡ None }
     ensures { IsFound (IsLeastContainedInBoth one.now.value other.now.value) result answer.new.value }
 {
-    least_common(alloc, one.get(), other.get(), answer)
-}
-
-fn least_common(alloc: Global, one: &Range, other: &Range, answer: &mut VersionHandle) -> u32
-    requires { answer.old.value ≡ None }
-    ensures { IsFound (IsLeastContainedInBoth one.now other.now) result answer.new.value }
-{
-    match one.with_prereleases().least_common(alloc, other) {
+    match one.get().with_prereleases().least_common(alloc, other.get()) {
         Ok(found) => keep_version_found(alloc, found, answer),
         Err(_) => OUT_OF_MEMORY,
     }

@@ -3,10 +3,12 @@ use Rattle.std.proofs.Common.{◌≡◌, ◌↔◌, ◌++◌, ◌<◌, ◌+◌, 
 use Rattle.std.proofs.Common.{Option, Some, None, take, true}
 use Rattle.std.proofs.lemmas.List.{map-append, take_more}
 use Rattle.std.specs.List.{AllZip}
+use Rattle.semver_cuts.specs.Ends.{Ends}
 use Rattle.node_semver.specs.Versions.{VersionValue}
 use Rattle.npm_advisories.specs.Advisories.{AboutValue, AdvisoryValue, about_value}
 use Rattle.npm_advisories.specs.Hits.{AreHits, AreKept, IsAbout, IsHit, kept, left, none}
 use Rattle.npm_advisories.specs.Offers.{IsAdmitted, IsAffected, IsUnhit}
+use Rattle.npm_advisories.specs.Private.Covering.{AreCovered}
 use Rattle.npm_advisories.specs.Private.Offering.{IsAdmittedBy, IsUnhitBy}
 use Rattle.npm_advisories.specs.Private.Reading.{IsAdvisory}
 use Rattle.npm_advisories.specs.Private.Spans.{IsHitBy, IsIn, IsInRange, IsPast}
@@ -106,15 +108,23 @@ affected-same (value ∷ values) (one ∷ advisories) v are =
     )
 
 module _ (values : List AdvisoryValue) (advisories : List Advisory) (are : AllZip IsAdvisory values advisories)
-    (installed : VersionValue) where
-  pub unhit-same : (v : VersionValue) → IsUnhitBy advisories installed v ↔ IsUnhit values installed v
-  unhit-same v = let same = affected-same values advisories v are in (
-    λ is. record { release = is.release; above = is.above; unhit = λ hit. is.unhit (same.1 hit) },
-    λ is. record { release = is.release; above = is.above; unhit = λ hit. is.unhit (same.0 hit) },
+    (covered : List (Ends VersionValue)) (same : AreCovered covered (IsInRange advisories)) (installed : VersionValue) where
+  pub unhit-same : (v : VersionValue) → IsUnhitBy covered installed v ↔ IsUnhit values installed v
+  unhit-same v = let affected = affected-same values advisories v are in (
+    λ is. record {
+      release = is.release;
+      above = is.above;
+      unhit = λ hit. is.unhit ((same.exact v is.release).1 (affected.1 hit));
+    },
+    λ is. record {
+      release = is.release;
+      above = is.above;
+      unhit = λ hit. is.unhit (affected.0 ((same.exact v is.release).0 hit));
+    },
   )
 
   pub admitted-same : (asked : List (List ℕ)) (v : VersionValue)
-      → IsAdmittedBy advisories asked installed v ↔ IsAdmitted values asked installed v
+      → IsAdmittedBy covered asked installed v ↔ IsAdmitted values asked installed v
   admitted-same asked v = (
     λ is. record { unhit = (unhit-same v).0 is.unhit; admitted = is.admitted },
     λ is. record { unhit = (unhit-same v).1 is.unhit; admitted = is.admitted },

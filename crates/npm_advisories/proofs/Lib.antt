@@ -18,5 +18,8 @@ pub mod OsvMarks
 pub mod OsvEnds
 pub mod OsvBetween
 pub mod ReadVersions
-pub mod Joining
+pub mod Covering
+pub mod ReleaseCuts
+pub mod SpanPlaces
+pub mod FreeReleases
 pub mod FolderParts

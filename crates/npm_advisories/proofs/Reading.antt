@@ -7,7 +7,8 @@ use Rattle.serde_json.specs.Data.{item, no_items}
 use Rattle.serde_json.specs.View.{items_view, view}
 use Rattle.serde_json.specs.declared.value.Value.{Value}
 use Rattle.npm_advisories.specs.Advisories.{AdvisoryValue, npm_advisory, npm_list}
-use Rattle.npm_advisories.specs.Faults.{FaultValue, list_fault, npm_fault}
+use Rattle.npm_advisories.specs.Faults.{FaultValue, fault_at, list_fault, npm_fault}
+use Rattle.npm_advisories.specs.Ids.{IdValue, id_in}
 use Rattle.npm_advisories.specs.Private.Reading.{IsErrorAt, IsErrorOf, IsUnreadAs}
 use Rattle.npm_advisories.specs.declared.fault.AuditError.{AuditError}
 use Rattle.npm_advisories.specs.declared.fault.FaultKind.{FaultKind}
@@ -15,11 +16,11 @@ use Rattle.npm_advisories.specs.declared.fault.Unread.{Unread}
 use Rattle.npm_advisories.specs.declared.fault.Unread.TheVariants.{Memory, Refused}
 
 -- the error of the first advisory that is not read is that of the list
-pub error-of : (unread : Unread) (name : List ℕ) (place : ℕ) (error : AuditError) (fault : Option FaultKind)
-    (rest : Option FaultValue) → IsUnreadAs fault unread → IsErrorAt unread name place error
-    → IsErrorOf (option_or (option_map (λ kind. record { kind = kind; name = name; place = place }) fault) rest) error
-error-of (Refused kind) name place error fault rest is at = rw is at.0
-error-of Memory name place error fault rest is at = rw at tt
+pub error-of : (unread : Unread) (name : List ℕ) (place : ℕ) (id : Option IdValue) (error : AuditError)
+    (fault : Option FaultKind) (rest : Option FaultValue) → IsUnreadAs fault unread → IsErrorAt unread name place id error
+    → IsErrorOf (option_or (option_map (fault_at name place id) fault) rest) error
+error-of (Refused kind) name place id error fault rest is at = rw is at.0
+error-of Memory name place id error fault rest is at = rw at tt
 
 -- the list of an advisory and others
 module _ (name : List ℕ) (entries : List Value) (i : ℕ) (one : Value) (lt : i < length entries)
@@ -29,7 +30,7 @@ module _ (name : List ℕ) (entries : List Value) (i : ℕ) (one : Value) (lt : 
 
   -- the fault of those from a place on
   pub fault-next : list_fault name i (items_view (drop i entries))
-      ≡ option_or (option_map (λ kind. record { kind = kind; name = name; place = i }) (npm_fault (view one)))
+      ≡ option_or (option_map (fault_at name i (id_in (view one))) (npm_fault (view one)))
       (list_fault name (i + 1) (items_view (drop (i + 1) entries)))
   fault-next = rw left refl
 

@@ -13,9 +13,7 @@ use Rattle.semver_texts.specs.Lemmas.Public.{version-Equal, version-Less, versio
 use Rattle.semver_texts.specs.Lemmas.Public.{build-read, prerelease-read}
 use Rattle.node_semver.specs.Ranges.{IsInside, IsRangeEnd, RangeAdmits, RangeContains, all_cuts}
 use Rattle.node_semver.specs.Versions.{IsBelow, IsPrerelease, IsVersionText, OrderMeans, VersionValue, version_cmp}
-use Rattle.node_semver.specs.Least.{AdmitsBeyond}
 use Rattle.node_semver.specs.RangeAlgebra.{sets_of_answer}
-use Rattle.npm_advisories.specs.Private.Spans.{IsOutside}
 
 -- ---- admitted and contained
 
@@ -53,32 +51,7 @@ pub all-admitted : (v : VersionValue) → ¬ IsPrerelease v → RangeAdmits (all
 all-admitted v release =
     inl (record { inside = record { lower = inl refl; upper = refl }; opened = λ pre. absurd (release pre) })
 
--- the range of all cuts admits no prerelease
-pub all-release : (v : VersionValue) → RangeAdmits (all_cuts ∷ []) v → ¬ IsPrerelease v
-all-release v (inl here) = λ pre. elim (here.opened pre) [
-  | inl lower ↦ lower
-  | inr upper ↦ upper
-]
-all-release v (inr there) = absurd there
-
 module _ (all : List (Ends VersionValue)) (is_all : all ≡ all_cuts ∷ []) where
-  -- all versions beyond a range are the releases outside its sets
-  pub beyond-outside : (sets spans : List (Ends VersionValue)) → sets ≡ spans → (v : VersionValue)
-      → AdmitsBeyond all sets v ↔ IsOutside spans v
-  beyond-outside sets spans is v = (
-    λ beyond.
-        let release : ¬ IsPrerelease v = all-release v (subst (λ r. RangeAdmits r v) is_all beyond.admitted) in
-        record {
-          release = release;
-          outside = λ contains. beyond.turned_away
-              (subst (λ r. RangeAdmits r v) (sym is) (contained-admitted spans v release contains));
-        },
-    λ outside. record {
-      admitted = subst (λ r. RangeAdmits r v) (sym is_all) (all-admitted v outside.release);
-      turned_away = λ admits. outside.outside (subst (λ r. RangeContains r v) is (admitted-contained sets v admits));
-    },
-  )
-
   -- the difference of all versions and a range has the releases that the range does not admit
   pub difference-releases : (range sets : List (Ends VersionValue)) (answer : Option (List (Ends VersionValue)))
       → sets ≡ sets_of_answer answer
@@ -95,7 +68,7 @@ module _ (all : List (Ends VersionValue)) (is_all : all ≡ all_cuts ∷ []) whe
 -- ---- up to a version
 
 -- the order that is computed is that of SemVer
-cmp-means : (v w : VersionValue) → OrderMeans v w (version_cmp v w)
+pub cmp-means : (v w : VersionValue) → OrderMeans v w (version_cmp v w)
 cmp-means v w = record {
   below = (Less-version v w, version-Less v w);
   same = (Equal-version v w, version-Equal v w);

@@ -1,59 +1,18 @@
--- The spans of versions that are not offered, one advisory after another.
-use Rattle.std.proofs.Common.{◌≡◌, ◌↔◌, ◌<◌, ◌+◌, ◌≤◌, ℕ, List, [], ◌∷◌, ◌++◌, get_or, inl, inr, length, refl, sym}
+-- The spans of the versions that advisories are about, one after another, and of the releases that ranges do not admit.
+use Rattle.std.proofs.Common.{◌≡◌, ◌↔◌, ◌<◌, ◌+◌, ◌≤◌, ℕ, List, [], ◌∷◌, ◌++◌, get_or, inl, inr, length, sym}
 use Rattle.std.proofs.Common.{subst, take}
 use Rattle.std.proofs.lemmas.List.{take_all, take_more}
 use Rattle.std.specs.List.{AllByRecursion}
-use Rattle.std.specs.Prelude.{◌≢◌, ◌⊎◌}
-use Rattle.semver_cuts.specs.Ends.{Ends, span_between}
-use Rattle.semver_cuts.specs.Lemmas.Lists.{all-append, any-either, any-left, any-right}
-use Rattle.semver_cuts.specs.declared.cut.Cut.TheVariants.{After, Start}
+use Rattle.semver_cuts.specs.Ends.{Ends}
+use Rattle.semver_cuts.specs.Lemmas.Lists.{any-either, any-left, any-right}
 use Rattle.node_semver.specs.RangeAlgebra.{sets_of_answer}
-use Rattle.node_semver.specs.Ranges.{IsInside, IsRangeEnd, IsRangeSet, IsRangeValue, RangeAdmits, RangeContains}
-use Rattle.node_semver.specs.Versions.{IsBelow, IsPrerelease, VersionValue}
+use Rattle.node_semver.specs.Ranges.{IsInside, IsRangeSet, RangeAdmits, RangeContains}
+use Rattle.node_semver.specs.Versions.{IsPrerelease, VersionValue}
 use Rattle.npm_advisories.specs.Private.OsvReading.{Have}
-use Rattle.npm_advisories.specs.Private.Spans.{Contain, IsInRange}
+use Rattle.npm_advisories.specs.Private.Spans.{IsInRange}
 use Rattle.npm_advisories.specs.declared.advisory.Advisory.{Advisory}
-use Rattle.npm_advisories.proofs.OsvSpans.{have-either, have-more}
-use Rattle.npm_advisories.proofs.Releases.{admitted-contained, contained-admitted, contains-or_not, up-to}
-
--- a list with elements stays one with more behind it
-some-more : {A : Type 0} (xs ys : List A) → xs ≢ [] → (xs ++ ys) ≢ []
-some-more [] ys some = absurd (some refl)
-some-more (x ∷ xs) ys some = λ is. absurd (cc)
-
--- the sets of two ranges, one after the other
-pub value-more : (old more : List (Ends VersionValue)) → IsRangeValue old
-    → AllByRecursion IsRangeSet more → IsRangeValue (old ++ more)
-value-more old more is each = record {
-  some = some-more old more is.some;
-  each = all-append IsRangeSet old more is.each each;
-}
-
-module _ (version : VersionValue) where
-  -- the versions of the spans after the first advisories
-  abbrev pub Had : List Advisory → VersionValue → Type 0
-  Had advisories v = (¬ IsBelow version v) ⊎ IsInRange advisories v
-
-  -- the span up to the version
-  up-to-span : IsRangeEnd version → Have (span_between Start (After version) ∷ []) (λ v. ¬ IsBelow version v)
-  up-to-span end = record {
-    each = (record { holds = (Start, record { lower = inr refl; upper = refl }); lower = tt; upper = end }, tt);
-    exact = λ v. (
-      λ contains. elim contains [
-        | inl here ↦ (up-to version v).0 here
-        | inr there ↦ absurd there
-      ],
-      λ not. inl ((up-to version v).1 not),
-    );
-  }
-
-  -- and behind it the sets of the advisories
-  pub with-sets : (advisories : List Advisory) (sets : List (Ends VersionValue)) → IsRangeEnd version
-      → Have sets (IsInRange advisories) → Contain (span_between Start (After version) ∷ sets) (Had advisories)
-  with-sets advisories sets end have =
-      let both = have-either (λ v. ¬ IsBelow version v) (IsInRange advisories) (span_between Start (After version) ∷ [])
-      sets (up-to-span end) have in
-      record { holds = record { some = λ is. absurd (cc); each = both.each }; exact = both.exact }
+use Rattle.npm_advisories.proofs.OsvSpans.{have-more}
+use Rattle.npm_advisories.proofs.Releases.{admitted-contained, contained-admitted, contains-or_not}
 
 -- ---- the sets of advisories
 

@@ -1,5 +1,6 @@
--- The versions that advisories are about, by names.
-use Rattle.std.proofs.Common.{◌≡◌, ◌↔◌, ℕ, List, Bool, true, false, cond, Option, Some, IsTrue, bytes_eq, not, refl, subst}
+-- All versions that advisories are about, by names.
+use Rattle.std.proofs.Common.{◌≡◌, ℕ, List, [], Bool, true, false, cond, Option, Some, None, IsSome, IsTrue, bytes_eq}
+use Rattle.std.proofs.Common.{not, refl, subst}
 use Rattle.std.proofs.lemmas.Slice.Eq.{bytes_eq-Decides}
 use Rattle.std.specs.Option.{MatchOption}
 use Rattle.semver_cuts.specs.Ends.{Ends}
@@ -8,6 +9,9 @@ use Rattle.node_semver.specs.Ranges.{RangeContains}
 use Rattle.node_semver.specs.Versions.{VersionValue}
 use Rattle.npm_advisories.specs.Private.Index.{at_name}
 use Rattle.npm_advisories.specs.Private.Spans.{IsInRange}
+use Rattle.npm_advisories.specs.Private.Unions.{IsUnion}
+use Rattle.npm_advisories.specs.declared.advisory.Advisory.{Advisory}
+use Rattle.npm_advisories.specs.declared.unions.Union.{Union}
 use Rattle.npm_advisories.specs.declared.index.Index.{Index}
 
 -- a test is not true and false
@@ -15,28 +19,48 @@ pub not-both : (b : Bool) → IsTrue (not b) → IsTrue b → ⊥
 not-both true other is = let no : false ≡ true = other in cc no
 not-both false other is = let no : false ≡ true = is in cc no
 
+-- a version outside the union is one that no advisory is about
+pub spared : (advisories : List Advisory) (union : Union) (all : Option (List (Ends VersionValue))) → IsUnion advisories union
+    → union.all ≡ all → (v : VersionValue) → ¬ RangeContains (sets_of_answer all) v → ¬ IsInRange advisories v
+spared advisories union all is at v not hit =
+    not (subst (λ a. RangeContains (sets_of_answer a) v) at ((is.all v).1 hit))
+
 module _ (index : Index) where
-  -- these are the versions that the advisories about the package with this name are about
-  abbrev pub IsUnion : (name : List ℕ) → Option (List (Ends VersionValue)) → Type 0
-  IsUnion name all = (v : VersionValue) → RangeContains (sets_of_answer all) v ↔ IsInRange (at_name index name) v
+  -- the union at a name, if there is one, is that of the advisories about this package
+  abbrev pub IsUnionAt : (name : List ℕ) → Option Union → Type 0
+  IsUnionAt name at = MatchOption at (Unit {0}) (IsUnion (at_name index name))
 
-  -- what there is at a name, if anything is, are these versions
-  abbrev pub IsUnionAt : (name : List ℕ) → Option (Option (List (Ends VersionValue))) → Type 0
-  IsUnionAt name at = MatchOption at (Unit {0}) (IsUnion name)
+  abbrev pub IsKnownAt : (name : List ℕ) → Option Union → Type 0
+  IsKnownAt name at = MatchOption at (at_name index name ≡ []) (IsUnion (at_name index name))
 
-  -- what lies outside these versions is hit by none
-  pub spared-at : (name : List ℕ) (v : VersionValue) (at : Option (Option (List (Ends VersionValue))))
-      (all : Option (List (Ends VersionValue))) → at ≡ Some all → IsUnionAt name at
-      → ¬ RangeContains (sets_of_answer all) v → ¬ IsInRange (at_name index name) v
-  spared-at name v at all is union not hit =
-      let same = subst (IsUnionAt name) is union in
-      not ((same v).1 hit)
-
-  -- those of one name more
-  pub union-more : (here name : List ℕ) (all : Option (List (Ends VersionValue)))
-      (old new : Option (Option (List (Ends VersionValue)))) → IsUnion here all → IsUnionAt name old
-      → new ≡ cond (bytes_eq here name) (Some all) old → IsUnionAt name new
-  union-more here name all old new is before e = rw e (by_test (bytes_eq here name) refl) where
-    by_test : (same : Bool) → bytes_eq here name ≡ same → IsUnionAt name (cond same (Some all) old)
-    by_test true same = subst (λ n. IsUnion n all) ((bytes_eq-Decides here name).0 same) is
+  -- one name more
+  pub union-more : (here name : List ℕ) (union : Union) (old new : Option Union) → IsUnion (at_name index here) union
+      → IsUnionAt name old → new ≡ cond (bytes_eq here name) (Some union) old → IsUnionAt name new
+  union-more here name union old new is before e = rw e (by_test (bytes_eq here name) refl) where
+    by_test : (same : Bool) → bytes_eq here name ≡ same → IsUnionAt name (cond same (Some union) old)
+    by_test true same = subst (λ n. IsUnion (at_name index n) union) ((bytes_eq-Decides here name).0 same) is
     by_test false same = before
+
+  -- and it is there
+  pub union-here : (name : List ℕ) (union : Union) (old new : Option Union) → IsUnion (at_name index name) union
+      → new ≡ cond (bytes_eq name name) (Some union) old → IsKnownAt name new
+  union-here name union old new is e =
+      rw (e, (bytes_eq-Decides name name).1 refl) is
+
+  -- a union that is there is known
+  pub known-some : (name : List ℕ) (at : Option Union) → IsSome at → IsUnionAt name at → IsKnownAt name at
+  known-some name (Some union) some is = is
+  known-some name None some is = absurd (cc some)
+
+  -- and so is one that no advisories have
+  pub known-none : (name : List ℕ) (at : Option Union) → at_name index name ≡ [] → IsUnionAt name at → IsKnownAt name at
+  known-none name (Some union) none is = is
+  known-none name None none is = none
+
+  -- what is known of a union that is there, and where none is
+  pub known-union : (name : List ℕ) (at : Option Union) (union : Union) → at ≡ Some union → IsKnownAt name at
+      → IsUnion (at_name index name) union
+  known-union name at union is known = subst (IsKnownAt name) is known
+
+  pub known-empty : (name : List ℕ) (at : Option Union) → at ≡ None → IsKnownAt name at → at_name index name ≡ []
+  known-empty name at is known = subst (IsKnownAt name) is known

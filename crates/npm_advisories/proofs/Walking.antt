@@ -6,6 +6,7 @@ use Rattle.serde_json.specs.Data.{Data, Items, item, no_items}
 use Rattle.serde_json.specs.View.{items_view, view}
 use Rattle.serde_json.specs.declared.value.Value.{Value}
 use Rattle.npm_advisories.specs.Faults.{FaultValue}
+use Rattle.npm_advisories.specs.Ids.{id_in}
 use Rattle.npm_advisories.specs.OsvFaults.{first_fault, osv_fault, osv_list_fault, told_name}
 use Rattle.npm_advisories.specs.Private.Reading.{IsErrorOf, IsUnreadAs, at_place}
 use Rattle.npm_advisories.specs.Private.VersionTest.{is_version}
@@ -42,7 +43,8 @@ module _ (entries : List Value) (i : ℕ) (one : Value) (lt : i < length entries
       before ∙ ap (osv_list_fault is_version is_wanted i) (left [] entries i one lt is_at) ∙ (rw none refl)
 
   pub osv-found : (is_wanted : List ℕ → Bool) (whole : Option FaultValue) (error : AuditError)
-      → IsErrorOf (at_place (told_name is_wanted (view one)) i (osv_fault is_version is_wanted (view one))) error
+      → IsErrorOf (at_place (told_name is_wanted (view one)) i (id_in (view one))
+      (osv_fault is_version is_wanted (view one))) error
       → whole ≡ osv_list_fault is_version is_wanted i (items_view (drop i entries)) → IsErrorOf whole error
   osv-found is_wanted whole (Errors.Refused at) is before =
       before ∙ ap (osv_list_fault is_version is_wanted i) (left [] entries i one lt is_at) ∙ (rw is refl)

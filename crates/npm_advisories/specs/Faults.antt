@@ -7,16 +7,22 @@ use Rattle.serde_json.specs.Data.{Data, Items, Members, item, member, no_items, 
 use Rattle.serde_json.specs.Find.{as_array, as_null, as_number, as_object, as_str, get}
 use Rattle.npm_semver.specs.NpmRanges.{alternatives_of, with_plain_spaces}
 use Rattle.npm_advisories.specs.Advisories.{advisory_options, npm_range_text}
+use Rattle.npm_advisories.specs.Ids.{IdValue, id_in, id_value}
 use Rattle.npm_advisories.specs.declared.fault.Fault.{Fault}
 use Rattle.npm_advisories.specs.declared.fault.FaultKind.{FaultKind}
 use Rattle.npm_advisories.specs.declared.fault.FaultKind.TheVariants as Faults
 
 -- What is wrong, and with which advisory. In npm's form this is the name that it stands under, and its place in the
--- list there, from 0; in OSV's form the first installed package that it is about, or the empty name, and its place in the list
+-- list there, from 0; in OSV's form the first installed package that it is about, or the empty name, and its place in the list.
+-- A file or a list that is none has no `id`
 pub record FaultValue : Type 0 where
   pub kind : FaultKind
   pub name : List ℕ
   pub place : ℕ
+  pub id : Option IdValue
+
+abbrev pub fault_at : (name : List ℕ) → (place : ℕ) → Option IdValue → FaultKind → FaultValue
+fault_at name place id kind = record { kind = kind; name = name; place = place; id = id }
 
 -- ---- one advisory
 
@@ -62,14 +68,14 @@ npm_fault entry = if is_some (as_object entry) then option_or (about_fault entry
 abbrev pub list_fault : (name : List ℕ) → (place : ℕ) → Items → Option FaultValue
 list_fault name place no_items = None
 list_fault name place (item entry others) = option_or
-    (option_map (λ kind. record { kind = kind; name = name; place = place }) (npm_fault entry))
+    (option_map (fault_at name place (id_in entry)) (npm_fault entry))
     (list_fault name (place + 1) others)
 
 module _ (is_wanted : List ℕ → Bool) where
   -- the first fault of the advisories under a name. Those under a name that is not wanted are not read
   abbrev pub member_fault : (name : List ℕ) → (list : Data) → Option FaultValue
   member_fault name list = if is_wanted name then option_map_or (list_fault name 0) (as_array list)
-      (Some (record { kind = Faults.List; name = name; place = 0 })) else None
+      (Some (fault_at name 0 None Faults.List)) else None
 
   -- the first fault of an object that has a list for each name
   abbrev pub members_fault : Members → Option FaultValue
@@ -79,10 +85,10 @@ module _ (is_wanted : List ℕ → Bool) where
   -- the fault of a file in npm's form, if it has one
   abbrev pub npm_file_fault : (file : Data) → Option FaultValue
   npm_file_fault file = option_map_or members_fault (as_object file)
-      (Some (record { kind = Faults.File; name = []; place = 0 }))
+      (Some (fault_at [] 0 None Faults.File))
 
 -- ---- as a contract sees it
 
 -- the fault of an advisory
 abbrev pub fault_value : Fault → FaultValue
-fault_value fault = record { kind = fault.kind; name = fault.name.now; place = fault.place }
+fault_value fault = fault_at fault.name.now fault.place (option_map id_value fault.id) fault.kind

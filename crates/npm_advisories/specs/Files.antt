@@ -5,7 +5,8 @@ use Rattle.std.specs.Option.{option_map_or}
 use Rattle.serde_json.specs.Data.{Data}
 use Rattle.serde_json.specs.Find.{as_array, as_object}
 use Rattle.npm_advisories.specs.Advisories.{AdvisoryValue, npm_members, text_of}
-use Rattle.npm_advisories.specs.Faults.{FaultValue, fault_value, npm_file_fault}
+use Rattle.npm_advisories.specs.Faults.{FaultValue, fault_at, fault_value, npm_file_fault}
+use Rattle.npm_advisories.specs.Ids.{id_in}
 use Rattle.npm_advisories.specs.OsvFaults.{IsVersionTest, osv_fault, osv_list_fault, told_name}
 use Rattle.npm_advisories.specs.OsvForm.{osv_advisories, osv_list}
 use Rattle.npm_advisories.specs.declared.fault.AuditError.{AuditError}
@@ -25,7 +26,7 @@ advisories_of file = option_map_or osv_list (as_array file)
 -- place of the advisory in a list, and for one OSV object the place 0
 abbrev pub file_fault : (is_version is_wanted : List ℕ → Bool) → (file : Data) → Option FaultValue
 file_fault is_version is_wanted file = option_map_or (osv_list_fault is_version is_wanted 0) (as_array file)
-    (if is_osv file then option_map (λ kind. record { kind = kind; name = told_name is_wanted file; place = 0 })
+    (if is_osv file then option_map (fault_at (told_name is_wanted file) 0 (id_in file))
     (osv_fault is_version is_wanted file) else npm_file_fault is_wanted file)
 
 -- the name is one of these

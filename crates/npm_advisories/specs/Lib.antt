@@ -6,6 +6,7 @@
 pub mod Severities  -- how severe an advisory is
 pub mod OsvRanges  -- which versions the ranges of OSV's form have
 pub mod Advisories  -- what an advisory says, and which versions it is about; npm's form
+pub mod Ids  -- what an error calls an advisory
 pub mod Faults  -- which values are no advisories in npm's form
 pub mod OsvForm  -- OSV's form
 pub mod OsvFaults  -- which values are no advisories in OSV's form

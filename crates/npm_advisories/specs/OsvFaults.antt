@@ -8,7 +8,8 @@ use Rattle.serde_json.specs.Data.{Data, Items, item, no_items}
 use Rattle.serde_json.specs.Find.{as_array, as_null, as_object, get}
 use Rattle.node_semver.specs.Versions.{IsVersionText, VersionValue}
 use Rattle.npm_advisories.specs.Advisories.{text_of}
-use Rattle.npm_advisories.specs.Faults.{FaultValue, text_fault}
+use Rattle.npm_advisories.specs.Faults.{FaultValue, fault_at, text_fault}
+use Rattle.npm_advisories.specs.Ids.{id_in}
 use Rattle.npm_advisories.specs.OsvForm.{event_of, has_versions, is_ordered, is_withdrawn, items_at, npm_name}
 use Rattle.npm_advisories.specs.OsvRanges.{EventValue, fixed, introduced, last_affected, limit}
 use Rattle.npm_advisories.specs.declared.fault.FaultKind.{FaultKind}
@@ -132,5 +133,5 @@ module _ (is_version is_wanted : List ℕ → Bool) where
   abbrev pub osv_list_fault : (place : ℕ) → Items → Option FaultValue
   osv_list_fault place no_items = None
   osv_list_fault place (item entry others) = option_or
-      (option_map (λ kind. record { kind = kind; name = told_name is_wanted entry; place = place }) (osv_fault entry))
+      (option_map (fault_at (told_name is_wanted entry) place (id_in entry)) (osv_fault entry))
       (osv_list_fault (place + 1) others)

@@ -2,7 +2,8 @@ pub mod Reading  -- the value of an advisory
 pub mod VersionTest  -- the test for version texts
 pub mod OsvReading  -- the value of an element of OSV's `affected`
 pub mod Index  -- the advisories by name
-pub mod Spans  -- spans of versions that are not offered
+pub mod Spans  -- the versions that advisories are about
+pub mod Covering  -- releases that spans contain
 pub mod Unions  -- all versions that advisories are about
 pub mod Offering  -- the versions that are offered
 pub mod Auditing  -- the value of an installed package

@@ -3,6 +3,7 @@ ghost use Rattle.std.specs.Prelude.{◌≡◌};
 ghost use Rattle.npm_advisories.specs.declared.fault.AuditError.TheVariants as Errors;
 ghost use Rattle.npm_advisories.specs.declared.fault.Unread.TheVariants as Unreads;
 
+use crate::id::AdvisoryId;
 use std::alloc::AllocError;
 use thiserror::Error;
 
@@ -74,6 +75,9 @@ pub struct Fault<'v> {
     pub name: &'v str,
     /// The place of the advisory in the list under that name, or in the list of OSV objects, from 0.
     pub place: usize,
+    /// The `id` of the advisory, if it is a whole number or a string, or else its `url`, if that is a string. `None` for a file
+    /// or a list that is none.
+    pub id: Option<AdvisoryId<'v>>,
 }
 
 /// Why there is no audit.

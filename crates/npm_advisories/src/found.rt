@@ -1,5 +1,5 @@
 //! The audit of installed packages.
-ghost use Rattle.std.specs.Prelude.{◌≡◌, List, IfErr, IfOk, IsTrue, None, OnOk, Option, map};
+ghost use Rattle.std.specs.Prelude.{◌≡◌, List, IfErr, IfOk, None, OnOk, Option, map};
 ghost use Rattle.std.specs.List.{AllZip};
 ghost use Rattle.std.specs.Option.{MatchOption};
 ghost use Rattle.serde_json.specs.View.{view};
@@ -12,9 +12,7 @@ ghost use Rattle.npm_advisories.specs.Files.{IsAuditError, IsFileFault, advisori
 ghost use Rattle.npm_advisories.specs.Private.Auditing.{IsFoundOf};
 ghost use Rattle.npm_advisories.specs.Private.Index.{IsIndex, at_name};
 ghost use Rattle.npm_advisories.specs.Private.Reading.{IsAdvisory};
-ghost use Rattle.npm_advisories.specs.Private.Spans.{IsPast};
-ghost use Rattle.npm_advisories.specs.Private.Unions.{AreUnions};
-ghost use Rattle.npm_advisories.specs.declared.index.Index.{Index};
+ghost use Rattle.npm_advisories.specs.Private.Unions.{IsKnown};
 
 use crate::Result;
 use crate::advisory::About;
@@ -124,7 +122,7 @@ fn found_of<'f, 'v>(
     level: Severity,
     installed: &Installed<'v>,
 ) -> Result<Option<Found<'f, 'v>>>
-    requires { AreUnions index.now unions.now }
+    requires { IsKnown index.now unions.now installed.now.name.now }
     ensures { IfOk result (λ found. (values : List AdvisoryValue)
         → AllZip IsAdvisory (about_name installed.now.name.now values) (at_name index.now installed.now.name.now)
         → MatchOption found
@@ -134,15 +132,18 @@ fn found_of<'f, 'v>(
     let Some(advisories) = index.at(installed.name) else {
         return Ok(None);
     };
+    let Some(union) = unions.at(installed.name) else {
+        return Ok(None);
+    };
     let version = read_version(installed.version);
-    if are_past(unions, installed.name, &version) {
+    if union.spares(&version) {
         return Ok(None);
     }
     let hits = hits_of(alloc, advisories, level, &version)?;
     if hits.as_slice().is_empty() {
         return Ok(None);
     }
-    let offer = offer_above(alloc, &version, advisories, &installed.asked)?;
+    let offer = offer_above(alloc, &version, union.covered(), &installed.asked)?;
     Ok(Some(Found {
         folder: installed.folder,
         name: installed.name,
@@ -165,16 +166,5 @@ fn read_version(text: &str) -> Option<VersionRef<'_>>
     match VersionRef::parse(text) {
         Ok(version) => Some(version),
         Err(_) => None,
-    }
-}
-
-/// Returns `true` if it is known that no advisory about the package is about the version. Of one that is not read nothing is known.
-fn are_past(unions: &Unions<'_>, name: &str, version: &Option<VersionRef<'_>>) -> bool
-    ensures { (index : Index) → AreUnions index unions.now → IsTrue result
-        → IsPast (at_name index name.now) version.now }
-{
-    match version {
-        Some(version) => unions.spare(name, version),
-        None => false,
     }
 }

@@ -2,9 +2,11 @@
 #![tactic(auto)]
 
 mod advisory;
+mod covered;
 mod fault;
 mod found;
 mod hits;
+mod id;
 mod index;
 mod json;
 mod lock;
@@ -14,6 +16,7 @@ mod names;
 mod offer;
 mod osv;
 mod read;
+mod release;
 mod severity;
 mod spans;
 mod unions;
@@ -21,6 +24,7 @@ mod unions;
 pub use advisory::About;
 pub use fault::{AuditError, Fault, FaultKind};
 pub use found::{Found, Installed, audit};
+pub use id::AdvisoryId;
 pub use lock::{LockError, audit_lock};
 pub use severity::Severity;
 

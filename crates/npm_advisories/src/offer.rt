@@ -2,15 +2,17 @@
 //!
 //! See docs/DECISIONS.md, "The versions that are offered are releases".
 ghost use Rattle.std.specs.Prelude.{◌≡◌, IfOk, map};
-ghost use Rattle.node_semver.specs.Ranges.{IsRangeEnd, IsRangeValue};
-ghost use Rattle.node_semver.specs.Versions.{least_of};
+ghost use Rattle.node_semver.specs.Ranges.{IsRangeEnd};
+ghost use Rattle.node_semver.specs.Versions.{IsPlain, least_of};
 ghost use Rattle.npm_advisories.specs.Audit.{version_or_least};
 ghost use Rattle.npm_advisories.specs.Offers.{IsLeastOrNone};
-ghost use Rattle.npm_advisories.specs.Private.Offering.{IsAdmittedOutside, IsUnhitBy, IsAdmittedBy};
+ghost use Rattle.npm_advisories.specs.Private.Covering.{AreSteps, IsAdmittedFrom};
+ghost use Rattle.npm_advisories.specs.Private.Offering.{IsUnhitBy, IsAdmittedBy};
 
 use crate::Result;
-use crate::advisory::Advisory;
-use crate::spans::{add_outside, joined, least_outside, spans_of};
+use crate::covered::{covered_by, least_free, least_free_of_both};
+use crate::release::release_above;
+use crate::spans::add_outside;
 use node_semver::{Version, VersionRef};
 use semver_cuts::Span;
 use std::alloc::Global;
@@ -22,22 +24,23 @@ pub(crate) struct Offer {
     pub(crate) admitted: Option<Version>,
 }
 
-/// The versions that are offered above this one, or above 0.0.0-0.
+/// The versions that are offered above this one, or above 0.0.0-0: none of those that are covered.
 pub(crate) fn offer_above(
     alloc: Global,
     version: &Option<VersionRef<'_>>,
-    advisories: &[Advisory<'_>],
+    covered: &[Span<Version>],
     asked: &[&str],
 ) -> Result<Offer>
-    requires { IsRangeEnd (version_or_least version.now) }
+    requires end { IsRangeEnd (version_or_least version.now) }
+    requires covered { AreSteps covered.now }
     ensures least { IfOk result (λ offer.
-        IsLeastOrNone (IsUnhitBy advisories.now (version_or_least version.now)) offer.least) }
+        IsLeastOrNone (IsUnhitBy covered.now (version_or_least version.now)) offer.least) }
     ensures admitted { IfOk result (λ offer. IsLeastOrNone
-        (IsAdmittedBy advisories.now (map (λ text. text.now) asked.now) (version_or_least version.now)) offer.admitted) }
+        (IsAdmittedBy covered.now (map (λ text. text.now) asked.now) (version_or_least version.now)) offer.admitted) }
 {
     match version {
-        Some(version) => offer_of(alloc, version, advisories, asked),
-        None => offer_of(alloc, &least_version(), advisories, asked),
+        Some(version) => offer_of(alloc, version, covered, asked),
+        None => offer_of(alloc, &least_version(), covered, asked),
     }
 }
 
@@ -55,34 +58,38 @@ fn least_version() -> VersionRef<'static>
 fn offer_of(
     alloc: Global,
     version: &VersionRef<'_>,
-    advisories: &[Advisory<'_>],
+    covered: &[Span<Version>],
     asked: &[&str],
 ) -> Result<Offer>
-    requires { IsRangeEnd version.now }
-    ensures least { IfOk result (λ offer. IsLeastOrNone (IsUnhitBy advisories.now version.now) offer.least) }
+    requires end { IsRangeEnd version.now }
+    requires covered { AreSteps covered.now }
+    ensures least { IfOk result (λ offer. IsLeastOrNone (IsUnhitBy covered.now version.now) offer.least) }
     ensures admitted { IfOk result (λ offer. IsLeastOrNone
-        (IsAdmittedBy advisories.now (map (λ text. text.now) asked.now) version.now) offer.admitted) }
+        (IsAdmittedBy covered.now (map (λ text. text.now) asked.now) version.now) offer.admitted) }
 {
-    let spans = joined(alloc, spans_of(alloc, version, advisories)?)?;
-    let least = least_outside(alloc, &spans)?;
-    let admitted = least_admitted(alloc, spans, asked)?;
+    let next = release_above(alloc, &version.to_version(alloc)?);
+    let least = least_free(alloc, covered, &next);
+    let admitted = least_admitted(alloc, covered, next, asked)?;
     Ok(Offer { least, admitted })
 }
 
-/// The least release that lies in none of the spans and that each of the range texts admits.
+/// The least release from this one on that is not covered and that each of the range texts admits.
 fn least_admitted(
     alloc: Global,
-    spans: Vec<Span<Version>>,
+    covered: &[Span<Version>],
+    from: Version,
     asked: &[&str],
 ) -> Result<Option<Version>>
-    requires { IsRangeValue spans.items }
-    ensures { IfOk result (IsLeastOrNone (IsAdmittedOutside spans.items (map (λ text. text.now) asked.now))) }
+    requires covered { AreSteps covered.now }
+    requires from { IsPlain from }
+    ensures { IfOk result (IsLeastOrNone (IsAdmittedFrom covered.now (map (λ text. text.now) asked.now) from)) }
 {
-    let mut spans = spans;
+    let mut outside = Vec::new(alloc);
     for text in asked {
-        if !add_outside(alloc, &mut spans, text)? {
+        if !add_outside(alloc, &mut outside, text)? {
             return Ok(None);
         }
     }
-    least_outside(alloc, &joined(alloc, spans)?)
+    let unasked = covered_by(alloc, &outside)?;
+    Ok(least_free_of_both(alloc, covered, &unasked, from))
 }

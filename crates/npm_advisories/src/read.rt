@@ -6,6 +6,7 @@ ghost use Rattle.serde_json.specs.View.{items_view, view};
 ghost use Rattle.npm_advisories.specs.Advisories.{npm_list, npm_members};
 ghost use Rattle.npm_advisories.specs.Faults.{list_fault, member_fault, npm_file_fault};
 ghost use Rattle.npm_advisories.specs.Files.{advisories_of, file_fault};
+ghost use Rattle.npm_advisories.specs.Ids.{id_in, id_value};
 ghost use Rattle.npm_advisories.specs.OsvFaults.{osv_fault, osv_list_fault, told_name};
 ghost use Rattle.npm_advisories.specs.OsvForm.{osv_advisories, osv_list};
 ghost use Rattle.npm_advisories.specs.Private.Index.{Adds, IsIndex, has_name};
@@ -15,6 +16,7 @@ ghost use Rattle.npm_advisories.specs.Private.VersionTest.{is_version};
 use crate::Result;
 use crate::advisory::npm_advisory;
 use crate::fault::{AuditError, Fault, FaultKind, Unread};
+use crate::id::{AdvisoryId, id_in};
 use crate::index::Index;
 use crate::member::text_at;
 use crate::names::Names;
@@ -85,11 +87,11 @@ fn add_osv_at<'v>(
 ) -> Result<(), AuditError<'v>>
     ensures read { OnOk result (Adds (has_name names.now) index.old index.new (osv_advisories (view entry.now))) }
     ensures sound { OnOk result (osv_fault is_version (has_name names.now) (view entry.now) ≡ None) }
-    ensures refused { IfErr result (IsErrorOf (at_place (told_name (has_name names.now) (view entry.now)) place (osv_fault is_version (has_name names.now) (view entry.now)))) }
+    ensures refused { IfErr result (IsErrorOf (at_place (told_name (has_name names.now) (view entry.now)) place (id_in (view entry.now)) (osv_fault is_version (has_name names.now) (view entry.now)))) }
 {
     match add_osv(alloc, index, names, entry) {
         Ok(()) => Ok(()),
-        Err(unread) => Err(error_at(unread, told_name(names, entry), place)),
+        Err(unread) => Err(error_at(unread, told_name(names, entry), place, id_in(entry))),
     }
 }
 
@@ -105,7 +107,7 @@ fn add_npm<'v>(
     ensures refused { IfErr result (IsErrorOf (npm_file_fault (has_name names.now) (view file.now))) }
 {
     let Some(members) = file.as_object() else {
-        return Err(error_at(Unread::Refused(FaultKind::File), "", 0));
+        return Err(error_at(Unread::Refused(FaultKind::File), "", 0, None));
     };
     for (name, list) in members.iter() {
         read_member(alloc, index, names, name.as_str(), list)?;
@@ -131,7 +133,7 @@ fn read_member<'v>(
     }
     match list.as_array() {
         Some(entries) => read_list(alloc, index, name, entries.as_slice()),
-        None => Err(error_at(Unread::Refused(FaultKind::List), name, 0)),
+        None => Err(error_at(Unread::Refused(FaultKind::List), name, 0, None)),
     }
 }
 
@@ -149,18 +151,28 @@ fn read_list<'v>(
     for place in 0..entries.len() {
         match npm_advisory(alloc, name, &entries[place]) {
             Ok(advisory) => index.add(alloc, advisory)?,
-            Err(unread) => return Err(error_at(unread, name, place)),
+            Err(unread) => return Err(error_at(unread, name, place, id_in(&entries[place]))),
         }
     }
     Ok(())
 }
 
 /// The error of an advisory that is not read.
-fn error_at<'v>(unread: Unread, name: &'v str, place: usize) -> AuditError<'v>
-    ensures { IsErrorAt unread name.now place result }
+fn error_at<'v>(
+    unread: Unread,
+    name: &'v str,
+    place: usize,
+    id: Option<AdvisoryId<'v>>,
+) -> AuditError<'v>
+    ensures { IsErrorAt unread name.now place (option_map id_value id.entry) result }
 {
     match unread {
-        Unread::Refused(kind) => AuditError::Refused(Fault { kind, name, place }),
+        Unread::Refused(kind) => AuditError::Refused(Fault {
+            kind,
+            name,
+            place,
+            id,
+        }),
         Unread::Memory => AuditError::Memory,
     }
 }

@@ -1,25 +1,64 @@
-//! All versions that advisories are about, so that a package that none of them hits is passed by one search.
-ghost use Rattle.std.specs.Prelude.{◌≡◌, ◌↔◌, IfOk, IsTrue, OnOk};
-ghost use Rattle.node_semver.specs.RangeAlgebra.{sets_of_answer};
-ghost use Rattle.node_semver.specs.Ranges.{RangeContains};
-ghost use Rattle.node_semver.specs.Versions.{VersionValue};
-ghost use Rattle.npm_advisories.specs.Private.Index.{at_name};
-ghost use Rattle.npm_advisories.specs.Private.Spans.{IsInRange};
-ghost use Rattle.npm_advisories.specs.Private.Unions.{AreUnions};
+//! All versions that the advisories about one package are about, merged once: copies of the package are searched in them.
+ghost use Rattle.std.specs.Prelude.{◌≡◌, IfOk, IsTrue, List, OnOk, option_map};
+ghost use Rattle.npm_advisories.specs.Private.Spans.{IsPast};
+ghost use Rattle.npm_advisories.specs.Private.Unions.{AreUnions, IsKnown, IsUnion, union_at};
 ghost use Rattle.npm_advisories.specs.declared.index.Index.{Index};
+ghost use Rattle.npm_advisories.specs.declared.advisory.Advisory.{Advisory};
 
 use crate::Result;
 use crate::advisory::Advisory;
+use crate::covered::covered_by;
 use crate::index::Index;
 use crate::spans::sets_of;
-use node_semver::{Range, VersionRef};
+use node_semver::{Range, Version, VersionRef};
+use semver_cuts::Span;
 use std::alloc::Global;
 use std::collections::BTreeMap;
 
-/// By the names of packages, all versions that an advisory about the package is about; `None` if there are none.
+/// All versions that advisories are about.
+#[derive(Drop)]
+pub(crate) struct Union {
+    /// The versions; `None` if there are none.
+    all: Option<Range>,
+    /// The releases among them.
+    covered: Vec<Span<Version>>,
+}
+
+impl Union {
+    /// Those of the advisories of a list.
+    fn of(alloc: Global, advisories: &[Advisory<'_>]) -> Result<Union>
+        ensures { IfOk result (IsUnion advisories.now) }
+    {
+        let sets = sets_of(alloc, advisories)?;
+        let all = Range::from_sets(alloc, &sets)?;
+        let covered = covered_by(alloc, &sets)?;
+        Ok(Union { all, covered })
+    }
+
+    /// Returns `true` if it is known that no advisory is about the version. If the version is not known, nothing is.
+    pub(crate) fn spares(&self, version: &Option<VersionRef<'_>>) -> bool
+        ensures { (advisories : List Advisory) → IsUnion advisories self.now → IsTrue result
+            → IsPast advisories version.now }
+    {
+        match (version, &self.all) {
+            (Some(version), Some(all)) => !all.contains(version),
+            (Some(_), None) => true,
+            (None, _) => false,
+        }
+    }
+
+    /// The releases among the versions, as spans.
+    pub(crate) fn covered(&self) -> &[Span<Version>]
+        ensures { result.now ≡ self.now.covered.items }
+    {
+        &self.covered
+    }
+}
+
+/// The unions by the names of packages.
 #[derive(Drop)]
 pub(crate) struct Unions<'v> {
-    by_name: BTreeMap<&'v str, Option<Range>>,
+    by_name: BTreeMap<&'v str, Union>,
 }
 
 impl<'v> Unions<'v> {
@@ -31,9 +70,10 @@ impl<'v> Unions<'v> {
         }
     }
 
-    /// Adds the versions that the advisories about a package are about, unless they are there.
+    /// Adds the union of the advisories about a package, unless it is there.
     pub(crate) fn add(&mut self, alloc: Global, index: &Index<'_>, name: &'v str) -> Result<()>
-        ensures { OnOk result (AreUnions index.now self.old → AreUnions index.now self.new) }
+        ensures all { OnOk result (AreUnions index.now self.old → AreUnions index.now self.new) }
+        ensures here { OnOk result (AreUnions index.now self.old → IsKnown index.now self.new name.now) }
     {
         if self.by_name.contains_key(name) {
             return Ok(());
@@ -41,28 +81,15 @@ impl<'v> Unions<'v> {
         let Some(advisories) = index.at(name) else {
             return Ok(());
         };
-        let all = union_of(alloc, advisories)?;
+        let all = Union::of(alloc, advisories)?;
         self.by_name.insert(name, all)?;
         Ok(())
     }
 
-    /// Returns `true` if it is known that no advisory about the package is about the version.
-    pub(crate) fn spare(&self, name: &str, version: &VersionRef<'_>) -> bool
-        ensures { (index : Index) → AreUnions index self.now → IsTrue result
-            → ¬ IsInRange (at_name index name.now) version.now }
+    /// The union of the advisories about a package, if it was added.
+    pub(crate) fn at(&self, name: &str) -> Option<&Union>
+        ensures { option_map (λ union. union.now) result ≡ union_at self.now name.now }
     {
-        match self.by_name.get(name) {
-            Some(Some(all)) => !all.contains(version),
-            Some(None) => true,
-            None => false,
-        }
+        self.by_name.get(name)
     }
-}
-
-/// All versions that the advisories are about; `None` if there are none.
-fn union_of(alloc: Global, advisories: &[Advisory<'_>]) -> Result<Option<Range>>
-    ensures { IfOk result (λ all. (v : VersionValue)
-        → RangeContains (sets_of_answer all) v ↔ IsInRange advisories.now v) }
-{
-    Range::from_sets(alloc, &sets_of(alloc, advisories)?)
 }

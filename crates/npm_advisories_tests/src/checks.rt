@@ -1,4 +1,4 @@
-use npm_advisories::{AuditError, Found, Installed, Severity, audit};
+use npm_advisories::{AdvisoryId, AuditError, Fault, Found, Installed, Severity, audit};
 use serde_json::Value;
 use std::alloc::{AllocError, Global};
 
@@ -31,16 +31,24 @@ fn push_value(alloc: Global, text: &mut String, value: &Value) -> Result<(), All
     text.push_str(";")
 }
 
-// The same, or the fault: its kind, name and place.
+// A fault: its kind, name and place, and the id of the advisory, if it has one.
+fn refused_text(alloc: Global, fault: Fault<'_>) -> Option<String> {
+    let (kind, name, place) = (fault.kind, fault.name, fault.place);
+    match fault.id {
+        Some(AdvisoryId::Number(id)) => format!(in alloc; "{kind:?} {name} {place} {id}").ok(),
+        Some(AdvisoryId::Text(id)) => format!(in alloc; "{kind:?} {name} {place} {id}").ok(),
+        None => format!(in alloc; "{kind:?} {name} {place}").ok(),
+    }
+}
+
+// The same, or the fault: its kind, name, place and id.
 fn answer_text(
     alloc: Global,
     answer: Result<Vec<Found<'_, '_>>, AuditError<'_>>,
 ) -> Option<String> {
     match &answer {
         Ok(all) => lines(alloc, all.as_slice()).ok(),
-        Err(AuditError::Refused(fault)) => {
-            format!(in alloc; "{:?} {} {}", fault.kind, fault.name, fault.place).ok()
-        }
+        Err(AuditError::Refused(fault)) => refused_text(alloc, *fault),
         Err(AuditError::Memory) => None,
     }
 }
@@ -59,13 +67,11 @@ pub(crate) fn finds_in(
     )
 }
 
-// The fault of advisories: its kind, its name and its place; nothing if they are read.
+// The fault of advisories: its kind, its name, its place and the id; nothing if they are read.
 fn fault_text(alloc: Global, answer: Result<Vec<Found<'_, '_>>, AuditError<'_>>) -> Option<String> {
     match &answer {
         Ok(_) => Some(String::new(alloc)),
-        Err(AuditError::Refused(fault)) => {
-            format!(in alloc; "{:?} {} {}", fault.kind, fault.name, fault.place).ok()
-        }
+        Err(AuditError::Refused(fault)) => refused_text(alloc, *fault),
         Err(AuditError::Memory) => None,
     }
 }

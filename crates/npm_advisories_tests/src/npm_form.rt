@@ -145,7 +145,7 @@ fn finds_nothing_where_nothing_hits(rt: HostRuntime) {
     }
 }
 
-const FAULTS: [(&str, &str); 19] = [
+const FAULTS: [(&str, &str); 25] = [
     ("{}", ""),
     ("1", "File  0"),
     ("[]", ""),
@@ -158,7 +158,7 @@ const FAULTS: [(&str, &str); 19] = [
     ),
     (
         r#"{"a": [{"id": 1, "vulnerable_versions": "*"}, {"id": 1, "vulnerable_versions": 1}]}"#,
-        "RangeText a 1",
+        "RangeText a 1 1",
     ),
     // An advisory without a range is about all versions.
     (
@@ -168,23 +168,23 @@ const FAULTS: [(&str, &str); 19] = [
     // The error has the first fault: by the order of the names, of the advisories, and of the members.
     (
         r#"{"b": 1, "a": [{"id": 1, "url": 1, "title": 1, "vulnerable_versions": "foo"}, 1]}"#,
-        "Title a 0",
+        "Title a 0 1",
     ),
     (
         r#"{"a": [{"id": 1, "vulnerable_versions": "foo"}]}"#,
-        "Range a 0",
+        "Range a 0 1",
     ),
     (
         r#"{"a": [{"id": 1, "vulnerable_versions": "<1", "severity": 1}]}"#,
-        "Severity a 0",
+        "Severity a 0 1",
     ),
     (
         r#"{"a": [{"id": 1, "vulnerable_versions": "<1", "title": {}}]}"#,
-        "Title a 0",
+        "Title a 0 1",
     ),
     (
         r#"{"a": [{"id": 1, "vulnerable_versions": "<1", "url": []}]}"#,
-        "Url a 0",
+        "Url a 0 1",
     ),
     (
         r#"{"a": [{"id": 1, "vulnerable_versions": "<1", "url": null}]}"#,
@@ -198,9 +198,31 @@ const FAULTS: [(&str, &str); 19] = [
     ),
     (r#"{"": 1, "b": [{"id": 1}, 1], "c": 1}"#, "Advisory b 1"),
     (r#"{"aa": 1, "a": 1}"#, "List a 0"),
+    // The id is a whole number or a string. Without one the error has the address.
+    (
+        r#"{"a": [{"id": "A-1", "severity": 1}]}"#,
+        "Severity a 0 A-1",
+    ),
+    (
+        r#"{"a": [{"id": 1}, {"id": 18446744073709551615, "title": 1}]}"#,
+        "Title a 1 18446744073709551615",
+    ),
+    (r#"{"a": [{"id": -1, "title": 1}]}"#, "Title a 0"),
+    (
+        r#"{"a": [{"id": 1.5, "title": 1, "url": "https://a.example"}]}"#,
+        "Title a 0 https://a.example",
+    ),
+    (
+        r#"{"a": [{"url": "https://a.example"}]}"#,
+        "Id a 0 https://a.example",
+    ),
+    (
+        r#"{"a": [{"id": 1, "title": 1, "url": "https://a.example"}]}"#,
+        "Title a 0 1",
+    ),
 ];
 
-// The texts are no advisories, each for its fault: its kind, name and place. Those with no fault are read.
+// The texts are no advisories, each for its fault: its kind, name, place and id. Those with no fault are read.
 #[test]
 fn refuses_what_are_no_advisories(rt: HostRuntime) {
     for (text, wanted) in &FAULTS {

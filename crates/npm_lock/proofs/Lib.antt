@@ -1,5 +1,6 @@
 pub mod Examples
 pub mod MoreFindings
-pub mod PatternSets
+pub mod PatternLists
+pub mod StarPatterns
 pub mod ProblemTexts
 pub mod Reports

@@ -7,6 +7,8 @@
 mod found_workspace;
 mod lock_file;
 mod outcome;
+mod pattern;
+mod patterns;
 mod problem;
 mod verdict;
 mod workspace;
@@ -17,8 +19,9 @@ pub use npm_packages::{
     CheckError, Dependents, Edge, Fault, check_package, check_specs, edges_of, has_text_version,
     is_link, linked_folders, place_text,
 };
+pub use pattern::is_part;
 pub use problem::{Dependency, Kind, Problem, Problems, Reason, Unchecked};
-pub use workspace::{is_part, workspace_patterns};
+pub use workspace::workspace_patterns;
 
 /// The result of what fails by memory alone, if no other error is named.
 type Result<T, E = std::alloc::AllocError> = std::result::Result<T, E>;

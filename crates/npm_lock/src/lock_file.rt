@@ -16,7 +16,7 @@ ghost use Rattle.npm_packages.specs.Rules.{AreRules};
 use crate::Result;
 use crate::outcome::{add_judgement, engine_problem, judgement_of};
 use crate::problem::Problems;
-use crate::workspace::Patterns;
+use crate::workspace::asker_patterns;
 use node_semver::Version;
 use npm_packages::{
     CheckError, Index, Lock, Package, Rules, asked_of, is_installed, is_link, lock_of,
@@ -84,7 +84,7 @@ fn check_package<'v>(
     problems.add_package(engine_problem(lock.alloc, node, asker)?)?;
     let is_installed = is_installed(asker.folder);
     let outermost = outermost_of(asker.folder);
-    let patterns = Patterns::of_asker(lock.alloc, asker)?;
+    let patterns = asker_patterns(lock.alloc, asker)?;
     let all = asked_of(lock.alloc, asker.member, is_installed)?;
     for (name, asked) in all.iter() {
         let changed = overridden(rules, asker.folder, *name, *asked);

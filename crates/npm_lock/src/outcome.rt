@@ -12,9 +12,10 @@ ghost use Rattle.npm_lock.specs.Private.Patterns.{ArePatternsOf};
 ghost use Rattle.npm_packages.specs.Lookups.{IsOutermostFrom};
 
 use crate::Result;
+use crate::patterns::Patterns;
 use crate::problem::{Dependency, Kind, Problem, Problems, Reason, Unchecked};
 use crate::verdict::{Verdict, is_contained, verdict_of_both};
-use crate::workspace::{Patterns, Workspace, workspace_of};
+use crate::workspace::{Workspace, workspace_of};
 use node_semver::Version;
 use npm_packages::{Asked, Index, Lock, Package};
 use npm_texts::{copied, has_true};

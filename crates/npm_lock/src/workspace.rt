@@ -1,17 +1,16 @@
 //! Which folders are workspaces of the root.
-ghost use Rattle.std.specs.Prelude.{◌≡◌, ◌||◌, ℕ, IfOk, List, OnOk, false, map, option_map, true};
-ghost use Rattle.std.specs.List.{list_any};
+ghost use Rattle.std.specs.Prelude.{◌≡◌, ◌⊎◌, ◌↔◌, ℕ, IfOk, IsTrue, List, OnOk, map, option_map, true};
 ghost use Rattle.serde_json.specs.View.{items_view, view};
 ghost use Rattle.npm_lock.specs.Workspaces as Workspaces;
 ghost use Rattle.npm_lock.specs.Workspaces.{IsWorkspace};
-ghost use Rattle.npm_lock.specs.Private.Patterns.{ArePatternsOf, by_index, has_matched, has_star};
+ghost use Rattle.npm_lock.specs.Private.Patterns.{ArePatternsOf, HasMatched, IsSaid};
 
 use crate::Result;
-use npm_packages::{Package, is_installed, linked_folder};
-use npm_texts::{ends_with, rest_after, without_end};
+use crate::pattern::{is_read_text, pattern_of};
+use crate::patterns::Patterns;
+use npm_packages::{Package, is_installed};
 use serde_json::Value;
 use std::alloc::Global;
-use std::collections::BTreeMap;
 
 /// Whether a folder is a workspace.
 #[derive(Clone, Copy, Debug, PartialEq, Eq, Drop)]
@@ -20,106 +19,6 @@ pub(crate) enum Workspace {
     IsNot,
     /// A pattern is not read here.
     Unread,
-}
-
-/// The patterns of a package, with those of one folder each in a map.
-#[derive(Drop)]
-pub(crate) struct Patterns<'v> {
-    has_unread: bool,
-    /// Folders that are patterns themselves.
-    folders: BTreeMap<&'v str, ()>,
-    /// Patterns with `*` at their end.
-    stars: Vec<&'v str>,
-}
-
-impl<'v> Patterns<'v> {
-    /// The patterns of a package. Only the root has workspaces.
-    pub(crate) fn of_asker(alloc: Global, asker: Package<'v>) -> Result<Patterns<'v>>
-        ensures { IfOk result (ArePatternsOf asker.entry.folder.now (view asker.entry.member.now)) }
-    {
-        if !asker.folder.is_empty() {
-            return Ok(Patterns::none(alloc));
-        }
-        match patterns_of(asker.member) {
-            Some(patterns) => Patterns::of_list(alloc, patterns),
-            None => Ok(Patterns::none(alloc)),
-        }
-    }
-
-    /// No patterns.
-    fn none(alloc: Global) -> Patterns<'v>
-        ensures unread { result.has_unread ≡ false }
-        ensures matched { (folder : List ℕ) → has_matched result folder ≡ false }
-    {
-        Patterns {
-            has_unread: false,
-            folders: BTreeMap::new(alloc),
-            stars: Vec::new(alloc),
-        }
-    }
-
-    /// The patterns of a list.
-    fn of_list(alloc: Global, patterns: &'v [Value]) -> Result<Patterns<'v>>
-        ensures { IfOk result (λ made. (folder : List ℕ)
-            → by_index made folder ≡ Workspaces.by_patterns folder (items_view patterns.now)) }
-    {
-        let mut made = Patterns::none(alloc);
-        for pattern in patterns {
-            made.add(pattern)?;
-        }
-        made.has_unread = has_unread(patterns);
-        Ok(made)
-    }
-
-    /// Adds a pattern.
-    fn add(&mut self, pattern: &'v Value) -> Result<()>
-        ensures { OnOk result ((folder : List ℕ) → has_matched self.new folder
-            ≡ (has_matched self.old folder || Workspaces.is_such (Workspaces.is_matched folder) (view pattern.now))) }
-    {
-        match pattern.as_str() {
-            Some(text) => self.add_pattern(pattern_of(text)),
-            None => Ok(()),
-        }
-    }
-
-    /// Adds the text of a pattern.
-    fn add_pattern(&mut self, pattern: &'v str) -> Result<()>
-        ensures { OnOk result ((folder : List ℕ) → has_matched self.new folder
-            ≡ (has_matched self.old folder || Workspaces.is_matched folder pattern.now)) }
-    {
-        if has_star(pattern) {
-            self.stars.push(pattern)?;
-        } else {
-            self.folders.insert(pattern, ())?;
-        }
-        Ok(())
-    }
-
-    /// Returns `true` if a pattern is that of the folder.
-    fn has_matched(&self, folder: &'v str) -> bool
-        ensures { result ≡ has_matched self.now folder.now }
-    {
-        self.folders.contains_key(&folder) || has_any_matched(folder, &self.stars)
-    }
-}
-
-/// Returns `true` for a pattern with `*` at its end.
-fn has_star(pattern: &str) -> bool
-    ensures { result ≡ has_star pattern.now }
-{
-    ends_with(pattern, "**") || ends_with(pattern, "*")
-}
-
-/// Returns `true` if one of these patterns is that of the folder.
-fn has_any_matched(folder: &str, patterns: &[&str]) -> bool
-    ensures { result ≡ list_any (λ pattern. Workspaces.is_matched folder.now pattern.now) patterns.now }
-{
-    for pattern in patterns {
-        if is_matched(folder, *pattern) {
-            return true;
-        }
-    }
-    false
 }
 
 /// Returns the patterns of `workspaces` of a root's manifest, in their order, each without `./` or `/` at its start:
@@ -156,6 +55,49 @@ fn texts_of<'v>(alloc: Global, patterns: &'v [Value]) -> Result<Vec<&'v str>>
         }
     }
     Ok(list)
+}
+
+/// The patterns of a package. Only the root has workspaces.
+pub(crate) fn asker_patterns<'v>(alloc: Global, asker: Package<'v>) -> Result<Patterns<'v>>
+    ensures { IfOk result (ArePatternsOf asker.entry.folder.now (view asker.entry.member.now)) }
+{
+    if !asker.folder.is_empty() {
+        return Ok(Patterns::none(alloc));
+    }
+    match patterns_of(asker.member) {
+        Some(patterns) => in_sets(alloc, patterns),
+        None => Ok(Patterns::none(alloc)),
+    }
+}
+
+/// The patterns of a list.
+fn in_sets<'v>(alloc: Global, patterns: &'v [Value]) -> Result<Patterns<'v>>
+    ensures { IfOk result (λ made. (folder : List ℕ) (found : Workspace) → IsSaid made folder found
+        → found ≡ Workspaces.by_patterns folder (items_view patterns.now)) }
+{
+    let mut made = Patterns::none(alloc);
+    made.has_unread = has_unread(patterns);
+    if made.has_unread {
+        return Ok(made);
+    }
+    for pattern in patterns {
+        add_pattern(&mut made, pattern)?;
+    }
+    Ok(made)
+}
+
+/// Adds a pattern that is read.
+fn add_pattern<'v>(patterns: &mut Patterns<'v>, pattern: &'v Value) -> Result<()>
+    ensures unread { patterns.new.has_unread ≡ patterns.old.has_unread }
+    ensures matched { OnOk result (Workspaces.is_such Workspaces.is_read (view pattern.now) ≡ true
+        → (folder : List ℕ) → HasMatched patterns.new folder
+        ↔ (HasMatched patterns.old folder
+        ⊎ IsTrue (Workspaces.is_such (Workspaces.is_matched folder) (view pattern.now)))) }
+{
+    match pattern.as_str() {
+        Some(text) => patterns.add(pattern_of(text)),
+        None => Ok(()),
+    }
 }
 
 /// Returns whether the folder of a package that was found for another is a workspace of it, which has these patterns.
@@ -208,109 +150,4 @@ fn is_read(pattern: &Value) -> bool
     pattern
         .as_str()
         .is_some_and(|text| is_read_text(pattern_of(text)))
-}
-
-/// The pattern of a text, which may begin with `./` or `/`.
-pub(crate) fn pattern_of(text: &str) -> &str
-    ensures { result.now ≡ Workspaces.pattern_of text.now }
-{
-    without_slashes(linked_folder(text))
-}
-
-/// The text without each `/` at its start.
-fn without_slashes(text: &str) -> &str
-    ensures { result.now ≡ Workspaces.without_slashes text.now }
-{
-    let mut left = text;
-    'slashes: while let Some(rest) = rest_after(left, "/") {
-        left = rest;
-    }
-    left
-}
-
-fn is_read_text(pattern: &str) -> bool
-    ensures { result ≡ Workspaces.is_read pattern.now }
-{
-    let stem = stem_of(pattern);
-    if has_glob_byte(stem) {
-        false
-    } else if ends_with(pattern, "*") {
-        is_whole(stem)
-    } else {
-        !is_whole(stem)
-    }
-}
-
-fn is_whole(stem: &str) -> bool
-    ensures { result ≡ Workspaces.is_whole stem.now }
-{
-    stem.is_empty() || ends_with(stem, "/")
-}
-
-/// Returns `true` if the pattern is that of the folder.
-fn is_matched(folder: &str, pattern: &str) -> bool
-    ensures { result ≡ Workspaces.is_matched folder.now pattern.now }
-{
-    if ends_with(pattern, "**") {
-        let stem = stem_of(pattern);
-        is_base(folder, stem) || rest_after(folder, stem).is_some_and(are_parts)
-    } else if ends_with(pattern, "*") {
-        rest_after(folder, stem_of(pattern)).is_some_and(is_part)
-    } else {
-        pattern == folder
-    }
-}
-
-/// Returns `true` for `packages`, if the stem is `packages/`.
-fn is_base(folder: &str, stem: &str) -> bool
-    ensures { result ≡ Workspaces.is_base folder.now stem.now }
-{
-    !stem.is_empty() && folder == without_end(stem, "/")
-}
-
-/// The pattern without `*` or `**` at its end.
-pub(crate) fn stem_of(pattern: &str) -> &str
-    ensures { result.now ≡ Workspaces.stem_of pattern.now }
-{
-    without_end(without_end(pattern, "*"), "*")
-}
-
-fn has_glob_byte(stem: &str) -> bool
-    ensures { result ≡ Workspaces.has_glob_byte stem.now }
-{
-    stem.bytes().any(|byte| b"!#*?[]{}()\\".contains(&byte))
-}
-
-/// Returns `true` for the name of a folder that `*` in a pattern of `workspaces` matches: `a`, but not `.a`. Does not
-/// allocate.
-pub fn is_part(rest: &str) -> bool
-    ensures { result ≡ Workspaces.is_part rest.now }
-{
-    are_parts(rest) && !has_slash(rest)
-}
-
-fn has_slash(rest: &str) -> bool
-    ensures { result ≡ Workspaces.has_slash rest.now }
-{
-    rest.bytes().any(|byte| byte == b'/')
-}
-
-fn are_parts(rest: &str) -> bool
-    ensures { result ≡ Workspaces.are_parts rest.now }
-{
-    !rest.is_empty() && !has_dot_part(rest)
-}
-
-/// Returns `true` if a part of the path begins with a dot.
-fn has_dot_part(path: &str) -> bool
-    ensures { result ≡ Workspaces.has_dot_part true path.now }
-{
-    let mut is_start = true;
-    for byte in path.as_bytes() {
-        if is_start && *byte == b'.' {
-            return true;
-        }
-        is_start = *byte == b'/';
-    }
-    false
 }

@@ -12,7 +12,7 @@ use serde_json::{Map, Value, put};
 use std::alloc::Global;
 
 /// Returns `true` for a lock file of version 1, and for one that says no version and has `dependencies`.
-pub(crate) fn is_version_one(lock: &Value) -> bool
+pub fn is_version_one(lock: &Value) -> bool
     ensures { result ≡ VersionOne.is_version_one (view lock.now) }
 {
     if lock.get("packages").is_some() {
@@ -156,7 +156,7 @@ fn version_in(entry: &Value) -> Option<&str>
 }
 
 /// Returns what a package requires, unless that is `true` or `false`.
-pub(crate) fn required_of(entry: &Value) -> Option<&Value>
+pub fn required_of(entry: &Value) -> Option<&Value>
     ensures { option_map (λ required. view required.now) result ≡ VersionOne.required_of (view entry.now) }
 {
     let required = entry.get("requires")?;

@@ -9,4 +9,4 @@ pub mod Nearest
 pub mod OverrideNames
 pub mod OverrideRules
 pub mod Reaching
-pub mod Requesting
+pub mod DependentTexts

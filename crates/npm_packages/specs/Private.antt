@@ -2,5 +2,4 @@ pub mod Groups  -- what a group of dependencies adds to a map of names
 pub mod Index  -- what a call adds to the index of the folders
 pub mod Linked  -- what a map of folders has
 pub mod OverrideKeys  -- the keys of `overrides`
-pub mod Requests  -- which requests a call adds to a map of dependents
 pub mod Search  -- the common start of two paths, and the nearest package

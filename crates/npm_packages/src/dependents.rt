@@ -1,28 +1,17 @@
 //! The range texts by which packages depend on installed packages.
-ghost use Rattle.std.specs.Prelude.{◌≡◌, ◌↔◌, ◌∷◌, [], ℕ, Bool, List, Option, IfOk, IsErrOf, OnOk, Some, map};
-ghost use Rattle.std.specs.Option.{option_map_or, option_to_list};
+ghost use Rattle.std.specs.Prelude.{◌≡◌, ◌↔◌, ◌∷◌, ◌++◌, [], ℕ, IfOk, IsErrOf, List, OnOk, Some, cond, bytes_eq, map};
+ghost use Rattle.std.specs.Option.{option_map_or};
 ghost use Rattle.serde_json.specs.View.{members_view, view};
-ghost use Rattle.npm_packages.specs.Dependents.{AreDependents, AreMemberRequests, AreRequests, IsRequest, Request, texts_of};
-ghost use Rattle.npm_packages.specs.Dependents.{asked_text, request_text, texts_at};
+ghost use Rattle.npm_packages.specs.Dependents.{AreDependents, asked_text, edge_text, texts_at, texts_of};
+ghost use Rattle.npm_packages.specs.Edges.{AreEdges, EdgeValue, edge_value};
 ghost use Rattle.npm_packages.specs.Faults as Faults;
-ghost use Rattle.npm_packages.specs.Index.{IsIndexOf};
 ghost use Rattle.npm_packages.specs.PackageValue.{packages_data};
-ghost use Rattle.npm_packages.specs.Private.Requests.{AddsRequests};
-ghost use Rattle.npm_packages.specs.Lookups.{IsOutermostFrom};
-ghost use Rattle.npm_packages.specs.Rules.{AreRules};
-ghost use Rattle.npm_packages.specs.Asked.{AskedValue, asked_of as asked_by};
-ghost use Rattle.npm_packages.specs.Overrides as Overrides;
-ghost use Rattle.npm_packages.specs.PackageValue.{asked_value};
 ghost use Rattle.npm_packages.specs.declared.fault.Fault.{Fault};
 
 use crate::Result;
-use crate::asked::{Asked, asked_of};
+use crate::edges::{Edge, edges_among};
 use crate::fault::{CheckError, lock_of};
-use crate::folder::is_installed;
-use crate::index::Index;
-use crate::overrides::{Rules, overridden, rules_of};
-use crate::place::{Lock, Package, is_link};
-use crate::search::outermost_of;
+use crate::place::Lock;
 use npm_texts::{Spec, spec_of};
 use serde_json::Value;
 use std::alloc::Global;
@@ -44,13 +33,17 @@ impl<'v> Dependents<'v> {
     ///
     /// - `Refused`: the value is no lock file of version 2 or 3, or a member that counts has the wrong type.
     /// - `Memory`: an allocation failed.
+    ///
+    /// # Memory
+    ///
+    /// While it runs, it holds the dependencies that `edges_of` returns.
     pub fn of_lock(alloc: Global, lock: &'v Value) -> Result<Dependents<'v>, CheckError>
         ensures found { IfOk result (λ dependents. AreDependents (view lock.now) (texts_at dependents)) }
         ensures refused { (fault : Fault) → IsErrOf result (CheckError.Refused fault)
             ↔ (Faults.lock_fault (view lock.now) ≡ Some fault) }
     {
         let lock = lock_of(alloc, lock).map_err(CheckError::Refused)?;
-        dependents_of(lock).map_err(|_| CheckError::Memory)
+        dependents_among(lock).map_err(|_| CheckError::Memory)
     }
 
     /// The texts by which other packages depend on the package in a folder: in the order of their folders' bytes, for each of
@@ -69,9 +62,21 @@ impl<'v> Dependents<'v> {
         }
     }
 
+    /// Adds the text of a dependency, if a package is found for it.
+    fn add_edge(&mut self, alloc: Global, edge: Edge<'v>) -> Result<()>
+        ensures { OnOk result ((folder : List ℕ) → texts_at self.new folder
+            ≡ texts_at self.old folder ++ texts_of folder (edge_value edge.entry ∷ [])) }
+    {
+        match edge.to {
+            Some(to) => self.add(alloc, to, edge_text(edge)),
+            None => Ok(()),
+        }
+    }
+
     /// Adds a text by which a package depends on the one in this folder.
     fn add(&mut self, alloc: Global, to: &'v str, text: &'v str) -> Result<()>
-        ensures { OnOk result (AddsRequests self.old self.new (record { to = to.now; text = text.now } ∷ [])) }
+        ensures { OnOk result ((folder : List ℕ) → texts_at self.new folder
+            ≡ cond (bytes_eq to.now folder) (texts_at self.old folder ++ (text.now ∷ [])) (texts_at self.old folder)) }
     {
         let list = self.by_folder.entry(to)?.or_insert(Vec::new(alloc));
         list.push(text)?;
@@ -80,83 +85,35 @@ impl<'v> Dependents<'v> {
 }
 
 /// The dependents of all packages of a lock file that has no fault.
-fn dependents_of(lock: Lock<'_>) -> Result<Dependents<'_>>
-    ensures { IfOk result (λ dependents. (requests : List Request)
-        × AreRequests (packages_data lock.entry) (members_view lock.entry.members.now.entries) requests
-        × ((folder : List ℕ) → texts_at dependents folder ≡ texts_of folder requests)) }
+fn dependents_among(lock: Lock<'_>) -> Result<Dependents<'_>>
+    ensures { IfOk result (λ dependents. (edges : List EdgeValue)
+        × AreEdges (packages_data lock.entry) (members_view lock.entry.members.now.entries) edges
+        × ((folder : List ℕ) → texts_at dependents folder ≡ texts_of folder edges)) }
 {
-    let index = Index::of_lock(lock)?;
-    let rules = rules_of(lock)?;
-    let mut dependents = Dependents::new(lock.alloc);
-    for (folder, member) in lock.members.iter() {
-        let folder = folder.as_str();
-        let asker = Package { folder, member };
-        add_requests(lock, &index, &rules, asker, &mut dependents)?;
+    let edges = edges_among(lock)?;
+    dependents_of(lock.alloc, &edges)
+}
+
+/// The dependents of the packages that these dependencies lead to.
+fn dependents_of<'v>(alloc: Global, edges: &[Edge<'v>]) -> Result<Dependents<'v>>
+    ensures { IfOk result (λ dependents. (folder : List ℕ)
+        → texts_at dependents folder ≡ texts_of folder (map edge_value edges.now)) }
+{
+    let mut dependents = Dependents::new(alloc);
+    for edge in edges {
+        dependents.add_edge(alloc, *edge)?;
     }
     Ok(dependents)
 }
 
-/// Adds the requests of one member of `packages`.
-fn add_requests<'v>(
-    lock: Lock<'v>,
-    index: &Index<'v>,
-    rules: &Rules<'v>,
-    asker: Package<'v>,
-    dependents: &mut Dependents<'v>,
-) -> Result<()>
-    requires index { IsIndexOf (packages_data lock) index.now }
-    requires rules { AreRules (packages_data lock) rules.now }
-    ensures { OnOk result ((requests : List Request)
-        × AreMemberRequests (packages_data lock.entry) asker.entry.folder.now (view asker.entry.member.now) requests
-        × AddsRequests dependents.old dependents.new requests) }
-{
-    if is_link(asker.member) {
-        return Ok(());
-    }
-    let is_installed = is_installed(asker.folder);
-    let outermost = outermost_of(asker.folder);
-    let all = asked_of(lock.alloc, asker.member, is_installed)?;
-    for (name, asked) in all.iter() {
-        let changed = overridden(rules, asker.folder, *name, *asked);
-        add_request(lock, asker, index, outermost, *name, changed, dependents)?;
-    }
-    Ok(())
-}
-
-/// Adds the request of a package by a name, if a package is found for it.
-fn add_request<'v>(
-    lock: Lock<'v>,
-    asker: Package<'v>,
-    index: &Index<'v>,
-    outermost: &str,
-    name: &'v str,
-    asked: Asked<'v>,
-    dependents: &mut Dependents<'v>,
-) -> Result<()>
-    requires index { IsIndexOf (packages_data lock) index.now }
-    requires outermost { IsOutermostFrom asker.folder.now outermost.now }
-    ensures { OnOk result ((request : Option Request)
-        × ((is_installed : Bool) (before : AskedValue)
-        → asked_by (view asker.entry.member.now) is_installed name.now ≡ Some before
-        → asked_value asked.entry ≡ Overrides.overridden (packages_data lock.entry) asker.entry.folder.now name.now before
-        → IsRequest (packages_data lock.entry) asker.entry.folder.now (view asker.entry.member.now) is_installed
-        name.now request)
-        × AddsRequests dependents.old dependents.new (option_to_list request)) }
-{
-    match lock.find(index, asker.folder, outermost, name)? {
-        Some((found, _)) => dependents.add(lock.alloc, found.folder, request_text(asked)),
-        None => Ok(()),
-    }
-}
-
 /// The text of a dependency, or one that is no range if `overrides` change it in a way that is not read here.
-fn request_text(asked: Asked<'_>) -> &str
-    ensures { result.now ≡ request_text (asked_value asked.entry) }
+fn edge_text<'v>(edge: Edge<'v>) -> &'v str
+    ensures { result.now ≡ edge_text (edge_value edge.entry) }
 {
-    if asked.is_overridden {
+    if edge.is_overridden {
         NO_RANGE
     } else {
-        asked_text(asked.spec)
+        asked_text(edge.spec)
     }
 }
 

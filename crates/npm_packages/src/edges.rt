@@ -73,7 +73,7 @@ pub fn edges_of(alloc: Global, lock: &Value) -> Result<Vec<Edge<'_>>, CheckError
 }
 
 /// The dependencies of all packages.
-fn edges_among(lock: Lock<'_>) -> Result<Vec<Edge<'_>>>
+pub(crate) fn edges_among(lock: Lock<'_>) -> Result<Vec<Edge<'_>>>
     ensures { IfOk result (λ edges. AreEdges (packages_data lock.entry) (members_view lock.entry.members.now.entries)
         (map edge_value edges.items)) }
 {

@@ -1,4 +1,5 @@
 pub mod CoerceExamples
 mod PrereleaseExamples
 mod BumpExamples
+mod DifferenceExamples
 mod NpmAnswerExamples

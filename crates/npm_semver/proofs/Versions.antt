@@ -1,5 +1,6 @@
 pub mod Bumps
 pub mod Upward
+pub mod Differences
 pub mod Pieces
 pub mod LastPieces
 pub mod NumberPlaces

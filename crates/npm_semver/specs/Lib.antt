@@ -7,6 +7,7 @@ pub mod NpmRangeAnswer
 -- ---- raised versions, and by which bump two differ
 pub mod Bump
 pub mod BumpBetween
+pub mod BumpLaws
 -- ---- the version that is found in a text
 pub mod Coerce
 pub mod CoerceWithPrerelease

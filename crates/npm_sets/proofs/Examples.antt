@@ -1,3 +1,5 @@
 pub mod NpmExamples
 pub mod SpaceExamples
 pub mod PlaceExamples
+pub mod PartialExamples
+pub mod LimitExamples

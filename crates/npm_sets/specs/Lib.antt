@@ -10,6 +10,10 @@ pub mod PartialTexts
 pub mod Rows
 -- ---- the alternatives of a text, and which versions it admits
 pub mod NpmMeaning
+-- ---- the grammar of partials, their limits, and that the same texts are read
+pub mod PartialGrammar
+pub mod PartialLimits
+pub mod PartialLaws
 -- ---- where a text is refused
 pub mod RefusedPlace
 pub mod NpmAnswer

@@ -10,6 +10,7 @@
 //! See docs/DECISIONS.md, "npm's reading is defined by functions over whole texts".
 #![tactic(auto)]
 
+pub mod laws;
 mod options;
 mod partial;
 mod piece;

@@ -1,9 +1,10 @@
 //! What a dependency asks a registry for.
-ghost use Rattle.std.specs.Prelude.{◌≡◌, option_map};
+ghost use Rattle.std.specs.Prelude.{◌≡◌, Some, option_map};
 ghost use Rattle.npm_texts.specs.RegistrySpec as RegistrySpecs;
+ghost use Rattle.npm_texts.specs.RangeText.{spec_value};
 ghost use Rattle.npm_texts.specs.RegistrySpec.{registry_spec_value};
 
-use crate::spec::{Spec, aliased_name, is_alias, spec_of};
+use crate::spec::{Spec, alias_of, alias_range, aliased, name_of_alias, plain_spec};
 
 /// A package of a registry, and the version, the range or the tag of it that a dependency asks for.
 #[derive(Clone, Copy, Debug, PartialEq, Eq, Drop)]
@@ -34,13 +35,18 @@ pub struct RegistrySpec<'t> {
 pub fn registry_spec<'t>(name: &'t str, spec: &'t str) -> Option<RegistrySpec<'t>>
     ensures { option_map registry_spec_value result ≡ RegistrySpecs.registry_spec name.now spec.now }
 {
-    let Spec::Text(text) = spec_of(spec) else {
-        return None;
-    };
-    if is_alias(spec) {
-        let name = aliased_name(spec)?;
-        Some(RegistrySpec { name, text })
-    } else {
-        Some(RegistrySpec { name, text })
+    match alias_of(spec) {
+        Some(alias) => of_package(name_of_alias(alias)?, aliased(alias_range(alias))),
+        None => of_package(name, plain_spec(spec)),
+    }
+}
+
+/// The text of this package, if the spec has one.
+fn of_package<'t>(name: &'t str, spec: Spec<'t>) -> Option<RegistrySpec<'t>>
+    ensures { option_map registry_spec_value result ≡ RegistrySpecs.of_package (Some name.now) (spec_value spec.entry) }
+{
+    match spec {
+        Spec::Text(text) => Some(RegistrySpec { name, text }),
+        Spec::Location | Spec::Refused => None,
     }
 }

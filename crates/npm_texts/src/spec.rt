@@ -1,5 +1,5 @@
 //! What npm reads a spec as.
-ghost use Rattle.std.specs.Prelude.{◌≡◌, ◌<◌, ◌∷◌, is_some, option_map};
+ghost use Rattle.std.specs.Prelude.{◌≡◌, ◌<◌, ◌∷◌, option_map};
 ghost use Rattle.std.specs.Char.{is_ascii_alphabetic};
 ghost use Rattle.std.specs.List.{before_first, list_all, list_any};
 ghost use Rattle.npm_texts.specs.RangeText as RangeText;
@@ -29,7 +29,7 @@ pub fn spec_of(spec: &str) -> Spec<'_>
 }
 
 /// What the text of an alias is.
-fn aliased(range: &str) -> Spec<'_>
+pub(crate) fn aliased(range: &str) -> Spec<'_>
     ensures { spec_value result ≡ RangeText.aliased range.now }
 {
     if is_location(range) {
@@ -40,7 +40,7 @@ fn aliased(range: &str) -> Spec<'_>
 }
 
 /// What a spec is that is no alias.
-fn plain_spec(spec: &str) -> Spec<'_>
+pub(crate) fn plain_spec(spec: &str) -> Spec<'_>
     ensures { spec_value result ≡ RangeText.plain_spec spec.now }
 {
     if is_location(spec) {
@@ -57,15 +57,8 @@ pub fn filled(text: &str) -> &str
     if text.is_empty() { "*" } else { text }
 }
 
-/// Returns `true` if the spec is an alias.
-pub(crate) fn is_alias(spec: &str) -> bool
-    ensures { result ≡ is_some (RangeText.alias_of spec.now) }
-{
-    alias_of(spec).is_some()
-}
-
 /// Returns the text after `npm:`, with letters of either case.
-fn alias_of(spec: &str) -> Option<&str>
+pub(crate) fn alias_of(spec: &str) -> Option<&str>
     ensures { option_map (λ text. text.now) result ≡ RangeText.alias_of spec.now }
 {
     let text = after_either(spec, 'n', 'N')?;
@@ -86,7 +79,7 @@ fn after_either(text: &str, character: char, other: char) -> Option<&str>
 }
 
 /// Returns the text of an alias. A scope's `@` comes before the name.
-fn alias_range(alias: &str) -> &str
+pub(crate) fn alias_range(alias: &str) -> &str
     ensures { result.now ≡ range_of_alias alias.now }
 {
     match rest_after(alias, "@") {
@@ -125,7 +118,7 @@ pub fn aliased_name(spec: &str) -> Option<&str>
 }
 
 /// Returns the name of an alias, with its scope.
-fn name_of_alias(alias: &str) -> Option<&str>
+pub(crate) fn name_of_alias(alias: &str) -> Option<&str>
     ensures { option_map (λ name. name.now) result ≡ RangeText.name_of_alias alias.now }
 {
     match rest_after(alias, "@") {

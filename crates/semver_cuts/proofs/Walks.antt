@@ -59,13 +59,7 @@ module _ {T : Type 0} {cmp : T → T → Ordering} (o : IsTotalOrder cmp) where
     -- a span of the first list can be passed if it ends at or below where the next span of the second begins
     pub passed : IsCutAtMost cmp one.upper other.lower → (cut : Cut T) → IsInSome cmp (drop j ws) cut
         → IsInSome cmp (drop i ms) cut → IsInSome cmp (drop (i + 1) ms) cut
-    passed past cut there here = grind (
-      arith,
-      all-from_first other (drop (j + 1) ws) cut other_are,
-      below-not-at_most
-          o,
-      at_most_trans o,
-    )
+    passed past cut there here = grind (arith, all-from_first, other_are, below-not-at_most, at_most_trans)
 
     -- the two spans share a cut if each begins below where the other ends
     pub share-found : IsCutBelow cmp one.lower other.upper → IsCutBelow cmp other.lower one.upper → ShareCut cmp ms ws
@@ -75,13 +69,7 @@ module _ {T : Type 0} {cmp : T → T → Ordering} (o : IsTotalOrder cmp) where
     -- a span of the second list that lies in the next one of the first
     pub covered : IsCutAtMost cmp one.lower other.lower → IsCutAtMost cmp other.upper one.upper → (cut : Cut T)
         → IsInSome cmp (drop j ws) cut → IsInSome cmp ms cut ⊎ IsInSome cmp (drop (j + 1) ws) cut
-    covered low high cut is = grind (
-      arith,
-      in-whole ms i cut,
-      at_most_trans o one.lower other.lower,
-      below-at_most o
-          cut other.upper,
-    )
+    covered low high cut is = grind (arith, in-whole, at_most_trans, below-at_most)
 
     -- a span of the second list that does not, and begins below the end of the next one of the first
     pub uncovered : IsCutBelow cmp other.lower one.upper

@@ -45,8 +45,8 @@ version_more range version more new is_ended ended is =
     rw (ended, is) (sym (append_assoc range (newline ∷ version) more))
 
 -- an open pair is no complete pair
-pub open_none : (pair : OpenPair) → IsOpen pair → pairs_read false (open_bytes pair) ≡ []
-open_none pair lines = by_end pair.range.items pair.version.items pair.is_range_ended lines.range lines.version
+pub open_none : {pair : OpenPair} → IsOpen pair → pairs_read false (open_bytes pair) ≡ []
+open_none {pair = pair} lines = by_end pair.range.items pair.version.items pair.is_range_ended lines.range lines.version
   where
     by_end : (range version : List ℕ) (is_ended : Bool) → HasNoNewline range → HasNoNewline version
         → pairs_read false (if is_ended then range ++ (newline ∷ version) else range) ≡ []

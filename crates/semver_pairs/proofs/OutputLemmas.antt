@@ -14,28 +14,30 @@ use Rattle.semver_pairs.proofs.PairLemmas.{answers-all}
 
 -- ---- output that waits
 
-pub moves-none : (contents : Option (List ℕ)) (waiting : List ℕ) → Moves contents contents waiting [] waiting
-moves-none contents waiting = record { written = []; put = Appends-nil contents; all = append-nil waiting }
+pub moves-none : {contents : Option (List ℕ)} {waiting : List ℕ} → Moves contents contents waiting [] waiting
+moves-none {contents = contents} {waiting = waiting} =
+    record { written = []; put = Appends-nil contents; all = append-nil waiting }
 
 -- added output waits too
-pub moves-hold : (contents : Option (List ℕ)) (waiting added : List ℕ)
+pub moves-hold : {contents : Option (List ℕ)} {waiting added : List ℕ}
     → Moves contents contents waiting added (waiting ++ added)
-moves-hold contents waiting added = record { written = []; put = Appends-nil contents; all = refl }
+moves-hold {contents = contents} = record { written = []; put = Appends-nil contents; all = refl }
 
-pub moves-trans : (old mid new : Option (List ℕ)) (waiting one then other left : List ℕ)
-    → Moves old mid waiting one then → Moves mid new then other left → Moves old new waiting (one ++ other) left
-moves-trans old mid new waiting one then other left first second = record {
+pub moves-trans : {old mid new : Option (List ℕ)} {waiting one held other left : List ℕ}
+    → Moves old mid waiting one held → Moves mid new held other left → Moves old new waiting (one ++ other) left
+moves-trans {old = old} {mid = mid} {new = new} {waiting = waiting} {one = one} {held = held} {other = other} {left =
+    left} first second = record {
   written = first.written ++ second.written;
   put = Appends-trans old mid new first.written second.written first.put second.put;
   all = sym (append_assoc waiting one other) ∙ ap (λ (l : List ℕ). l ++ other) first.all
-      ∙ append_assoc first.written then other ∙ ap (λ (l : List ℕ). first.written ++ l) second.all
+      ∙ append_assoc first.written held other ∙ ap (λ (l : List ℕ). first.written ++ l) second.all
       ∙ sym (append_assoc first.written second.written left);
 }
 
 -- some of what waits was written, before more is added
-pub moves-part : (old new : Option (List ℕ)) (waiting added : List ℕ) (count : ℕ) → Appends old new (take count waiting)
+pub moves-part : {old new : Option (List ℕ)} {waiting added : List ℕ} (count : ℕ) → Appends old new (take count waiting)
     → Moves old new waiting added (drop count waiting ++ added)
-moves-part old new waiting added count part = record {
+moves-part {waiting = waiting} {added = added} count part = record {
   written = take count waiting;
   put = part;
   all = ap (λ (l : List ℕ). l ++ added) (sym (take-append-drop count waiting))
@@ -43,16 +45,16 @@ moves-part old new waiting added count part = record {
 }
 
 -- all of it was
-pub moves-all : (old new : Option (List ℕ)) (waiting added : List ℕ) → Appends old new waiting
+pub moves-all : {old new : Option (List ℕ)} {waiting added : List ℕ} → Appends old new waiting
     → Moves old new waiting added added
-moves-all old new waiting added all = record { written = waiting; put = all; all = refl }
+moves-all {waiting = waiting} all = record { written = waiting; put = all; all = refl }
 
 -- ---- reading and writing
 
 -- nothing was read, and nothing was written
-pub exchanges-nothing : (Ended : Type 0) (remaining contents : Option (List ℕ))
+pub exchanges-nothing : (Ended : Type 0) {remaining contents : Option (List ℕ)}
     → Exchanges (IsOutputPrefix Ended) remaining remaining contents contents
-exchanges-nothing Ended remaining contents = record {
+exchanges-nothing Ended {remaining = remaining} {contents = contents} = record {
   read = [];
   written = [];
   taken = Consumes-nil remaining;
@@ -60,9 +62,9 @@ exchanges-nothing Ended remaining contents = record {
   together = (false, λ is_end. cc is_end, ([], refl));
 }
 
-pub exchanges-none_back : (remaining contents : Option (List ℕ))
+pub exchanges-none_back : {remaining contents : Option (List ℕ)}
     → Exchanges IsOutputBeforeEnd remaining remaining contents contents
-exchanges-none_back remaining contents = record {
+exchanges-none_back {remaining = remaining} {contents = contents} = record {
   read = [];
   written = [];
   taken = Consumes-nil remaining;
@@ -71,19 +73,18 @@ exchanges-none_back remaining contents = record {
 }
 
 -- the output for all complete pairs
-pub before_end : (read rest added : List ℕ) → AnswersUpTo read rest added → pairs_read false rest ≡ []
+pub before_end : {read rest added : List ℕ} → AnswersUpTo read rest added → pairs_read false rest ≡ []
     → IsOutputBeforeEnd read added
-before_end read rest added up_to none =
+before_end {read = read} {rest = rest} {added = added} up_to none =
     let nothing : AreAnswers (pairs_read false rest) [] = subst (λ pairs. AreAnswers pairs []) (sym none) refl in
-    subst (AreAnswers (pairs_read false read)) (append-nil added) (answers-all false read rest added [] up_to nothing)
+    subst (AreAnswers (pairs_read false read)) (append-nil added) (answers-all false [] up_to nothing)
 
 -- some of them
-pub begins-some : (read rest added written left : List ℕ) → AnswersUpTo read rest added → added ≡ written ++ left
-    → BeginsAnswers (pairs_read false read) written
-begins-some read rest added written left up_to is =
+pub begins-some : {read rest added : List ℕ} (written left : List ℕ) → AnswersUpTo read rest added
+    → added ≡ written ++ left → BeginsAnswers (pairs_read false read) written
+begins-some {read = read} {rest = rest} {added = added} written left up_to is =
     let some = answers-exist (pairs_read false rest) in
-    let all : AreAnswers (pairs_read false read) (added ++ some.0) = answers-all false read rest added some.0 up_to
-    some.1 in (
+    let all : AreAnswers (pairs_read false read) (added ++ some.0) = answers-all false some.0 up_to some.1 in (
       left ++ some.0,
       subst (AreAnswers (pairs_read false read))
           (ap (λ (l : List ℕ). l ++ some.0) is ∙ append_assoc written left some.0) all,

@@ -39,10 +39,11 @@ pairs-two is_end range line rest one other =
     ∙ pairs_of-two is_end (strip_carriage_return range) (strip_carriage_return line) (lines_read is_end rest)
 
 -- so it does whatever follows
-pub pairs-pair : (is_end : Bool) (bytes range version rest later : List ℕ) → BeginsWithPair bytes range version rest
-    → pairs_read is_end (bytes ++ later)
-    ≡ both (strip_carriage_return range) version ∷ pairs_read is_end (rest ++ later)
-pairs-pair is_end bytes range version rest later begins =
+pub pairs-pair : (is_end : Bool) {bytes range version rest : List ℕ} (later : List ℕ)
+    → BeginsWithPair bytes range version rest
+    → pairs_read is_end (bytes ++ later) ≡ both (strip_carriage_return range) version ∷ pairs_read is_end (rest ++
+    later)
+pairs-pair is_end {bytes = bytes} {range = range} {rest = rest} later begins =
     let second : begins.others ++ later ≡ begins.line ++ (newline ∷ (rest ++ later)) =
     ap (λ (l : List ℕ). l ++ later) begins.second.split ∙ append_assoc begins.line (newline ∷ rest) later in
     let first : bytes ++ later ≡ range ++ (newline ∷ (begins.line ++ (newline ∷ (rest ++ later)))) =
@@ -67,15 +68,15 @@ pairs-one_line range rest one none =
     (divided-no_newline rest none)
 
 -- the same of bytes that were split
-pub pairs-split : (bytes range rest : List ℕ) → BeginsWithLine bytes range rest → HasNoNewline rest
+pub pairs-split : {bytes range rest : List ℕ} → BeginsWithLine bytes range rest → HasNoNewline rest
     → pairs_read false bytes ≡ []
-pairs-split bytes range rest begins none =
+pairs-split {range = range} {rest = rest} begins none =
     ap (pairs_read false) begins.split ∙ pairs-one_line range rest begins.one_line none
 
 -- and the other way round: without a whole pair there is no second newline
-pub one_line-from : (bytes range rest : List ℕ) → BeginsWithLine bytes range rest → pairs_read false bytes ≡ []
+pub one_line-from : {bytes range rest : List ℕ} → BeginsWithLine bytes range rest → pairs_read false bytes ≡ []
     → HasNoNewline rest
-one_line-from bytes range rest begins none = elim (newline_or_not rest) [
+one_line-from {range = range} {rest = rest} begins none = elim (newline_or_not rest) [
   | inl fine ↦ fine
   | inr found ↦
       let whole = ap (pairs_read false) begins.split
@@ -88,21 +89,21 @@ one_line-from bytes range rest begins none = elim (newline_or_not rest) [
 
 -- ---- the output up to some rest
 
-pub answers-none : (bytes : List ℕ) → AnswersUpTo bytes bytes []
-answers-none bytes = record { go_on = λ is_end later more answers. answers }
+pub answers-none : {bytes : List ℕ} → AnswersUpTo bytes bytes []
+answers-none = record { go_on = λ is_end later more answers. answers }
 
-pub answers-trans : (bytes mid rest one other : List ℕ) → AnswersUpTo bytes mid one → AnswersUpTo mid rest other
+pub answers-trans : {bytes mid rest one other : List ℕ} → AnswersUpTo bytes mid one → AnswersUpTo mid rest other
     → AnswersUpTo bytes rest (one ++ other)
-answers-trans bytes mid rest one other first second = record {
+answers-trans {bytes = bytes} {one = one} {other = other} first second = record {
   go_on = λ is_end later more answers.
       subst (AreAnswers (pairs_read is_end (bytes ++ later))) (sym (append_assoc one other more))
       (first.go_on is_end later (other ++ more) (second.go_on is_end later more answers));
 }
 
 -- more bytes behind all of them, and so behind the rest
-pub answers-longer : (bytes rest added more : List ℕ) → AnswersUpTo bytes rest added
+pub answers-longer : {bytes rest added : List ℕ} (more : List ℕ) → AnswersUpTo bytes rest added
     → AnswersUpTo (bytes ++ more) (rest ++ more) added
-answers-longer bytes rest added more up_to = record {
+answers-longer {bytes = bytes} {rest = rest} {added = added} more up_to = record {
   go_on = λ is_end later others answers.
       subst (λ (l : List ℕ). AreAnswers (pairs_read is_end l) (added ++ others)) (sym (append_assoc bytes more later))
       (up_to.go_on is_end (more ++ later) others
@@ -110,9 +111,9 @@ answers-longer bytes rest added more up_to = record {
 }
 
 -- a pair, and what follows it
-pub answers-pair : (bytes range version mid rest added : List ℕ) → BeginsWithPair bytes range version mid
+pub answers-pair : {bytes range version mid rest added : List ℕ} → BeginsWithPair bytes range version mid
     → AnswersFrom range version mid rest added → AnswersUpTo bytes rest added
-answers-pair bytes range version mid rest added begins from = record {
+answers-pair {range = range} {version = version} {mid = mid} {added = added} begins from = record {
   go_on = λ is_end later more answers.
       let is : added ++ more ≡ from.answer.0 ++ (newline ∷ (from.others ++ more)) =
       ap (λ (l : List ℕ). l ++ more) from.both ∙ append_assoc from.first from.others more
@@ -121,45 +122,42 @@ answers-pair bytes range version mid rest added begins from = record {
       let whole : AreAnswers (both (strip_carriage_return range) version ∷ pairs_read is_end (mid ++ later))
       (added ++ more) =
       (from.answer.0, from.others ++ more, from.answer.1, from.later.go_on is_end later more answers, is) in
-      subst (λ (pairs : List Pair). AreAnswers pairs (added ++ more))
-      (sym (pairs-pair is_end bytes range version mid later begins)) whole;
+      subst (λ (pairs : List Pair). AreAnswers pairs (added ++ more)) (sym (pairs-pair is_end later begins)) whole;
 }
 
 -- ---- the output from a range line on
 
 -- the first alone
-pub from-one : (range version bytes line : List ℕ) → IsAnswerLine (strip_carriage_return range) version line
+pub from-one : {range version bytes line : List ℕ} → IsAnswerLine (strip_carriage_return range) version line
     → AnswersFrom range version bytes bytes line
-from-one range version bytes line answer = record {
+from-one {line = line} answer = record {
   first = line;
   others = [];
   answer = answer;
-  later = answers-none bytes;
+  later = answers-none;
   both = sym (append-nil line);
 }
 
 -- and those to a pair with the same range line
-from-more : (range version bytes line next mid rest added : List ℕ) → IsAnswerLine (strip_carriage_return range) version
-    line
-    → BeginsWithPair bytes range next mid → AnswersFrom range next mid rest added
-    → AnswersFrom range version bytes rest (line ++ added)
-from-more range version bytes line next mid rest added answer begins from = record {
+from-more : {range version bytes : List ℕ} (line : List ℕ) {next mid rest added : List ℕ}
+    → IsAnswerLine (strip_carriage_return range) version line → BeginsWithPair bytes range next mid
+    → AnswersFrom range next mid rest added → AnswersFrom range version bytes rest (line ++ added)
+from-more line {added = added} answer begins from = record {
   first = line;
   others = added;
   answer = answer;
-  later = answers-pair bytes range next mid rest added begins from;
+  later = answers-pair begins from;
   both = refl;
 }
 
 -- where no byte follows, the output is one line
-pub from-nothing : (range version rest added : List ℕ) → AnswersFrom range version [] rest added
+pub from-nothing : {range version rest added : List ℕ} → AnswersFrom range version [] rest added
     → IsAnswerLine (strip_carriage_return range) version added
-from-nothing range version rest added from =
+from-nothing {range = range} {version = version} {rest = rest} {added = added} from =
     let some = answers-exist (pairs_read true (rest ++ [])) in
     let all : from.others ++ some.0 ≡ [] = from.later.go_on true [] some.0 some.1 in
     let none : from.others ≡ [] = nothing_before from.others some.0 all in
-    let first : added ≡ from.first =
-    from.both ∙ ap (λ (l : List ℕ). from.first ++ l) none ∙ append-nil from.first in
+    let first : added ≡ from.first = from.both ∙ ap (λ (l : List ℕ). from.first ++ l) none ∙ append-nil from.first in
     subst (IsAnswerLine (strip_carriage_return range) version) (sym first) from.answer
   where
     nothing_before : (one other : List ℕ) → one ++ other ≡ [] → one ≡ []
@@ -171,25 +169,25 @@ pub record GoesOn (range version_first bytes_first version bytes done : List ℕ
   pub go_on : (rest added : List ℕ) → AnswersFrom range version bytes rest added
       → AnswersFrom range version_first bytes_first rest (done ++ added)
 
-pub goes-none : (range version bytes : List ℕ) → GoesOn range version bytes version bytes []
-goes-none range version bytes = record { go_on = λ rest added from. from }
+pub goes-none : {range version bytes : List ℕ} → GoesOn range version bytes version bytes []
+goes-none = record { go_on = λ rest added from. from }
 
-pub goes-more : (range version_first bytes_first version bytes done line next mid : List ℕ)
+pub goes-more : {range version_first bytes_first version bytes done : List ℕ} (line : List ℕ) {next mid : List ℕ}
     → GoesOn range version_first bytes_first version bytes done
     → IsAnswerLine (strip_carriage_return range) version line → BeginsWithPair bytes range next mid
     → GoesOn range version_first bytes_first next mid (done ++ line)
-goes-more range version_first bytes_first version bytes done line next mid goes answer begins = record {
+goes-more {range = range} {version_first = version_first} {bytes_first = bytes_first} {done = done} line goes answer
+    begins = record {
   go_on = λ rest added from.
       subst (AnswersFrom range version_first bytes_first rest) (sym (append_assoc done line added))
-      (goes.go_on rest (line ++ added) (from-more range version bytes line next mid rest added answer begins from));
+      (goes.go_on rest (line ++ added) (from-more line answer begins from));
 }
 
-pub goes-end : (range version_first bytes_first version bytes done line : List ℕ)
+pub goes-end : {range version_first bytes_first version bytes done : List ℕ} (line : List ℕ)
     → GoesOn range version_first bytes_first version bytes done
     → IsAnswerLine (strip_carriage_return range) version line
     → AnswersFrom range version_first bytes_first bytes (done ++ line)
-goes-end range version_first bytes_first version bytes done line goes answer =
-    goes.go_on bytes line (from-one range version bytes line answer)
+goes-end {bytes = bytes} line goes answer = goes.go_on bytes line (from-one answer)
 
 -- a range line and a version line have an output line
 pub answer_line-exists : (range version : List ℕ) → (line : List ℕ) × IsAnswerLine range version line
@@ -218,9 +216,9 @@ last-unended (b ∷ range) one some =
     ap (λ (l : Lines). pairs_of true (all_lines l)) (divided-no_newline (b ∷ range) one)
 
 -- the output up to the rest, and then the output for the rest, is the output for all bytes
-pub answers-all : (is_end : Bool) (bytes rest added more : List ℕ) → AnswersUpTo bytes rest added
+pub answers-all : (is_end : Bool) {bytes rest added : List ℕ} (more : List ℕ) → AnswersUpTo bytes rest added
     → AreAnswers (pairs_read is_end rest) more → AreAnswers (pairs_read is_end bytes) (added ++ more)
-answers-all is_end bytes rest added more up_to answers =
+answers-all is_end {bytes = bytes} {rest = rest} {added = added} more up_to answers =
     subst (λ (l : List ℕ). AreAnswers (pairs_read is_end l) (added ++ more)) (append-nil bytes)
     (up_to.go_on is_end [] more (subst (λ (l : List ℕ). AreAnswers (pairs_read is_end l) more) (sym (append-nil rest))
     answers))

@@ -20,19 +20,19 @@ use Rattle.semver_pairs.proofs.PairLemmas.{answers-all, answers-longer, last-end
 
 -- ---- the last pair
 
-pub last_none : (pair : OpenPair) (contents : Option (List ℕ)) → open_bytes pair ≡ []
+pub last_none : (pair : OpenPair) {contents : Option (List ℕ)} → open_bytes pair ≡ []
     → AnswersAll (open_bytes pair) contents contents [] []
-last_none pair contents none = record {
+last_none pair none = record {
   added = [];
   answers = subst (λ (l : List ℕ). AreAnswers (pairs_read true l) []) (sym none) refl;
-  moves = moves-none contents [];
+  moves = moves-none;
 }
 
 -- it has no version line
-lone-answer : (pair : OpenPair) → IsOpen pair → open_bytes pair ≢ []
+lone-answer : {pair : OpenPair} → IsOpen pair → open_bytes pair ≢ []
     → ¬ ((pair.is_range_ended ≡ true) × (pair.version.items ≢ []))
     → AreAnswers (pairs_read true (open_bytes pair)) (codes "missing version\n")
-lone-answer pair lines some alone =
+lone-answer {pair = pair} lines some alone =
     by_end pair.range.items pair.version.items pair.is_range_ended lines.range some alone
   where
     answered : (bytes line : List ℕ) → pairs_read true bytes ≡ lone line ∷ []
@@ -52,45 +52,40 @@ lone-answer pair lines some alone =
     by_end range (b ∷ version) true one some alone = absurd (alone (refl, λ is. cc (is)))
     by_end range version false one some alone = answered range range (last-unended range one some)
 
-pub last_lone : (pair : OpenPair) (old new : Option (List ℕ)) (left : List ℕ) → IsOpen pair → open_bytes pair ≢ []
+pub last_lone : {pair : OpenPair} {old new : Option (List ℕ)} {left : List ℕ} → IsOpen pair → open_bytes pair ≢ []
     → ¬ ((pair.is_range_ended ≡ true) × (pair.version.items ≢ [])) → Moves old new [] (codes "missing version\n") left
     → AnswersAll (open_bytes pair) old new [] left
-last_lone pair old new left lines some alone moves =
-    record { added = codes "missing version\n"; answers = lone-answer pair lines some alone; moves = moves }
+last_lone lines some alone moves =
+    record { added = codes "missing version\n"; answers = lone-answer lines some alone; moves = moves }
 
-pub last_lone_part : (pair : OpenPair) (old new : Option (List ℕ)) → IsOpen pair → open_bytes pair ≢ []
+pub last_lone_part : {pair : OpenPair} {old new : Option (List ℕ)} → IsOpen pair → open_bytes pair ≢ []
     → ¬ ((pair.is_range_ended ≡ true) × (pair.version.items ≢ []))
     → (left : List ℕ) × Moves old new [] (codes "missing version\n") left → AnswersAllSome (open_bytes pair) old new []
-last_lone_part pair old new lines some alone part =
-    record { left = part.0; all = last_lone pair old new part.0 lines some alone part.1 }
+last_lone_part lines some alone part = record { left = part.0; all = last_lone lines some alone part.1 }
 
-pub last_pair_part : (pair : OpenPair) (old new : Option (List ℕ)) (waiting : List ℕ) → IsOpen pair
+pub last_pair_part : {pair : OpenPair} {old new : Option (List ℕ)} {waiting : List ℕ} → IsOpen pair
     → (pair.is_range_ended ≡ true) × (pair.version.items ≢ [])
     → AnswersOneSome pair.range.items pair.version.items old new waiting
     → AnswersAllSome (open_bytes pair) old new waiting
-last_pair_part pair old new waiting lines whole some = record {
-  left = some.left;
-  all = last_pair pair old new waiting some.left lines whole.0 whole.1 some.one;
-}
+last_pair_part lines whole some = record { left = some.left; all = last_pair lines whole.0 whole.1 some.one }
 
-pub last_written : (bytes : List ℕ) (old now new : Option (List ℕ)) (waiting : List ℕ)
+pub last_written : {bytes : List ℕ} {old now new : Option (List ℕ)} {waiting : List ℕ}
     → AnswersAll bytes old now [] waiting → Appends now new waiting → AnswersAll bytes old new [] []
-last_written bytes old now new waiting all put = record {
+last_written {bytes = bytes} all put = record {
   added = all.added ++ [];
   answers = subst (AreAnswers (pairs_read true bytes)) (sym (append-nil all.added)) all.answers;
-  moves = moves-trans old now new [] all.added waiting [] [] all.moves (moves-all now new waiting [] put);
+  moves = moves-trans all.moves (moves-all put);
 }
 
-pub last_written_part : (bytes : List ℕ) (old now new : Option (List ℕ)) (waiting : List ℕ)
+pub last_written_part : {bytes : List ℕ} {old now new : Option (List ℕ)} {waiting : List ℕ}
     → AnswersAll bytes old now [] waiting → (count : ℕ) × Appends now new (take count waiting)
     → AnswersAllSome bytes old new []
-last_written_part bytes old now new waiting all part = record {
+last_written_part {bytes = bytes} {waiting = waiting} all part = record {
   left = drop part.0 waiting ++ [];
   all = record {
     added = all.added ++ [];
     answers = subst (AreAnswers (pairs_read true bytes)) (sym (append-nil all.added)) all.answers;
-    moves = moves-trans old now new [] all.added waiting [] (drop part.0 waiting ++ []) all.moves
-        (moves-part now new waiting [] part.0 part.1);
+    moves = moves-trans all.moves (moves-part part.0 part.1);
   };
 }
 
@@ -109,9 +104,9 @@ written-is : (contents contents_new : Option (List ℕ)) (added : List ℕ)
     → (moves : Moves contents contents_new [] added []) → added ≡ moves.written
 written-is contents contents_new added moves = moves.all ∙ append-nil moves.written
 
-pub run_none : (remaining contents : Option (List ℕ)) (kept : OpenPair) → open_bytes kept ≡ []
+pub run_none : {remaining contents : Option (List ℕ)} {kept : OpenPair} → open_bytes kept ≡ []
     → RunSoFar remaining remaining contents contents kept 0
-run_none remaining contents kept none = record {
+run_none {remaining = remaining} none = record {
   read = [];
   taken = Consumes-nil remaining;
   past = record {
@@ -120,38 +115,32 @@ run_none remaining contents kept none = record {
       go_on = λ is_end later more answers.
           subst (λ (l : List ℕ). AreAnswers (pairs_read is_end (l ++ later)) more) none answers;
     };
-    moves = moves-none contents [];
+    moves = moves-none;
   };
   least = omega arith;
 }
 
-past_longer : (bytes rest more : List ℕ) (old new : Option (List ℕ)) (waiting left : List ℕ)
+past_longer : {bytes rest : List ℕ} (more : List ℕ) {old new : Option (List ℕ)} {waiting left : List ℕ}
     → AnswersPast bytes rest old new waiting left → AnswersPast (bytes ++ more) (rest ++ more) old new waiting left
-past_longer bytes rest more old new waiting left past = record {
-  added = past.added;
-  answers = answers-longer bytes rest past.added more past.answers;
-  moves = past.moves;
-}
+past_longer more past = record { added = past.added; answers = answers-longer more past.answers; moves = past.moves }
 
-pub run_more : (r0 r1 r2 c0 c1 c2 : Option (List ℕ)) (kept kept_new : OpenPair) (count : ℕ) (piece : List ℕ)
+pub run_more : {r0 r1 r2 c0 c1 c2 : Option (List ℕ)} {kept kept_new : OpenPair} {count : ℕ} (piece : List ℕ)
     → RunSoFar r0 r1 c0 c1 kept count → Consumes r1 r2 piece → 1 ≤ length piece
     → AnswersPast (open_bytes kept ++ piece) (open_bytes kept_new) c1 c2 [] []
     → RunSoFar r0 r2 c0 c2 kept_new (count + 1)
-run_more r0 r1 r2 c0 c1 c2 kept kept_new count piece so_far taken some past = record {
+run_more {r0 = r0} {r1 = r1} {r2 = r2} piece so_far taken some past = record {
   read = so_far.read ++ piece;
   taken = Consumes-trans r0 r1 r2 so_far.read piece so_far.taken taken;
-  past = past_trans (so_far.read ++ piece) (open_bytes kept ++ piece) (open_bytes kept_new) c0 c1 c2 [] [] []
-      (past_longer so_far.read (open_bytes kept) piece c0 c1 [] [] so_far.past) past;
+  past = past_trans (past_longer piece so_far.past) past;
   least = rw length-append (let least = so_far.least in omega arith);
 }
 
 -- a piece was not answered to its end
-pub run_part : (Ended : Type 0) (r0 r1 r2 c0 c1 c2 : Option (List ℕ)) (kept : OpenPair) (count : ℕ) (piece : List ℕ)
+pub run_part : (Ended : Type 0) {r0 r1 r2 c0 c1 c2 : Option (List ℕ)} {kept : OpenPair} {count : ℕ} (piece : List ℕ)
     → RunSoFar r0 r1 c0 c1 kept count → Consumes r1 r2 piece → AnswersSome (open_bytes kept ++ piece) c1 c2 []
     → Exchanges (IsOutputPrefix Ended) r0 r2 c0 c2
-run_part Ended r0 r1 r2 c0 c1 c2 kept count piece so_far taken some =
-    let past = past_trans (so_far.read ++ piece) (open_bytes kept ++ piece) some.rest c0 c1 c2 [] [] some.left
-    (past_longer so_far.read (open_bytes kept) piece c0 c1 [] [] so_far.past) some.past in record {
+run_part Ended {r0 = r0} {r1 = r1} {r2 = r2} piece so_far taken some =
+    let past = past_trans (past_longer piece so_far.past) some.past in record {
       read = so_far.read ++ piece;
       written = past.moves.written;
       taken = Consumes-trans r0 r1 r2 so_far.read piece so_far.taken taken;
@@ -159,15 +148,14 @@ run_part Ended r0 r1 r2 c0 c1 c2 kept count piece so_far taken some =
       together = (
         false,
         λ is_end. cc is_end,
-        begins-some (so_far.read ++ piece) some.rest past.added past.moves.written some.left past.answers
-            past.moves.all,
+        begins-some past.moves.written some.left past.answers past.moves.all,
       );
     }
 
 -- the reader failed, or did not end
-pub run_stop : (Ended : Type 0) (r0 r1 r2 c0 c1 : Option (List ℕ)) (kept : OpenPair) (count : ℕ)
+pub run_stop : (Ended : Type 0) {r0 r1 r2 c0 c1 : Option (List ℕ)} {kept : OpenPair} {count : ℕ}
     → RunSoFar r0 r1 c0 c1 kept count → Keeps r1 r2 → Exchanges (IsOutputPrefix Ended) r0 r2 c0 c1
-run_stop Ended r0 r1 r2 c0 c1 kept count so_far keeps = record {
+run_stop Ended {r0 = r0} {r1 = r1} {r2 = r2} so_far keeps = record {
   read = so_far.read;
   written = so_far.past.moves.written;
   taken = Consumes-kept r0 r1 r2 so_far.read so_far.taken keeps;
@@ -175,21 +163,20 @@ run_stop Ended r0 r1 r2 c0 c1 kept count so_far keeps = record {
   together = (
     false,
     λ is_end. cc is_end,
-    begins-some so_far.read (open_bytes kept) so_far.past.added so_far.past.moves.written [] so_far.past.answers
-        so_far.past.moves.all,
+    begins-some so_far.past.moves.written [] so_far.past.answers so_far.past.moves.all,
   );
 }
 
 -- then all output is written
-pub run_stop_all : (r0 r1 r2 c0 c1 : Option (List ℕ)) (kept : OpenPair) (count : ℕ) → RunSoFar r0 r1 c0 c1 kept count
+pub run_stop_all : {r0 r1 r2 c0 c1 : Option (List ℕ)} {kept : OpenPair} {count : ℕ} → RunSoFar r0 r1 c0 c1 kept count
     → IsOpen kept → Keeps r1 r2 → Exchanges IsOutputBeforeEnd r0 r2 c0 c1
-run_stop_all r0 r1 r2 c0 c1 kept count so_far lines keeps = record {
+run_stop_all {r0 = r0} {r1 = r1} {r2 = r2} {c0 = c0} {c1 = c1} so_far lines keeps = record {
   read = so_far.read;
   written = so_far.past.moves.written;
   taken = Consumes-kept r0 r1 r2 so_far.read so_far.taken keeps;
   put = so_far.past.moves.put;
   together = subst (IsOutputBeforeEnd so_far.read) (written-is c0 c1 so_far.past.added so_far.past.moves)
-      (before_end so_far.read (open_bytes kept) so_far.past.added so_far.past.answers (open_none kept lines));
+      (before_end so_far.past.answers (open_none lines));
 }
 
 -- the end was read
@@ -198,13 +185,13 @@ end-answers : (r0 r1 c0 c1 c2 : Option (List ℕ)) (kept : OpenPair) (count : �
     → IsOutput so_far.read (so_far.past.added ++ all.added)
     × Moves c0 c2 [] (so_far.past.added ++ all.added) left
 end-answers r0 r1 c0 c1 c2 kept count left so_far all = (
-  answers-all true so_far.read (open_bytes kept) so_far.past.added all.added so_far.past.answers all.answers,
-  moves-trans c0 c1 c2 [] so_far.past.added [] all.added left so_far.past.moves all.moves,
+  answers-all true all.added so_far.past.answers all.answers,
+  moves-trans so_far.past.moves all.moves,
 )
 
-pub run_end : (r0 r1 r2 c0 c1 c2 : Option (List ℕ)) (kept : OpenPair) (count : ℕ) → RunSoFar r0 r1 c0 c1 kept count
+pub run_end : {r0 r1 r2 c0 c1 c2 : Option (List ℕ)} {kept : OpenPair} {count : ℕ} → RunSoFar r0 r1 c0 c1 kept count
     → Consumes r1 r2 [] → AnswersAll (open_bytes kept) c1 c2 [] [] → Exchanges IsOutput r0 r2 c0 c2
-run_end r0 r1 r2 c0 c1 c2 kept count so_far taken all =
+run_end {r0 = r0} {r1 = r1} {r2 = r2} {c0 = c0} {c1 = c1} {c2 = c2} {kept = kept} {count = count} so_far taken all =
     let whole = end-answers r0 r1 c0 c1 c2 kept count [] so_far all in record {
       read = so_far.read ++ [];
       written = whole.1.written;
@@ -214,10 +201,11 @@ run_end r0 r1 r2 c0 c1 c2 kept count so_far taken all =
           (subst (IsOutput so_far.read) (written-is c0 c2 (so_far.past.added ++ all.added) whole.1) whole.0);
     }
 
-pub run_end_part : (Ended : Type 0) (r0 r1 r2 c0 c1 c2 : Option (List ℕ)) (kept : OpenPair) (count : ℕ)
+pub run_end_part : (Ended : Type 0) {r0 r1 r2 c0 c1 c2 : Option (List ℕ)} {kept : OpenPair} {count : ℕ}
     → RunSoFar r0 r1 c0 c1 kept count → Consumes r1 r2 [] → Ended → AnswersAllSome (open_bytes kept) c1 c2 []
     → Exchanges (IsOutputPrefix Ended) r0 r2 c0 c2
-run_end_part Ended r0 r1 r2 c0 c1 c2 kept count so_far taken ended some =
+run_end_part Ended {r0 = r0} {r1 = r1} {r2 = r2} {c0 = c0} {c1 = c1} {c2 = c2} {kept = kept} {count = count} so_far
+    taken ended some =
     let whole = end-answers r0 r1 c0 c1 c2 kept count some.left so_far some.all in record {
       read = so_far.read ++ [];
       written = whole.1.written;
@@ -235,9 +223,9 @@ run_end_part Ended r0 r1 r2 c0 c1 c2 kept count so_far taken ended some =
     }
 
 -- so many reads gave at least as many bytes
-pub run_least : (r0 r1 c0 c1 : Option (List ℕ)) (kept : OpenPair) (count least : ℕ)
+pub run_least : (r0 r1 : Option (List ℕ)) {c0 c1 : Option (List ℕ)} {kept : OpenPair} {count : ℕ} (least : ℕ)
     → RunSoFar r0 r1 c0 c1 kept count → least ≤ count → IfSome r0 (λ bytes. least ≤ length bytes)
-run_least None r1 c0 c1 kept count least so_far enough = tt
-run_least (Some all) None c0 c1 kept count least so_far enough = absurd so_far.taken
-run_least (Some all) (Some rest) c0 c1 kept count least so_far enough =
+run_least None r1 least so_far enough = tt
+run_least (Some all) None least so_far enough = absurd so_far.taken
+run_least (Some all) (Some rest) least so_far enough =
     let read = so_far.least in rw (so_far.taken, length-append) (omega arith)

@@ -101,12 +101,8 @@ module _ (included : Bool) (Wanted : VersionValue → Type 0) where
   more-taken : (P : Ends VersionValue → Type 0) (all : List (Ends VersionValue)) (k : ℕ) (set : Ends VersionValue)
       → k < length all → set ≡ get_or all k set → AllByRecursion P (take k all) → P set
       → AllByRecursion P (take (k + 1) all)
-  more-taken P all k set lt is each this = grind (
-    arith,
-    take_more all k set lt,
-    all-append P (take k all) (set ∷ [])
-        each (this, tt),
-  )
+  more-taken P all k set lt is each this =
+      grind (arith, take_more all k set lt, all-append P (take k all) (set ∷ []) each (this, tt))
 
   pub sets-more : (all : List (Ends VersionValue)) (k : ℕ) (set : Ends VersionValue)
       (earlier later : Option VersionValue)

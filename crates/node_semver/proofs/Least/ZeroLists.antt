@@ -121,17 +121,8 @@ answered s t e i = (λ h. i.0 (sym e ∙ h), λ p. e ∙ i.1 p)
 
 pub in-second : (a b : List Identifier) (z w : Bool) (r : Ordering) → z ≡ false → w ≡ true → (length a == 0) ≡ false
     → r ≡ slice_cmp (on value_of identifier_cmp) a b → IsTrue (is_le r) ↔ BelowWith a z b w
-in-second a b z w r p q some e = grind (
-  arith,
-  without,
-  with,
-  both-some,
-  values-some,
-  some-zeroed,
-  along,
-  below-zeroed,
-  compared,
-)
+in-second a b z w r p q some e =
+    grind (arith, without, with, both-some, values-some, some-zeroed, along, below-zeroed, compared)
 
 module _ (a b : List Identifier) (z w : Bool) (r : Ordering) (p : z ≡ true) (q : w ≡ false)
     (some : (length b == 0) ≡ false) (e : r ≡ slice_cmp (on value_of identifier_cmp) a b) where

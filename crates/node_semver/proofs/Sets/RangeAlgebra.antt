@@ -1,6 +1,6 @@
 -- Intersection and difference of ranges: which cuts their sets have, and which versions they admit.
 use native.Mathlib.Omega.{arith}
-use Rattle.std.proofs.Common.{◌≡◌, ◌↔◌, Bool, if◌then◌else◌, List, [], ◌∷◌, refl}
+use Rattle.std.proofs.Common.{if◌then◌else◌, ◌≡◌, ◌↔◌, Bool, List, [], ◌∷◌, refl}
 use Rattle.std.specs.Ordering.{is_lt}
 use Rattle.semver_cuts.specs.declared.cut.Cut.{Cut}
 use Rattle.semver_cuts.specs.declared.cut.Cut.TheVariants.{Before}
@@ -89,11 +89,6 @@ common-releases ones others v release = grind (
 -- a difference admits a release exactly where the first range does and the second does not
 pub difference-releases : (ones others spans : List (Ends VersionValue)) → AreDifference version_cmp ones others spans
     → (v : VersionValue) → ¬ IsPrerelease v → RangeAdmits spans v ↔ (RangeAdmits ones v × (¬ RangeAdmits others v))
-difference-releases ones others spans are v release = grind (
-  arith,
-  release-admitted spans v release,
-  release-admitted
-      ones v release,
-  release-admitted others v release,
-  difference-cuts version_cmp ones others spans are (Before v),
-)
+difference-releases ones others spans are v release =
+    grind (arith, release-admitted spans v release, release-admitted ones v release, release-admitted others v release,
+        difference-cuts version_cmp ones others spans are (Before v))

@@ -1,9 +1,12 @@
 -- The advisories of some files in npm's form and in OSV's, and the faults of others.
 use Rattle.std.proofs.Common.{◌≡◌, ◌∷◌, [], List, ℕ, Some, None, codes, false, map, refl, true}
-use Rattle.serde_json.specs.Data.{Data, Items, array, item, member, no_items, no_members, null, object, string}
+use Rattle.serde_json.specs.Data.{Data, Items, array, item, member, no_items, no_members, null, number, object, string}
+use Rattle.serde_json.specs.Data.{unsigned}
 use Rattle.node_semver.specs.Versions.{release}
 use Rattle.npm_advisories.specs.Advisories.{AboutValue, in_osv, range_text}
+use Rattle.npm_advisories.specs.Faults.{fault_at}
 use Rattle.npm_advisories.specs.Files.{IsFileFault, advisories_of}
+use Rattle.npm_advisories.specs.Ids.{id_in, number as id_number, text as id_text}
 use Rattle.npm_advisories.specs.OsvRanges.{fixed, introduced}
 use Rattle.npm_advisories.specs.Severities.{is_at_least, severity_of_text}
 use Rattle.npm_advisories.specs.declared.fault.FaultKind.TheVariants as Faults
@@ -125,7 +128,7 @@ installed = codes "b" ∷ codes "a" ∷ []
 pub a_version_has_no_fault : IsFileFault installed in_osvs None
 a_version_has_no_fault is_version told = rw (told.passes (codes "2.0.0") (release 2 0 0) two) refl
 
-pub a_string_is_no_file : IsFileFault installed (string []) (Some (record { kind = Faults.File; name = []; place = 0 }))
+pub a_string_is_no_file : IsFileFault installed (string []) (Some (fault_at [] 0 None Faults.File))
 a_string_is_no_file is_version told = refl
 
 -- an element about a repository alone has no `package`, or `null`
@@ -136,21 +139,28 @@ no_package_has_no_fault is_version told = refl
 -- another type of a range, and none
 pub another_type_is_a_fault : IsFileFault installed (osv_of (item (element (codes "npm")
     (item (up_to (codes "semver") (codes "2.0.0")) no_items)) no_items))
-    (Some (record { kind = Faults.Type; name = codes "a"; place = 0 }))
+    (Some (fault_at (codes "a") 0 (Some (id_text (codes "O"))) Faults.Type))
 another_type_is_a_fault is_version told = refl
 
 -- the second of a list has no `id`
 pub a_fault_has_its_place : IsFileFault installed (array (item in_osvs (item (only (codes "affected")
     (array (item (element (codes "npm") no_items) no_items))) no_items)))
-    (Some (record { kind = Faults.OsvId; name = codes "a"; place = 1 }))
+    (Some (fault_at (codes "a") 1 None Faults.OsvId))
 a_fault_has_its_place is_version told = rw (told.passes (codes "2.0.0") (release 2 0 0) two) refl
 
 -- an event with two members is none, whatever their texts
 pub two_members_are_no_event : IsFileFault installed (osv_of (item (element (codes "npm") (item (object
     (member (codes "type") (string (codes "SEMVER")) (member (codes "events") (array (item (object
     (member (codes "fixed") (string (codes "2.0.0")) (member (codes "introduced") (string (codes "0")) no_members)))
-    no_items)) no_members))) no_items)) no_items)) (Some (record { kind = Faults.Event; name = codes "a"; place = 0 }))
+    no_items)) no_members))) no_items)) no_items)) (Some (fault_at (codes "a") 0
+    (Some (id_text (codes "O"))) Faults.Event))
 two_members_are_no_event is_version told = refl
+
+-- an `id` that is no whole number and no string is none; then the `url` is one
+pub an_id_is_a_number_or_a_text : id_in (only (codes "id") (string (codes "A"))) ∷ id_in (only (codes "id") (number (unsigned 7)))
+    ∷ id_in (only (codes "id") null) ∷ id_in (only (codes "url") (string (codes "u"))) ∷ []
+    ≡ Some (id_text (codes "A")) ∷ Some (id_number 7) ∷ None ∷ Some (id_text (codes "u")) ∷ []
+an_id_is_a_number_or_a_text = refl
 
 -- ---- advisories about packages that are not installed
 
@@ -161,11 +171,11 @@ about_none_has_no_fault is_version told = refl
 
 -- an object whose `affected` is no list may be about any package
 pub about_any_is_a_fault : IsFileFault [] (array (item (only (codes "affected") (string [])) no_items))
-    (Some (record { kind = Faults.OsvId; name = []; place = 0 }))
+    (Some (fault_at [] 0 None Faults.OsvId))
 about_any_is_a_fault is_version told = refl
 
 -- of `{"a": "", "b": ""}` the fault is that of `b`, if `b` alone is installed
 pub no_list_of_an_installed_name : IsFileFault (codes "b" ∷ [])
     (object (member (codes "a") (string []) (member (codes "b") (string []) no_members)))
-    (Some (record { kind = Faults.List; name = codes "b"; place = 0 }))
+    (Some (fault_at (codes "b") 0 None Faults.List))
 no_list_of_an_installed_name is_version told = refl

@@ -5,7 +5,8 @@ use Rattle.node_semver.specs.RangeAlgebra.{sets_of_answer}
 use Rattle.node_semver.specs.Ranges.{IsRangeValue, RangeContains}
 use Rattle.node_semver.specs.Versions.{VersionValue}
 use Rattle.npm_advisories.specs.Advisories.{AdvisoryValue, Affected, Affects, about_value}
-use Rattle.npm_advisories.specs.Faults.{FaultValue, fault_value}
+use Rattle.npm_advisories.specs.Faults.{FaultValue, fault_at, fault_value}
+use Rattle.npm_advisories.specs.Ids.{IdValue}
 use Rattle.npm_advisories.specs.declared.advisory.Advisory.{Advisory}
 use Rattle.npm_advisories.specs.declared.fault.AuditError.{AuditError}
 use Rattle.npm_advisories.specs.declared.fault.AuditError.TheVariants as Errors
@@ -34,12 +35,12 @@ abbrev pub IsErrorOf : Option FaultValue → AuditError → Type 0
 IsErrorOf fault (Errors.Refused at) = fault ≡ Some (fault_value at)
 IsErrorOf fault Errors.Memory = Unit {0}
 
--- the fault with this name and place
-abbrev pub at_place : (name : List ℕ) → (place : ℕ) → Option FaultKind → Option FaultValue
-at_place name place fault = option_map (λ kind. record { kind = kind; name = name; place = place }) fault
+-- the fault with this name, place and id
+abbrev pub at_place : (name : List ℕ) → (place : ℕ) → Option IdValue → Option FaultKind → Option FaultValue
+at_place name place id fault = option_map (fault_at name place id) fault
 
 -- the error of an advisory at a place
-abbrev pub IsErrorAt : Unread → (name : List ℕ) → (place : ℕ) → AuditError → Type 0
-IsErrorAt (Refused kind) name place error =
-    IsErrorOf (Some (record { kind = kind; name = name; place = place })) error × (error ≢ Errors.Memory)
-IsErrorAt Memory name place error = error ≡ Errors.Memory
+abbrev pub IsErrorAt : Unread → (name : List ℕ) → (place : ℕ) → Option IdValue → AuditError → Type 0
+IsErrorAt (Refused kind) name place id error =
+    IsErrorOf (Some (fault_at name place id kind)) error × (error ≢ Errors.Memory)
+IsErrorAt Memory name place id error = error ≡ Errors.Memory

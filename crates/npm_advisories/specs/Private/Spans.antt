@@ -1,9 +1,8 @@
--- Advisories that were read: which of them hit a version, and spans of versions that are not offered.
-use Rattle.std.specs.Prelude.{◌≡◌, ◌↔◌, List, Option, Some, None, true}
-use Rattle.semver_cuts.specs.Ends.{Ends}
+-- Advisories that were read: which of them hit a version.
+use Rattle.std.specs.Prelude.{◌≡◌, List, Option, Some, None, true}
 use Rattle.node_semver.specs.RangeAlgebra.{sets_of_answer}
-use Rattle.node_semver.specs.Ranges.{AnyByRecursion, IsRangeValue, RangeContains}
-use Rattle.node_semver.specs.Versions.{IsPrerelease, VersionValue}
+use Rattle.node_semver.specs.Ranges.{AnyByRecursion, RangeContains}
+use Rattle.node_semver.specs.Versions.{VersionValue}
 use Rattle.npm_advisories.specs.Severities.{is_at_least}
 use Rattle.npm_advisories.specs.declared.advisory.Advisory.{Advisory}
 use Rattle.npm_advisories.specs.declared.severity.Severity.{Severity}
@@ -26,13 +25,3 @@ IsInRange advisories v = AnyByRecursion (λ advisory. RangeContains (sets_of_ans
 abbrev pub IsPast : List Advisory → Option VersionValue → Type 0
 IsPast advisories (Some v) = ¬ IsInRange advisories v
 IsPast advisories None = ⊥
-
--- the spans can be those of a range, and contain these versions
-pub record Contain (spans : List (Ends VersionValue)) (Has : VersionValue → Type 0) : Type 0 where
-  pub holds : IsRangeValue spans
-  pub exact : (v : VersionValue) → RangeContains spans v ↔ Has v
-
--- a release that lies in none of the spans
-pub record IsOutside (spans : List (Ends VersionValue)) (v : VersionValue) : Type 0 where
-  pub release : ¬ IsPrerelease v
-  pub outside : ¬ RangeContains spans v

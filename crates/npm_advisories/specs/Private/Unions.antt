@@ -1,5 +1,5 @@
 -- All versions that advisories are about, by the names of packages.
-use Rattle.std.specs.Prelude.{◌↔◌, ℕ, List}
+use Rattle.std.specs.Prelude.{◌≡◌, ◌↔◌, ℕ, List, [], Option}
 use Rattle.std.specs.BTreeMap.{get_by}
 use Rattle.std.specs.Cmp.Lexicographic.{slice_cmp}
 use Rattle.std.specs.Option.{MatchOption}
@@ -7,13 +7,27 @@ use Rattle.std.specs.Ordering.{nat_cmp}
 use Rattle.node_semver.specs.RangeAlgebra.{sets_of_answer}
 use Rattle.node_semver.specs.Ranges.{RangeContains}
 use Rattle.node_semver.specs.Versions.{VersionValue}
+use Rattle.npm_advisories.specs.Private.Covering.{AreCovered}
 use Rattle.npm_advisories.specs.Private.Index.{at_name}
 use Rattle.npm_advisories.specs.Private.Spans.{IsInRange}
+use Rattle.npm_advisories.specs.declared.advisory.Advisory.{Advisory}
 use Rattle.npm_advisories.specs.declared.index.Index.{Index}
+use Rattle.npm_advisories.specs.declared.unions.Union.{Union}
 use Rattle.npm_advisories.specs.declared.unions.Unions.{Unions}
 
--- what there is at a name are the versions that the advisories of the index about that package are about
+-- these are the versions that the advisories are about, and the releases among them
+pub record IsUnion (advisories : List Advisory) (union : Union) : Type 0 where
+  pub all : (v : VersionValue) → RangeContains (sets_of_answer union.all) v ↔ IsInRange advisories v
+  pub covered : AreCovered union.covered.items (IsInRange advisories)
+
+-- the union at a name
+abbrev pub union_at : Unions → (name : List ℕ) → Option Union
+union_at unions name = get_by (λ k. slice_cmp nat_cmp name k.now) unions.by_name
+
+-- the union at each name, if there is one, is that of the advisories of the index about that package
 abbrev pub AreUnions : Index → Unions → Type 0
-AreUnions index unions = (name : List ℕ)
-    → MatchOption (get_by (λ k. slice_cmp nat_cmp name k.now) unions.by_name) (Unit {0})
-    (λ all. (v : VersionValue) → RangeContains (sets_of_answer all) v ↔ IsInRange (at_name index name) v)
+AreUnions index unions = (name : List ℕ) → MatchOption (union_at unions name) (Unit {0}) (IsUnion (at_name index name))
+
+-- there is a union at the name if the index has advisories about that package
+abbrev pub IsKnown : Index → Unions → (name : List ℕ) → Type 0
+IsKnown index unions name = MatchOption (union_at unions name) (at_name index name ≡ []) (IsUnion (at_name index name))

@@ -4,13 +4,13 @@ use super::about_a;
 use crate::checks::has_fault;
 use std::alloc::Global;
 
-// A text, and its fault: its kind, the first installed package that the advisory is about, if there is one, and its place. Those with
-// no fault are read.
+// A text, and its fault: its kind, the first installed package that the advisory is about, if there is one, its place and its
+// id. Those with no fault are read.
 const TEXTS: [(&str, &str); 15] = [
     ("[1]", "Advisory  0"),
     (
         r#"[{"id": "O"}, {"id": 1, "affected": [{"package": {"ecosystem": "npm", "name": "a"}}]}]"#,
-        "OsvId a 1",
+        "OsvId a 1 1",
     ),
     (
         r#"[{"affected": [{"package": {"ecosystem": "npm", "name": "a"}}], "withdrawn": true}]"#,
@@ -18,7 +18,7 @@ const TEXTS: [(&str, &str); 15] = [
     ),
     (
         r#"{"id": "O", "withdrawn": true, "affected": [{"package": {"ecosystem": "npm", "name": "a"}, "ranges": 1}]}"#,
-        "Withdrawn a 0",
+        "Withdrawn a 0 O",
     ),
     (
         r#"{"id": "O", "withdrawn": null, "affected": [{"package": {"ecosystem": "npm", "name": "b"}}]}"#,
@@ -37,72 +37,72 @@ const TEXTS: [(&str, &str); 15] = [
     (
         r#"{"id": "O", "affected": [{"package": {"ecosystem": "npm", "name": "c"}, "ranges": 1},
             {"package": {"ecosystem": "npm", "name": "b"}, "versions": 1}]}"#,
-        "Versions b 0",
+        "Versions b 0 O",
     ),
     (
         r#"[{"id": "O", "affected": [{"package": {"ecosystem": "npm", "name": "c"}, "versions": 1}]},
             {"id": "P", "affected": [{"package": {"ecosystem": "npm", "name": "c"}}, {}, 1]}]"#,
-        "Package  1",
+        "Package  1 P",
     ),
-    (r#"{"id": "O", "affected": {}}"#, "Affected  0"),
+    (r#"{"id": "O", "affected": {}}"#, "Affected  0 O"),
     (
         r#"{"id": "O", "affected": {}, "withdrawn": "2022-01-01T00:00:00Z"}"#,
         "",
     ),
-    (r#"{"id": "O", "affected": [1]}"#, "Package  0"),
+    (r#"{"id": "O", "affected": [1]}"#, "Package  0 O"),
     (
         r#"{"id": "O", "affected": [{"package": {"name": "a"}}]}"#,
-        "Package  0",
+        "Package  0 O",
     ),
     (
         r#"{"id": "O", "affected": [{"package": {"ecosystem": "npm"}}]}"#,
-        "Package  0",
+        "Package  0 O",
     ),
 ];
 
 // Members of an element of `affected`, and the fault.
 const MEMBERS: [(&str, &str); 13] = [
-    (r#""ranges": {}"#, "Ranges a 0"),
-    (r#""ranges": [{"events": []}]"#, "Type a 0"),
+    (r#""ranges": {}"#, "Ranges a 0 O"),
+    (r#""ranges": [{"events": []}]"#, "Type a 0 O"),
     (
         r#""ranges": [{"type": "SEMVER", "events": {}}]"#,
-        "Events a 0",
+        "Events a 0 O",
     ),
     (
         r#""ranges": [{"type": "SEMVER", "events": [{}]}]"#,
-        "Event a 0",
+        "Event a 0 O",
     ),
     (
         r#""ranges": [{"type": "SEMVER", "events": [{"introduced": "1.2"}]}]"#,
-        "Event a 0",
+        "Event a 0 O",
     ),
     (
         r#""ranges": [{"type": "SEMVER", "events": [{"fixed": "0"}]}]"#,
-        "Event a 0",
+        "Event a 0 O",
     ),
     (
         r#""ranges": [{"type": "SEMVER", "events": [{"introduced": "0", "fixed": "1.0.0"}]}]"#,
-        "Event a 0",
+        "Event a 0 O",
     ),
     (
         r#""ranges": [{"type": "SEMVER", "events": [{"introduced": "0"}, {"limit": "1.0"}]}]"#,
-        "Event a 0",
+        "Event a 0 O",
     ),
     (
         r#""ranges": [{"type": "SEMVER", "events": [{"limit": "1.0.0", "fixed": "1.0.0"}]}]"#,
-        "Event a 0",
+        "Event a 0 O",
     ),
     (
         r#""ranges": [{"type": "ECOSYSTEM", "events": [{"introduced": "*"}]}]"#,
-        "Event a 0",
+        "Event a 0 O",
     ),
     (
         r#""ranges": [{"type": "semver", "events": []}]"#,
-        "Type a 0",
+        "Type a 0 O",
     ),
     // The error has the first of two faults.
-    (r#""ranges": [{"type": 1}], "versions": 1"#, "Type a 0"),
-    (r#""versions": "1.0.0""#, "Versions a 0"),
+    (r#""ranges": [{"type": 1}], "versions": 1"#, "Type a 0 O"),
+    (r#""versions": "1.0.0""#, "Versions a 0 O"),
 ];
 
 #[test]

@@ -1,10 +1,8 @@
 -- The names that a package depends on are the keys of the map of its dependencies.
 use Rattle.std.proofs.Common.{◌≡◌, ◌∙◌, ℕ, zero, suc, List, [], ◌∷◌, Bool, true, false, cond, Option, Some, BTreeMap}
-use Rattle.std.proofs.Common.{String, Global, string_bytes, string_cmp, nat_cmp, Less, Ordering, ap, arith}
-use Rattle.std.proofs.Common.{bytes_eq, is_eq, map, option_map, refl, sym}
+use Rattle.std.proofs.Common.{nat_cmp, Less, Ordering, ap, arith}
+use Rattle.std.proofs.Common.{is_eq, map, option_map, refl, sym}
 use denote.Ref.{Bor}
-use Rattle.std.proofs.lemmas.Map.Text.{is_eq-slice_cmp}
-use Rattle.std.proofs.lemmas.Slice.Eq.{bytes_eq-Decides}
 use Rattle.std.specs.BTreeMap.{is_at}
 use Rattle.std.specs.Cmp.Lexicographic.{slice_cmp}
 use Rattle.std.specs.List.{AllByRecursion, Contains}
@@ -12,11 +10,8 @@ use Rattle.std.specs.List.Sorted.{IsStrictlySortedBy}
 use Rattle.std.specs.Map.{keys_of as tree_keys, lookup}
 use Rattle.std.specs.Option.{IsSome}
 use Rattle.serde_json.specs.Data.{Data}
-use Rattle.serde_json.specs.View.{members_view}
-use Rattle.serde_json.specs.declared.value.Value.{Value}
 use Rattle.npm_texts.specs.Lemmas.Keys.{exact, itself}
 use Rattle.npm_packages.specs.Asked.{AreNames, asked_of}
-use Rattle.npm_texts.specs.ObjectKeys.{keys_of}
 use Rattle.npm_packages.specs.PackageValue.{asked_value}
 use Rattle.npm_packages.specs.Names.{at_name}
 use Rattle.npm_packages.specs.declared.asked.Asked.{Asked}

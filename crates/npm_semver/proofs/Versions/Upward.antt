@@ -34,7 +34,7 @@ pub next-above : (base : IdentifierBase) (v w : VersionValue) → HasSameTriple 
     → IsNextOf None base v.pre_release w.pre_release → IsBelow v w
 next-above base v w triple pre next = grind (arith, next-below, some-append)
 
-same-triple : (v w : VersionValue) → (triple_of w).major ≡ v.major → (triple_of w).minor ≡ v.minor
+pub same-triple : (v w : VersionValue) → (triple_of w).major ≡ v.major → (triple_of w).minor ≡ v.minor
     → (triple_of w).patch ≡ v.patch → HasSameTriple v w
 same-triple v w major minor patch = record { major = sym major; minor = sym minor; patch = sym patch }
 

@@ -64,15 +64,7 @@ module _ {T : Type 0} {cmp : T → T → Ordering} (o : IsTotalOrder cmp) (other
   -- if the cut is not below the end of `one`, there is no piece
   no-piece : (low : Cut T) (spans : List (Ends T)) → IsCutAtMost cmp one.upper low
       → ArePiecesFrom cmp others one low spans []
-  no-piece low spans above = record {
-    rising = tt;
-    apart = tt;
-    from = tt;
-    inside = λ cut is. absurd is;
-    all = λ cut l u free. absurd (below-not-at_most o cut one.upper u (at_most_trans o one.upper low cut above l));
-    lowers = tt;
-    uppers = tt;
-  }
+  no-piece low spans above = grind (arith, below-not-at_most, at_most_trans, above)
 
   module _ (low : Cut T) (span : Ends T) (spans : List (Ends T)) (over : IsCutBelow cmp low span.upper)
       (rising : IsCutBelow cmp span.lower span.upper)

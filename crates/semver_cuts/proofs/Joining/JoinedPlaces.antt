@@ -31,14 +31,8 @@ IsPlaced spans p = (p.place < length spans) × (span_at spans p.place ≡ p.span
 pub placed-in : {T : Type 0} (front spans : List (Ends T)) (n : ℕ) → length front ≡ n
     → AllByRecursion (IsPlaced (front ++ spans)) (placed_from n spans)
 placed-in front [] n e = tt
-placed-in front (span ∷ spans) n e = grind (
-  arith,
-  append_assoc,
-  length-append,
-  get_or_at,
-  placed-in
-      (front ++ span ∷ []) spans (n + 1),
-)
+placed-in front (span ∷ spans) n e =
+    grind (arith, append_assoc, length-append, get_or_at, placed-in (front ++ span ∷ []) spans (n + 1))
 
 -- ---- joining the spans along the sorted list
 
@@ -199,14 +193,7 @@ module _ {T : Type 0} {cmp : T → T → Ordering} (o : IsTotalOrder cmp) (spans
         → AllByRecursion (λ (s : Ends T). IsCutBelow cmp (span_of_places spans pair).upper s.upper)
         (map (span_of_places spans) later) → AllByRecursion (IsKept now) later → AllByRecursion (IsKept new) later
     all-kept [] low high kept = tt
-    all-kept (p ∷ later) low high kept =
-        let lower : (span_at new p.0).lower ≡ (span_at now p.0).lower = lowers p.0 (λ same. below_irrefl o
-        (span_at spans pair.0).lower
-        (subst (λ (k : ℕ). IsCutBelow cmp (span_at spans pair.0).lower (span_at spans k).lower) same low.0)) in
-        let upper : (span_at new p.1).upper ≡ (span_at now p.1).upper = uppers p.1 (λ same. below_irrefl o
-        (span_at spans pair.1).upper
-        (subst (λ (k : ℕ). IsCutBelow cmp (span_at spans pair.1).upper (span_at spans k).upper) same high.0)) in
-        (cc (lower, upper, kept.0), all-kept later low.1 high.1 kept.1)
+    all-kept (p ∷ later) low high kept = grind (arith, below_irrefl, all-kept later low.1 high.1 kept.1)
 
   pub itself-kept : (pairs : List (ℕ × ℕ)) → AllByRecursion (IsKept spans) pairs
   itself-kept [] = tt

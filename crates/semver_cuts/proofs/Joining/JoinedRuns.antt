@@ -109,18 +109,7 @@ module _ {T : Type 0} {cmp : T → T → Ordering} (o : IsTotalOrder cmp) (spans
 
     -- it begins at or below the end of the run, and ends later
     pub grown-run : EndsLater o upper place next → IsRun lower next.span.upper next.place later
-    grown-run ends_later = record {
-      rising = grind (arith, below-at_most o lower upper);
-      begins = run.begins;
-      ends = (next, all.0, refl, refl);
-      done = λ q is. grind (
-        arith,
-        run.done q is,
-        no_later-trans o upper next.span.upper place next.place q,
-        cut_cmp-refl o,
-      );
-      ahead = run.ahead.1;
-    }
+    grown-run ends_later = grind (arith, below-at_most, no_later-trans, cut_cmp-refl)
 
     -- or it does not end later
     pub kept-run : EndsNoLater o upper place next → IsRun lower upper place later

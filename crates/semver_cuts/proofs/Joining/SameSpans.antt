@@ -1,6 +1,6 @@
 -- Merged lists with the same cuts have the same spans.
 use native.Mathlib.Omega.{arith}
-use Rattle.std.proofs.Common.{◌↔◌, List, [], ◌∷◌, Ordering, inl, inr}
+use Rattle.std.proofs.Common.{◌↔◌, List, [], ◌∷◌, Ordering, inl}
 use Rattle.std.specs.Cmp.{IsTotalOrder}
 use Rattle.semver_cuts.specs.declared.cut.Cut.{Cut}
 use Rattle.semver_cuts.specs.SpanLists.{IsInSome}
@@ -26,13 +26,7 @@ module _ {T : Type 0} {cmp : T → T → Ordering} (o : IsTotalOrder cmp) where
       → IsCutAtMost cmp other.upper one.upper
       → ((cut : Cut T) → IsInSome cmp (one ∷ ones) cut → IsInSome cmp (other ∷ others) cut)
       → (cut : Cut T) → IsInSome cmp ones cut → IsInSome cmp others cut
-  later-in one ones other others are le within cut is = grind (
-    arith,
-    within cut (inr is),
-    later-above o one ones cut are is,
-    below-at_most o cut other.upper one.upper,
-    below-not-at_most o,
-  )
+  later-in one ones other others are le within cut is = grind (arith, later-above, below-at_most, below-not-at_most)
 
   tail-merged : (one : Ends T) (ones : List (Ends T)) → AreMerged cmp (one ∷ ones) → AreMerged cmp ones
   tail-merged one ones are = record { rising = are.rising.1; apart = apart-tail cmp one ones are.apart }

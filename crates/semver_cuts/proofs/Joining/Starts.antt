@@ -39,14 +39,8 @@ module _ {T : Type 0} {cmp : T → T → Ordering} (o : IsTotalOrder cmp) where
       → AllByRecursion (λ (s : Ends T). IsCutBelow cmp c s.lower) spans
       → begins_at cmp spans cut ≡ true → IsCutBelow cmp c cut
   begins-above c cut [] above h = cc
-  begins-above c cut (span ∷ spans) above h = grind (
-    arith,
-    or_cases,
-    equal-from,
-    below-at_most o,
-    begins-above c cut
-        spans above.1,
-  )
+  begins-above c cut (span ∷ spans) above h =
+      grind (arith, or_cases, equal-from, below-at_most, begins-above c cut spans above.1)
 
   -- a fact of each lower end is one of a cut that equals the cut where one of the spans begins
   begun-of : (P : Ends T → Type 0) (spans : List (Ends T)) (cut : Cut T) → AllByRecursion P spans
@@ -59,11 +53,13 @@ module _ {T : Type 0} {cmp : T → T → Ordering} (o : IsTotalOrder cmp) where
   gap-before : (spans : List (Ends T)) → AreMerged cmp spans → (cut early : Cut T) → begins_at cmp spans cut ≡ true
       → IsInSome cmp spans early → IsCutBelow cmp early cut
       → (gap : Cut T) × IsCutBelow cmp early gap × IsCutBelow cmp gap cut × ¬ IsInSome cmp spans gap
-  gap-before spans are cut early h is low = grind (
-    arith,
-    begun-of (HasGapBelow o spans) spans cut
-        (gaps-below o spans are.apart are.rising) h,
-  )
+  gap-before spans are cut early h is low =
+      grind (
+        arith,
+        begun-of (HasGapBelow o spans) spans cut (gaps-below o spans are.apart are.rising) h,
+        gaps-below o
+            spans are.apart are.rising,
+      )
 
   -- below a cut of merged spans at which none begins, there is a cut such that all cuts between lie in the spans
   goes-on : (spans : List (Ends T)) → (cut : Cut T) → IsInSome cmp spans cut → begins_at cmp spans cut ≡ false

@@ -7,7 +7,7 @@ use Rattle.std.specs.declared.cmp.Ordering.TheVariants.{Equal}
 use Rattle.std.specs.declared.option.Option.{Option}
 use Rattle.std.specs.declared.option.Option.TheVariants.{Some, None}
 use Rattle.std.specs.Option.{option_cmp}
-use Rattle.std.specs.Ordering.{ordering_then, nat_cmp, on, flip_args, then_cmp}
+use Rattle.std.specs.Ordering.{nat_cmp, on, flip_args, then_cmp}
 use Rattle.std.specs.Cmp.{IsTotalOrder, on_total, then_total, back_total, nat_cmp_total}
 use Rattle.std.specs.Cmp.Lexicographic.{options_total}
 use Rattle.semver_cuts.specs.declared.cut.Cut.{Cut}
@@ -26,9 +26,6 @@ pair_cmp {T} cmp = then_cmp (on (λ (p : T × ℕ). p.0) cmp) (on (λ (p : T × 
 
 key_cmp : {T : Type 0} → (T → T → Ordering) → Option (Option (T × ℕ)) → Option (Option (T × ℕ)) → Ordering
 key_cmp cmp = option_cmp (flip_args (option_cmp (flip_args (pair_cmp cmp))))
-
-pub then_equal : (r : Ordering) → ordering_then r Equal ≡ r
-then_equal r = grind arith
 
 by_key : {T : Type 0} (cmp : T → T → Ordering) (c d : Cut T) → on key (key_cmp cmp) c d ≡ cut_cmp cmp c d
 unfolding key key_cmp pair_cmp

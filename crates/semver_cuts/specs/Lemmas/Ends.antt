@@ -84,11 +84,7 @@ module _ {T : Type 0} {cmp : T → T → Ordering} (o : IsTotalOrder cmp) where
   -- the same cuts lie in spans of the same two ends
   pub same_ends-in_span : (one other : Ends T) (cut : Cut T) → AreSameEnds cmp one other → IsInSpan cmp one cut
       → IsInSpan cmp other cut
-  same_ends-in_span one other cut same inside =
-      let back = cut_cmp-equal_back one.lower other.lower same.lower in record {
-        lower = at_most_trans other.lower one.lower cut (inr back) inside.lower;
-        upper = below-at_most cut one.upper other.upper inside.upper (inr same.upper);
-      }
+  same_ends-in_span one other cut same inside = grind (arith, cut_cmp-equal_back, at_most_trans, below-at_most)
 
 module _ {T : Type 0} (cmp : T → T → Ordering) where
   -- what follows if the test `c < d` is true

@@ -35,13 +35,7 @@ module _ {T : Type 0} (cmp : T → T → Ordering) where
 module _ {T : Type 0} {cmp : T → T → Ordering} (o : IsTotalOrder cmp) (cut : Cut T) where
   -- a cut lies in a span or it does not
   pub in_span-or_not : (span : Ends T) → IsInSpan cmp span cut ⊎ (¬ IsInSpan cmp span cut)
-  in_span-or_not span = elim (at_most-or-below o span.lower cut) [
-    | inl begun ↦ elim (at_most-or-below o span.upper cut) [
-      | inl past ↦ inr (λ is. below-not-at_most o cut span.upper is.upper past)
-      | inr inside ↦ inl (record { lower = begun; upper = inside })
-    ]
-    | inr early ↦ inr (λ is. below-not-at_most o cut span.lower early is.lower)
-  ]
+  in_span-or_not span = grind (arith, at_most-or-below, below-not-at_most)
 
   -- if spans all begin above a cut, the cuts in them are above it
   pub some-above : (bound : Cut T) (spans : List (Ends T))

@@ -31,15 +31,18 @@ module _ {T : Type 0} {cmp : T → T → Ordering} (o : IsTotalOrder cmp) where
   pub merged-ascending : (spans : List (Ends T)) → AreMerged cmp spans
       → IsAscending (λ s. s.lower) spans × IsAscending (λ s. s.upper) spans
   merged-ascending [] are = (tt, tt)
-  merged-ascending (span ∷ spans) are = grind (
-    arith,
-    apart-above o span spans,
-    merged-tail cmp span spans,
-    merged-ascending spans (merged-tail cmp span spans are),
-    uppers-above o span.upper spans,
-    lowers-above o
-        span.lower span.upper spans,
-  )
+  merged-ascending (span ∷ spans) are =
+      grind (
+        arith,
+        apart-above o span spans,
+        merged-tail cmp span spans,
+        merged-tail cmp span spans are,
+        uppers-above o
+            span.upper spans,
+        lowers-above o span.lower span.upper spans,
+        merged-ascending spans (merged-tail cmp span
+            spans are),
+      )
 
   module _ (end : Ends T → Cut T) where
     abbrev IsNew : List (Ends T) → Ends T → Type 0
@@ -66,14 +69,15 @@ module _ {T : Type 0} {cmp : T → T → Ordering} (o : IsTotalOrder cmp) where
 
   -- spans that are apart are joined to themselves
   pub apart-joined : (spans : List (Ends T)) → AreMerged cmp spans → AreJoined cmp spans spans
-  apart-joined spans are = record {
-    merged = are;
-    cuts = λ cut. (λ h. h, λ h. h);
-    lowers = first-each (λ s. s.lower) []
-        spans (all_unit spans) (merged-ascending spans are).0;
-    uppers = first-each (λ s. s.upper) [] spans
-        (all_unit spans) (merged-ascending spans are).1;
-  }
+  apart-joined spans are =
+      grind (
+        arith,
+        first-each (λ s. s.lower) [] spans (all_unit spans) (merged-ascending spans are).0,
+        first-each (λ s.
+            s.upper) [] spans (all_unit spans) (merged-ascending spans are).1,
+        all_unit spans,
+        merged-ascending spans are,
+      )
 
   -- and have no places
   pub places_of-merged : (spans : List (Ends T)) → AreMerged cmp spans → IsPlacesOf cmp spans []

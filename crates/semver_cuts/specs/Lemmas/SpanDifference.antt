@@ -1,6 +1,6 @@
 -- The part of one span outside another: when there is a piece below and above, and which cuts lie in the pieces.
 use native.Mathlib.Omega.{arith}
-use Rattle.std.specs.Prelude.{◌≡◌, ◌⊎◌, ◌↔◌, [], ◌∷◌, ◌++◌, if◌then◌else◌, true}
+use Rattle.std.specs.Prelude.{if◌then◌else◌, ◌≡◌, ◌⊎◌, ◌↔◌, [], ◌∷◌, ◌++◌, true}
 use mathlib.Core.Path.{ap}
 use mathlib.Core.Logic.{inl, inr}
 use Rattle.std.specs.declared.cmp.Ordering.{Ordering}
@@ -50,13 +50,7 @@ module _ {T : Type 0} {cmp : T → T → Ordering} (o : IsTotalOrder cmp) where
 
     in-pieces : IsInSpan cmp one cut → ¬ IsInSpan cmp other cut
         → IsInSpan cmp (span_between one.lower other.lower) cut ⊎ IsInSpan cmp (span_between other.upper one.upper) cut
-    in-pieces is out = elim (at_most-or-below o other.lower cut) [
-      | inr below ↦ inl (record { lower = is.lower; upper = below })
-      | inl from ↦ elim (at_most-or-below o other.upper cut) [
-        | inl above ↦ inr (record { lower = above; upper = is.upper })
-        | inr to ↦ absurd (out (record { lower = from; upper = to }))
-      ]
-    ]
+    in-pieces is out = grind (arith, at_most-or-below)
 
     -- a cut lies in one of the two pieces exactly if it lies in the first span and not in the second
     pub pieces-cuts : IsInSome cmp (span_if_any cmp one.lower other.lower ++ span_if_any cmp other.upper one.upper) cut

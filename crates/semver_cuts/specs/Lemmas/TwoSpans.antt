@@ -1,6 +1,6 @@
 -- Two spans: their intersection, when they share a cut, and when one contains all cuts of the other.
 use native.Mathlib.Omega.{arith}
-use Rattle.std.specs.Prelude.{◌≡◌, ◌⊎◌, ◌↔◌, ◌&&◌, Bool, IsTrue, List, [], ◌∷◌, if◌then◌else◌, refl}
+use Rattle.std.specs.Prelude.{◌≡◌, ◌⊎◌, ◌↔◌, ◌&&◌, Bool, IsTrue, List, [], ◌∷◌, refl}
 use Rattle.std.specs.declared.cmp.Ordering.{Ordering}
 use Rattle.std.specs.Ordering.{is_le, is_lt}
 use Rattle.std.specs.Cmp.{IsTotalOrder}
@@ -19,17 +19,9 @@ module _ {T : Type 0} {cmp : T → T → Ordering} (o : IsTotalOrder cmp) where
   -- ---- the greater and the lesser of two cuts
 
   -- a fact of the first if the second is less, and of the second if not, is one of the greater
-  greater-by : (P : Cut T → Type 0) (c d : Cut T) (r : Bool) → is_lt (cut_cmp cmp d c) ≡ r
-      → (IsCutBelow cmp d c → P c) → (IsCutAtMost cmp c d → P d) → P (if r then c else d)
-  greater-by P c d r h1 h2 h3 = grind arith
-
   pub greater-is : (P : Cut T → Type 0) (c d : Cut T)
       → (IsCutBelow cmp d c → P c) → (IsCutAtMost cmp c d → P d) → P (greater_cut cmp c d)
   greater-is P c d h1 h2 = grind arith
-
-  lesser-by : (P : Cut T → Type 0) (c d : Cut T) (r : Bool) → is_lt (cut_cmp cmp d c) ≡ r
-      → (IsCutBelow cmp d c → P d) → (IsCutAtMost cmp c d → P c) → P (if r then d else c)
-  lesser-by P c d r h1 h2 h3 = grind arith
 
   -- and the other way round of the lesser
   pub lesser-is : (P : Cut T → Type 0) (c d : Cut T)
@@ -66,15 +58,8 @@ module _ {T : Type 0} {cmp : T → T → Ordering} (o : IsTotalOrder cmp) where
   -- a span that contains a cut lies in another exactly if it begins no earlier and ends no later
   pub within-ends : (one other : Ends T) → IsCutBelow cmp one.lower one.upper
       → IsWithin cmp one other ↔ (IsCutAtMost cmp other.lower one.lower × IsCutAtMost cmp one.upper other.upper)
-  within-ends one other held = (
-    λ within. (
-      grind (arith, within one.lower, at_most_refl o),
-      grind
-          (arith, within one.lower, within other.upper, at_most-or-below o, below-not-at_most o, below_irrefl o),
-    ),
-    λ ends
-        cut is. grind (arith, at_most_trans o other.lower one.lower, below-at_most o cut one.upper),
-  )
+  within-ends one other held =
+      grind (arith, at_most_refl, at_most-or-below, below-not-at_most, below_irrefl, at_most_trans, below-at_most)
 
   -- ---- the intersection of two spans
 

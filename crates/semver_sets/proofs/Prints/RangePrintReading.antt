@@ -30,13 +30,8 @@ sets-read (set ∷ sets) is plainly = (set-read set is.0 plainly.0, sets-read se
 pieces-of_print : (set : Ends VersionValue) (sets : List (Ends VersionValue)) → AllByRecursion IsReadSet (set ∷ sets)
     → IsPieces (range_text (set ∷ sets)) (map set_text (set ∷ sets))
 pieces-of_print set [] read = (refl, no_bars-of_none (set_text set) read.0.no_bar)
-pieces-of_print set (next ∷ sets) read = grind (
-  arith,
-  no_bars-of_none,
-  no_end-of_none,
-  pieces-of_print next sets
-      read.1,
-)
+pieces-of_print set (next ∷ sets) read =
+    grind (arith, no_bars-of_none, no_end-of_none, pieces-of_print next sets read.1)
 
 -- the alternatives of prints, and the sets that they give: these have the cuts of the sets that were printed
 record AreReadSets (sets : List (Ends VersionValue)) : Type 0 where

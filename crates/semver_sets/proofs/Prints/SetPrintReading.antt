@@ -41,12 +41,7 @@ pub record IsReadAlike (text : List ℕ) (set : Ends VersionValue) : Type 0 wher
   pub begins : BeginsWith is_not_blank text
 
 itself : (set : Ends VersionValue) → AreSameEnds version_cmp set set
-itself set = grind (
-  arith,
-  tied_itself (cut_total version_total) set.lower,
-  tied_itself (cut_total version_total)
-      set.upper,
-)
+itself set = grind (arith, cut_total version_total)
 
 -- of one word
 word-read_alike : (text : List ℕ) (c : Comparator) (set : Ends VersionValue) → IsPrintedWord text [] c
@@ -167,11 +162,9 @@ set_ends-read (Before v) (Before w) lt some a b = grind (
       (Before v) (Before w) (at_least-word v (codes " " ++ upper_text (Before w)) a refl) (below-word w b) refl refl lt,
 )
 set_ends-read (Before v) (After w) lt some a b = between-read v w lt a b
-set_ends-read (Before v) End lt some a b = grind (
-  arith,
-  word-read_alike (lower_text (Before v)) (at_least v)
-      (at_least v) (at_least-word v [] a tt) refl (itself (at_least v)),
-)
+set_ends-read (Before v) End lt some a b =
+    grind (arith, word-read_alike (lower_text (Before v)) (at_least v) (at_least v) (at_least-word v [] a tt) refl
+        (itself (at_least v)))
 set_ends-read (After v) Start lt some a b = cc lt
 set_ends-read (After v) (Before w) lt some a b = grind (
   arith,

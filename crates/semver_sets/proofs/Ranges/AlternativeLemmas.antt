@@ -18,12 +18,8 @@ use Rattle.semver_texts.specs.Lemmas.Public.{prefix_of-all, prefix_of-rest_of, r
 -- the alternative that is read after the blanks
 pub later-from : (piece : List ℕ) (a : List Comparator) → IsAlternative (rest_of is_blank piece) a
     → IsLaterAlternative piece a
-later-from piece a alternative = grind (
-  arith,
-  prefix_of-rest_of is_blank piece,
-  prefix_of-all is_blank piece,
-  rest_of-no is_blank piece,
-)
+later-from piece a alternative =
+    grind (arith, prefix_of-rest_of is_blank piece, prefix_of-all is_blank piece, rest_of-no is_blank piece)
 
 -- and nothing else
 from-later : (piece : List ℕ) (a : List Comparator) → IsLaterAlternative piece a
@@ -45,11 +41,9 @@ laters-unique [] [] (b ∷ other) x y = absurd y
 laters-unique [] (a ∷ one) other x y = absurd x
 laters-unique (piece ∷ pieces) [] other x y = absurd x
 laters-unique (piece ∷ pieces) (a ∷ one) [] x y = absurd y
-laters-unique (piece ∷ pieces) (a ∷ one) (b ∷ other) x y = grind (
-  arith,
-  alternative-unique (rest_of is_blank piece) a b (from-later piece a x.0) (from-later piece b y.0),
-  laters-unique pieces one other x.1 y.1,
-)
+laters-unique (piece ∷ pieces) (a ∷ one) (b ∷ other) x y =
+    grind (arith, alternative-unique (rest_of is_blank piece) a b (from-later piece a x.0) (from-later piece b y.0),
+        laters-unique pieces one other x.1 y.1)
 
 -- ---- a text writes one list of alternatives
 
@@ -140,8 +134,5 @@ left_length (Some rest) = suc (length rest)
 pub left-shorter : (rest piece : List ℕ) (left : Option (List ℕ)) → piece_at rest ≡ (piece, left)
     → left_length left < left_length (Some rest)
 left-shorter rest piece None read = omega arith
-left-shorter rest piece (Some behind) read = grind (
-  arith,
-  piece-shorter rest piece behind
-      (piece-first rest piece behind read),
-)
+left-shorter rest piece (Some behind) read =
+    grind (arith, piece-shorter rest piece behind (piece-first rest piece behind read))

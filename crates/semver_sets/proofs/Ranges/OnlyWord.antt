@@ -28,16 +28,8 @@ led-no_right text h1 = grind (arith, right-no_blank, cases_Bool, blank-lead)
 -- nor is a lead and a partial one, where nothing is left
 only-no_hyphen : (text operand : List ℕ) (l : Lead) (p : Partial) → (l, operand) ≡ read_lead text
     → Some (p, []) ≡ read_partial operand → read_hyphen text ≡ None
-only-no_hyphen text operand l p led read = grind (
-  arith,
-  lead-cases,
-  lead-plain,
-  hyphen-with_left,
-  right-none,
-  left-ends,
-  led-no_right,
-  lead-not_partial,
-)
+only-no_hyphen text operand l p led read =
+    grind (arith, lead-cases, lead-plain, hyphen-with_left, right-none, left-ends, led-no_right, lead-not_partial)
 
 -- ---- the only comparator
 

@@ -70,12 +70,9 @@ module _ {X : Type 0} (p : X → Bool) (xs : List X) where
   -- one more passes
   pub passed-more : (k : ℕ) (d : X) → k < length xs → p (get_or xs k d) ≡ true
       → AllByRecursion (λ x. p x ≡ true) (take k xs) → AllByRecursion (λ x. p x ≡ true) (take (k + 1) xs)
-  passed-more k d within here before = grind (
-    arith,
-    take_more xs k d within,
-    all-append (λ x. p x ≡ true) (take k xs)
-        (get_or xs k d ∷ []) before (here, tt),
-  )
+  passed-more k d within here before =
+      grind (arith, take_more xs k d within,
+          all-append (λ x. p x ≡ true) (take k xs) (get_or xs k d ∷ []) before (here, tt))
 
   not-true : (b : Bool) → ¬ (b ≡ true) → b ≡ false
   not-true b h1 = grind arith
@@ -110,18 +107,14 @@ module _ (t : Triple) where
     rises = searchable_from_sorted triple_total (λ (o : Opening). o.triple) xs t sorted
 
     pub parted-below : IsPartitionedBy is_below xs
-    parted-below i j d most within e = grind (
-      arith,
-      below-before (triple_cmp (get_or xs i d).triple t)
-          (triple_cmp (get_or xs j d).triple t) (rises i j d most within) e,
-    )
+    parted-below i j d most within e =
+        grind (arith, below-before (triple_cmp (get_or xs i d).triple t) (triple_cmp (get_or xs j d).triple t) (rises i
+            j d most within) e)
 
     pub parted-at_most : IsPartitionedBy is_at_most xs
-    parted-at_most i j d most within e = grind (
-      arith,
-      at_most-before (triple_cmp (get_or xs i d).triple t)
-          (triple_cmp (get_or xs j d).triple t) (rises i j d most within) e,
-    )
+    parted-at_most i j d most within e =
+        grind (arith, at_most-before (triple_cmp (get_or xs i d).triple t) (triple_cmp (get_or xs j d).triple t) (rises
+            i j d most within) e)
 
   not-below : (r : Ordering) → is_lt r ≡ true → is_eq r ≡ false
   not-below r h1 = grind arith

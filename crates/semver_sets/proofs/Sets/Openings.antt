@@ -1,6 +1,6 @@
 -- The stored list of which sets open which triples, and what follows for a prerelease.
-use Rattle.std.proofs.Common.{◌≡◌, ◌↔◌, ℕ, ◌+◌, ◌*◌, ◌^◌, ◌<◌, ◌≤◌, ◌||◌, Bool, true}
-use Rattle.std.proofs.Common.{false, List, [], ◌∷◌, ◌++◌, get_or, length, map, take, Option, Some, None, if◌then◌else◌}
+use Rattle.std.proofs.Common.{if◌then◌else◌, ◌≡◌, ◌↔◌, ℕ, ◌+◌, ◌*◌, ◌^◌, ◌<◌, ◌≤◌, ◌||◌, Bool, true}
+use Rattle.std.proofs.Common.{false, List, [], ◌∷◌, ◌++◌, get_or, length, map, take, Option, Some, None}
 use Rattle.std.proofs.Common.{arith, sym, subst, ◌∙◌, refl, inl, inr}
 use Rattle.std.specs.Prelude.{cond, filter}
 use Rattle.std.specs.List.{AllByRecursion}
@@ -77,14 +77,9 @@ pub named-all : (v : VersionValue) (place : ℕ) (sets : List (Ends VersionValue
     → map (λ (o : Opening). o.place) (filter (is_opening_of v) (openings_from place sets)) ≡ places_opening v place sets
 unfolding named
 named-all v place [] = refl
-named-all v place (set ∷ sets) = grind (
-  arith,
-  named-append v (openings_of place set) (openings_from (place + 1) sets),
-  named-set place v set,
-  place-then place (has_open_end v set) (places_opening v (place + 1) sets),
-  named-all v
-      (place + 1) sets,
-)
+named-all v place (set ∷ sets) =
+    grind (arith, named-append v (openings_of place set) (openings_from (place + 1) sets), named-set place v set,
+        place-then place (has_open_end v set) (places_opening v (place + 1) sets), named-all v (place + 1) sets)
 
 -- ---- what they say of a version
 

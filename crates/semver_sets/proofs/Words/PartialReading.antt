@@ -79,14 +79,7 @@ blank-partial b rest h = rw (blank-no_mark b h) refl
 -- a partial stays one without the blanks before it
 pub partial-unblanked : (text : List ℕ) (r : Partial × List ℕ) → read_partial text ≡ Some r
     → read_partial (rest_of is_blank text) ≡ Some r
-partial-unblanked text r h1 = grind (
-  arith,
-  rest_of-none,
-  cases_Bool,
-  blank-partial,
-  components-partial,
-  components-begin,
-)
+partial-unblanked text r h1 = grind (arith, rest_of-none, blank-partial, components-partial, components-begin)
 
 -- a partial begins with a blank, a `v`, a digit or an x
 pub partial-first : (text : List ℕ) (r : Partial × List ℕ) → read_partial text ≡ Some r → BeginsWith begins_partial text

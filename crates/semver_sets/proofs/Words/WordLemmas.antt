@@ -90,12 +90,9 @@ pub word-again : (word rest : List ℕ) (comparator : Option Comparator) → IsW
     → read_word (word ++ rest) ≡ (comparator, rest)
 unfolding read_word
 word-again word rest comparator (hyphen_range read clean) = rw (hyphen-again word rest comparator read clean) refl
-word-again word rest comparator (simple none read clean) = grind (
-  arith,
-  hyphen-none (word ++ rest) (read_hyphen (word ++ rest)) refl none,
-  simple-again word rest comparator read
-      clean,
-)
+word-again word rest comparator (simple none read clean) =
+    grind (arith, hyphen-none (word ++ rest) (read_hyphen (word ++ rest)) refl none,
+        simple-again word rest comparator read clean)
 word-again word rest comparator (ignored none nothing solid clean nil) = grind (
   arith,
   hyphen-none (word ++ rest) (read_hyphen (word ++ rest)) refl none,
@@ -152,16 +149,8 @@ blank-word : (b : ℕ) (rest : List ℕ) (p : ReadPartial) (found : Option Word)
     → read_right (b ∷ rest) ≡ None → read_partial (b ∷ rest) ≡ p
     → or_else (with_left p) (said no_lead (up_to_clean p)) ≡ found
     → (read_word (b ∷ rest) ≡ (None, b ∷ rest)) ⊎ (read_word (b ∷ rest) ≡ read_word (rest_of is_blank (b ∷ rest)))
-blank-word b rest p found h1 h2 h3 h4 = grind (
-  arith,
-  word-of_partial,
-  blank-lead,
-  blank-ignored,
-  partial-unblanked,
-  right-no_blank,
-  rest_of-no,
-  lead-none,
-)
+blank-word b rest p found h1 h2 h3 h4 =
+    grind (arith, word-of_partial, blank-lead, blank-ignored, partial-unblanked, right-no_blank, rest_of-no, lead-none)
 
 pub word-after_blanks : (b : ℕ) (rest : List ℕ) → is_blank b ≡ true → read_right (b ∷ rest) ≡ None
     → (read_word (b ∷ rest) ≡ (None, b ∷ rest)) ⊎ (read_word (b ∷ rest) ≡ read_word (rest_of is_blank (b ∷ rest)))

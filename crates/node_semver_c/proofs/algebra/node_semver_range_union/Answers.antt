@@ -1,12 +1,14 @@
-use Rattle.std.proofs.Common.{List, subst}
-use Rattle.node_semver_c.specs.Answers.{IsMade, IsUnion}
+use Rattle.node_semver_c.specs.Answers.{IsUnion}
+use Rattle.node_semver_c.proofs.Found.{made_of}
 use Rattle.node_semver_c.proofs.algebra.node_semver_range_union.Goals as goal
-use Rattle.semver_cuts.specs.Ends.{Ends}
-use Rattle.semver_texts.specs.Version.{VersionValue}
 
-pub returns : goal.returns
-returns c =
-    subst (λ (one : List (Ends VersionValue)). IsMade (IsUnion one c.args.other.now.value) c.union.result
-    c.union.new.answer.value) c.get.ensures
-    (subst (λ (other : List (Ends VersionValue)). IsMade (IsUnion c.get.result.now other) c.union.result
-    c.union.new.answer.value) c.get-2.ensures c.union.ensures)
+pub returns-in-Ok : goal.returns-in-Ok
+returns-in-Ok c =
+    rw (← c.get.ensures, ← c.get-2.ensures) (made_of (IsUnion c.get.result.now c.get-2.result.now) c.in-Ok.union
+    c.keep_range.result c.keep_range.new.held.value record {
+      sets = c.in-Ok.ensures.sets;
+      cuts = c.in-Ok.ensures.cuts;
+      admitted = c.in-Ok.ensures.admitted;
+      text = c.in-Ok.ensures.text;
+      holds = c.in-Ok.ensures.holds;
+    } c.keep_range.ensures)

@@ -14,7 +14,7 @@ loop-one-init c = record {
 
 pub loop-one-preserved : goal.loop-one-preserved
 loop-one-preserved c = record {
-  unions = c.in_ok-add.ensures c.loop-one.invariant.unions;
+  unions = c.in_ok-add.ensures.all c.loop-one.invariant.unions;
   found = λ values is.
       let one = c.one-item.result in
       let among = among-at c.args.installed.now c.loop-one.one-index one c.loop-one-test.true c.one-item.is in
@@ -31,6 +31,9 @@ loop-one-preserved c = record {
             (rw w.in_default.is at here)
       ];
 }
+
+pub found_of-requires : goal.found_of-requires
+found_of-requires c = c.in_ok-add.ensures.here c.loop-one.invariant.unions
 
 pub returns : goal.returns
 returns c = λ values is.

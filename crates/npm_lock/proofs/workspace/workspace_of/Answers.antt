@@ -1,10 +1,8 @@
--- The index says which case of the definition this is.
-use Rattle.std.proofs.Common.{subst}
-use Rattle.serde_json.specs.View.{view}
+-- The sets say which case of the definition this is.
 use Rattle.npm_packages.specs.Folders.{IsInstalled}
-use Rattle.npm_lock.specs.Workspaces.{IsWorkspace, installed}
-use Rattle.npm_lock.specs.declared.workspace.Workspace.{Workspace}
-use Rattle.npm_lock.proofs.PatternSets.{by_match, by_none, by_unread}
+use Rattle.npm_lock.specs.Private.Patterns.{matched, unmatched, unread}
+use Rattle.npm_lock.specs.Workspaces.{installed}
+use Rattle.npm_lock.specs.declared.workspace.Workspace.TheVariants.{Is, IsNot, Unread}
 use Rattle.npm_lock.proofs.workspace.workspace_of.Goals as goal
 
 pub returns-then-is_installed : goal.returns-then-is_installed
@@ -14,27 +12,18 @@ pub returns-then-patterns : goal.returns-then-patterns
 returns-then-patterns c =
     let outside : ¬ IsInstalled c.args.folder.now = λ inside.
     cc (c.is_installed.ensures.1 inside, c.if-is_installed.false) in
-    let P : Workspace → Type 0 = λ found.
-    IsWorkspace c.args.asker.folder.now (view c.args.asker.member.now) c.args.folder.now found in
-    subst P (by_unread c.args.patterns.now c.args.folder.now c.if-patterns.true)
-    (c.requires c.args.folder.now outside)
+    c.requires c.args.folder.now Unread outside (unread c.if-patterns.true)
 
 pub returns-then-has_matched : goal.returns-then-has_matched
 returns-then-has_matched c =
     let outside : ¬ IsInstalled c.args.folder.now = λ inside.
     cc (c.is_installed.ensures.1 inside, c.if-is_installed.false) in
-    let P : Workspace → Type 0 = λ found.
-    IsWorkspace c.args.asker.folder.now (view c.args.asker.member.now) c.args.folder.now found in
-    subst P (by_match c.args.patterns.now c.args.folder.now c.if-patterns.false
-    (rw c.has_matched.ensures at c.if-has_matched.true))
-    (c.requires c.args.folder.now outside)
+    c.requires c.args.folder.now Is outside
+    (matched c.if-patterns.false (c.has_matched.ensures.0 c.if-has_matched.true))
 
 pub returns-else-has_matched : goal.returns-else-has_matched
 returns-else-has_matched c =
     let outside : ¬ IsInstalled c.args.folder.now = λ inside.
     cc (c.is_installed.ensures.1 inside, c.if-is_installed.false) in
-    let P : Workspace → Type 0 = λ found.
-    IsWorkspace c.args.asker.folder.now (view c.args.asker.member.now) c.args.folder.now found in
-    subst P (by_none c.args.patterns.now c.args.folder.now c.if-patterns.false
-    (rw c.has_matched.ensures at c.if-has_matched.false))
-    (c.requires c.args.folder.now outside)
+    c.requires c.args.folder.now IsNot outside
+    (unmatched c.if-patterns.false (λ has. cc (c.has_matched.ensures.1 has, c.if-has_matched.false)))

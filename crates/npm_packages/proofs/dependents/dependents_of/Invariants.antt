@@ -1,14 +1,9 @@
--- The requests so far, followed by those of the members that are left, are the requests of all members.
-use Rattle.std.proofs.Common.{List}
-use Rattle.serde_json.specs.View.{members_view}
-use Rattle.npm_packages.specs.Dependents.{AreRequests, Request}
-use Rattle.npm_packages.specs.PackageValue.{packages_data}
-use Rattle.npm_packages.specs.Private.Requests.{AddsRequests}
-use Rattle.npm_packages.specs.declared.dependents.Dependents.{Dependents}
+-- The map has the texts of the dependencies so far.
+use Rattle.std.proofs.Common.{◌≡◌, ℕ, List, map, take}
+use Rattle.npm_packages.specs.Dependents.{texts_at, texts_of}
+use Rattle.npm_packages.specs.Edges.{edge_value}
 use Rattle.npm_packages.proofs.dependents.dependents_of.Given as goal
 
-abbrev pub invariant-loop-folder : goal.invariant-loop-folder
-invariant-loop-folder l = (later : List Request) (new : Dependents)
-    → AreRequests (packages_data l.lock) (members_view l.folder-iterator) later → AddsRequests l.dependents new later
-    → (found : List Request) × AreRequests (packages_data l.lock) (members_view l.initial.folder-iterator) found
-    × AddsRequests l.initial.dependents new found
+abbrev pub invariant-loop-edge : goal.invariant-loop-edge
+invariant-loop-edge l = (folder : List ℕ)
+    → texts_at l.dependents folder ≡ texts_of folder (map edge_value (take l.edge-index l.edges))

@@ -1,5 +1,5 @@
 -- The dependencies of a member come before those of the members that are left.
-use Rattle.std.proofs.Common.{◌≡◌, ◌∙◌, ◌++◌, [], ap, append_assoc, append-nil, refl, sym}
+use Rattle.std.proofs.Common.{◌≡◌, ◌++◌, [], append_assoc, append-nil, refl}
 use Rattle.npm_packages.proofs.edges.edges_among.Goals as goal
 
 pub loop-folder-preserved : goal.loop-folder-preserved

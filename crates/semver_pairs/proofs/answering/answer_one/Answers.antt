@@ -4,7 +4,7 @@ use Rattle.semver_pairs.proofs.answering.answer_one.Goals as goal
 
 pub returns-in_err-answer_range : goal.returns-in_err-answer_range
 returns-in_err-answer_range g c =
-    let some = one-part _ _ _ _ _ c.in_err-answer_range.ensures.answers in
+    let some = one-part c.in_err-answer_range.ensures.answers in
     record {
       answers = on_err _ _ c.from_residual.ensures.0 some;
       failure = tells-on _ _ _ c.from_residual.ensures.1 c.in_err-answer_range.ensures.failure;
@@ -12,6 +12,6 @@ returns-in_err-answer_range g c =
 
 pub returns : goal.returns
 returns g c = record {
-  answers = one-from _ _ _ _ _ _ _ c.in_ok-answer_range.ensures.answers;
+  answers = one-from c.in_ok-answer_range.ensures.answers;
   failure = c.in_ok-answer_range.ensures.failure;
 }

@@ -50,12 +50,7 @@ returns-in_default g c = let given = c.answer_versions.ensures in record {
 
 -- no memory for the range
 pub returns-in-Err : goal.returns-in-Err
-returns-in-Err g c = record {
-  answers = range_stop _ _ _ _ _;
-  fewer = tt;
-  ascii = tt;
-  failure = c.requires.unfailed;
-}
+returns-in-Err g c = record { answers = range_stop; fewer = tt; ascii = tt; failure = c.requires.unfailed }
 
 pub returns-in-Err-2 : goal.returns-in-Err-2
 returns-in-Err-2 g c = let given = c.answer_versions-in-Err-2.ensures in record {

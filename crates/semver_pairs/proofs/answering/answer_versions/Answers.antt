@@ -8,7 +8,7 @@ pub returns-in_err-put : goal.returns-in_err-put
 returns-in_err-put g c =
     let answer = c.answer_of-answer.ensures.answer (strip_carriage_return c.args.pair.now.range.now) c.requires.range in
     let part = rw c.as_bytes.ensures.value at c.in_err-put.ensures.part in
-    let some = so_far_part _ _ _ _ _ c.answer_of-answer.result.now _ _ _ _ _ c.versions.invariant.0 answer part in
+    let some = so_far_part c.versions.invariant.0 answer part in
     record {
       answers = on_err _ _ c.from_residual.ensures.0 some;
       fewer = on_err _ _ c.from_residual.ensures.0 tt;
@@ -22,7 +22,7 @@ returns-in_default g c =
     let answer = c.answer_of-answer.ensures.answer (strip_carriage_return c.args.pair.now.range.now) c.requires.range in
     let moves = rw c.as_bytes.ensures.value at c.in_ok-put.ensures.put in
     record {
-      answers = so_far_end _ _ _ _ _ c.answer_of-answer.result.now _ _ _ _ _ _ c.versions.invariant.0 answer moves;
+      answers = so_far_end c.versions.invariant.0 answer moves;
       fewer = c.versions.invariant.2;
       ascii = λ is. (c.versions.invariant.3 is).1;
       failure = λ failed. cc (c.in_ok-put.ensures.write.1 failed);
@@ -32,12 +32,11 @@ pub versions-preserved : goal.versions-preserved
 versions-preserved g c =
     let answer = c.answer_of-answer.ensures.answer (strip_carriage_return c.args.pair.now.range.now) c.requires.range in
     let moves = rw c.as_bytes.ensures.value at c.in_ok-put.ensures.put in (
-      so_far_more _ _ _ _ _ c.answer_of-answer.result.now _ _ _ _ _ _ _ _ c.versions.invariant.0 answer moves
-          c.in-Some.ensures.found,
+      so_far_more c.versions.invariant.0 answer moves c.in-Some.ensures.found,
       λ failed. cc (c.in_ok-put.ensures.write.1 failed),
       omega (arith, c.in-Some.ensures.fewer),
       λ is. c.in-Some.ensures.ascii (c.versions.invariant.3 is).1,
     )
 
 pub versions-init : goal.versions-init
-versions-init g c = (so_far_none _ _ _ _ _, c.requires.unfailed, omega arith, c.requires.ascii)
+versions-init g c = (so_far_none, c.requires.unfailed, omega arith, c.requires.ascii)

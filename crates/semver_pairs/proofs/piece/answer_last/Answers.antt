@@ -5,7 +5,7 @@ use Rattle.semver_pairs.proofs.piece.answer_last.Goals as goal
 
 pub returns-then-is_empty : goal.returns-then-is_empty
 returns-then-is_empty g c = record {
-  answers = last_none c.args.kept.now _ (c.is_empty.ensures.0 c.if-is_empty.true);
+  answers = last_none c.args.kept.now (c.is_empty.ensures.0 c.if-is_empty.true);
   failure = c.requires.unfailed;
 }
 
@@ -25,7 +25,7 @@ returns-in_err-add_last g c = record {
 
 pub returns-in_err-flush : goal.returns-in_err-flush
 returns-in_err-flush g c =
-    let some = last_written_part _ _ _ _ _ c.in_ok-add_last.ensures.answers c.in_err-flush.ensures.part in record {
+    let some = last_written_part c.in_ok-add_last.ensures.answers c.in_err-flush.ensures.part in record {
       answers = on_err _ _ c.from_residual-in_err-flush.ensures.0 some;
       failure = tells-on _ _ _ c.from_residual-in_err-flush.ensures.1
           (write-tells _ c.in_err-flush.ensures.only (c.in_err-flush.ensures.write.0 refl));
@@ -33,6 +33,6 @@ returns-in_err-flush g c =
 
 pub returns : goal.returns
 returns g c = record {
-  answers = last_written _ _ _ _ _ c.in_ok-add_last.ensures.answers c.in_ok-flush.ensures.all;
+  answers = last_written c.in_ok-add_last.ensures.answers c.in_ok-flush.ensures.all;
   failure = λ failed. cc (c.in_ok-flush.ensures.write.1 failed);
 }

@@ -6,7 +6,7 @@ use Rattle.semver_pairs.proofs.piece.answer_open.Goals as goal
 
 pub returns-then-is_empty : goal.returns-then-is_empty
 returns-then-is_empty g c = record {
-  answers = open_none-past c.args.kept.now c.args.piece.now _ _ (c.is_empty.ensures.0 c.if-is_empty.true);
+  answers = open_none-past c.args.kept.now (c.is_empty.ensures.0 c.if-is_empty.true);
   left = tt;
   untouched = tt;
   failure = c.requires.unfailed;
@@ -15,7 +15,7 @@ returns-then-is_empty g c = record {
 -- no memory for the rest of the pair
 pub returns-in_err-rest : goal.returns-in_err-rest
 returns-in_err-rest g c =
-    let some = past_stop _ _ _ in
+    let some = past_stop in
     record {
       answers = on_err _ _ c.from_residual.ensures.0 some;
       left = on_err _ _ c.from_residual.ensures.0 tt;
@@ -40,7 +40,7 @@ returns-in_err-answer_one g c =
     let begins = rw c.in-Some.is at c.in_ok-rest.ensures.whole in
     let part = rw (c.range.ensures, c.without_return-version.ensures.line, c.version.ensures)
     at c.in_err-answer_one.ensures.answers in
-    let some = open_part _ _ _ _ _ _ _ begins part in
+    let some = open_part begins part in
     record {
       answers = on_err _ _ c.from_residual-in_err-answer_one.ensures.0 some;
       left = on_err _ _ c.from_residual-in_err-answer_one.ensures.0 tt;
@@ -54,7 +54,7 @@ returns g c =
     let answers = rw (c.range.ensures, c.without_return-version.ensures.line, c.version.ensures)
     at c.in_ok-answer_one.ensures.answers in
     record {
-      answers = open_whole _ _ _ _ _ _ _ _ begins answers;
+      answers = open_whole begins answers;
       left = tt;
       untouched = tt;
       failure = c.in_ok-answer_one.ensures.failure;

@@ -26,13 +26,12 @@ pub returns-then-failed : goal.returns-then-failed
 returns-then-failed g c = record {
   answered = tt;
   ended = tt;
-  beginning = exchanges-nothing _ _ _;
-  complete = λ is. exchanges-none_back _ _;
+  beginning = exchanges-nothing _;
+  complete = λ is. exchanges-none_back;
   read = (λ is. c.failed.ensures.0 c.if-failed.true, λ failed. refl);
   write = λ unfailed. (
     λ is. no_other Read Write refl is,
-    λ failed. absurd
-        (unfailed (c.failed.ensures.0 c.if-failed.true)),
+    λ failed. absurd (unfailed (c.failed.ensures.0 c.if-failed.true)),
   );
   endless = λ is. no_other Read Endless refl is;
   untouched = λ failed. (refl, refl);
@@ -42,7 +41,7 @@ pub returns-then-failed-2 : goal.returns-then-failed-2
 returns-then-failed-2 g c = record {
   answered = tt;
   ended = tt;
-  beginning = exchanges-nothing _ _ _;
+  beginning = exchanges-nothing _;
   complete = λ is. no_other Write Read refl is;
   read = (λ is. no_other Write Read refl is, unfailed c.failed.ensures c.if-failed.false);
   write = λ unfailed. (λ is. c.failed-2.ensures.0 c.if-failed-2.true, λ failed. refl);
@@ -52,7 +51,7 @@ returns-then-failed-2 g c = record {
 
 pub reads-init : goal.reads-init
 reads-init g c = (
-  run_none _ _ _ c.new-kept.ensures.none,
+  run_none c.new-kept.ensures.none,
   c.new-kept.ensures.lines,
   c.new-answers.ensures,
   unfailed c.failed.ensures c.if-failed.false,
@@ -87,12 +86,10 @@ returns-in-Ok-eq0 g c =
     in
     let taken = rw c.in-Ok-eq0.field-0-test at c.in-Ok-eq0.ensures.bytes.0 in
     record {
-      answered = MatchResult-weaker _ answers
-          (λ x all. run_end _ _ _ _ _ _ _ _ c.reads.invariant.0 taken all) (λ e some. tt);
+      answered = MatchResult-weaker _ answers (λ x all. run_end c.reads.invariant.0 taken all) (λ e some. tt);
       ended = MatchResult-weaker _ answers (λ x all. ended) (λ e some. tt);
       beginning = MatchResult-weaker _ answers (λ x all. tt)
-          (λ e some. run_end_part (HasEnded g.R.Read.remaining c.read.new.self) _ _ _ _ _ _ _ _
-          c.reads.invariant.0 taken ended some);
+          (λ e some. run_end_part (HasEnded g.R.Read.remaining c.read.new.self) c.reads.invariant.0 taken ended some);
       complete = λ is. absurd (tells-not_read _ _ failure is);
       read = (
         λ is. absurd (tells-not_read _ _ failure is),
@@ -108,7 +105,7 @@ pub returns-in_err-answer_piece-in-Ok : goal.returns-in_err-answer_piece-in-Ok
 returns-in_err-answer_piece-in-Ok g c =
     let failed = c.from_residual.ensures.0 in
     let failure = tells-on _ _ _ c.from_residual.ensures.1 c.in_err-answer_piece-in-Ok.ensures.failure in
-    let some = run_part (HasEnded g.R.Read.remaining c.read.new.self) _ _ _ _ _ _ _ _ _ c.reads.invariant.0
+    let some = run_part (HasEnded g.R.Read.remaining c.read.new.self) _ c.reads.invariant.0
     c.in-Ok.ensures.bytes.0 c.in_err-answer_piece-in-Ok.ensures.answers in
     record {
       answered = on_err _ _ failed tt;
@@ -129,9 +126,8 @@ pub returns-in-Err : goal.returns-in-Err
 returns-in-Err g c = record {
   answered = tt;
   ended = tt;
-  beginning = run_stop (HasEnded g.R.Read.remaining c.read.new.self) _ _ _ _ _ _ _ c.reads.invariant.0
-      c.in-Err.ensures.bytes;
-  complete = λ is. run_stop_all _ _ _ _ _ _ _ c.reads.invariant.0 c.reads.invariant.1 c.in-Err.ensures.bytes;
+  beginning = run_stop (HasEnded g.R.Read.remaining c.read.new.self) c.reads.invariant.0 c.in-Err.ensures.bytes;
+  complete = λ is. run_stop_all c.reads.invariant.0 c.reads.invariant.1 c.in-Err.ensures.bytes;
   read = (λ is. c.in-Err.ensures.mark.1 refl, λ failed. refl);
   write = λ unfailed. (λ is. no_other Read Write refl is, λ failed. absurd (c.reads.invariant.4 failed));
   endless = λ is. no_other Read Endless refl is;
@@ -143,7 +139,7 @@ reads-preserved g c =
     let given = c.in_ok-answer_piece-in-Ok.ensures in
     let some : 1 ≤ length (take c.in-Ok.count c.read.new.piece) =
     grind (arith, common_steps, c.in-Ok.ensures.at_most, c.in-Ok.count-test) in (
-      run_more _ _ _ _ _ _ _ _ _ _ c.reads.invariant.0 c.in-Ok.ensures.bytes.0 some given.answers,
+      run_more _ c.reads.invariant.0 c.in-Ok.ensures.bytes.0 some given.answers,
       given.lines,
       given.written,
       λ failed. false_not_true (c.in-Ok.ensures.mark.0 failed),
@@ -155,10 +151,10 @@ pub returns : goal.returns
 returns g c = record {
   answered = tt;
   ended = tt;
-  beginning = run_stop (HasEnded g.R.Read.remaining c.reads.reader) _ _ _ _ _ _ _ c.reads.invariant.0 (Keeps-refl _);
+  beginning = run_stop (HasEnded g.R.Read.remaining c.reads.reader) c.reads.invariant.0 (Keeps-refl _);
   complete = λ is. no_other Endless Read refl is;
   read = (λ is. no_other Endless Read refl is, λ failed. absurd (c.reads.invariant.3 failed));
   write = λ unfailed. (λ is. no_other Endless Write refl is, λ failed. absurd (c.reads.invariant.4 failed));
-  endless = λ is. run_least _ _ _ _ _ _ _ c.reads.invariant.0 c.reads-test.false;
+  endless = λ is. run_least _ _ _ c.reads.invariant.0 c.reads-test.false;
   untouched = none_failed c.failed.ensures c.if-failed.false c.failed-2.ensures c.if-failed-2.false;
 }

@@ -1,9 +1,8 @@
 -- The decimal digits of a number as a text: they write that number, and as an identifier they have its value.
-use Rattle.std.proofs.Common.{◌≡◌, ◌<◌, ◌^◌, ℕ, Bool, true, List, [], ◌∷◌, length, arith, refl}
+use Rattle.std.proofs.Common.{◌≡◌, ◌<◌, ◌^◌, ℕ, Bool, List, [], ◌∷◌, length, arith, refl}
 use Rattle.std.proofs.lemmas.Bool.{and_from, and_parts, lt-ltb}
 use Rattle.std.proofs.lemmas.Fmt.{decimal_nonempty, digits_decimal, digits_value-decimal}
 use Rattle.std.specs.Fmt.{decimal}
-use Rattle.std.specs.Prelude.{nat_lt}
 use Rattle.semver_texts.specs.Characters.{AreAll, BeginsWith, is_digit, is_identifier_character}
 use Rattle.semver_texts.specs.IdentifierText.{IsIdentifierText, identifier_of}
 use Rattle.semver_texts.specs.IdentifierValue.{numeric}
@@ -33,9 +32,4 @@ characters-of_digits (b ∷ text) all = grind (arith, characters-of_digits text,
 pub decimal-identifier : (n : ℕ) → n < 2 ^ 64
     → IsIdentifierText (decimal n) × (identifier_of (decimal n) ≡ numeric n)
 decimal-identifier n small =
-    let all = decimal-digits n small in
-    let characters = characters-of_digits (decimal n) all in
-    let fits : nat_lt n (2 ^ 64) ≡ true = lt-ltb _ _ small in (
-      (some-begins is_identifier_character (decimal n) (decimal_nonempty n small) characters, characters),
-      rw (all, decimal-value n small, fits) refl,
-    )
+    grind (arith, decimal-digits, characters-of_digits, lt-ltb, some-begins, decimal_nonempty, decimal-value)

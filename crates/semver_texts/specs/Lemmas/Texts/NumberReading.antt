@@ -37,29 +37,15 @@ pub record TakesNumber (text : List ℕ) (number : ℕ) (rest : List ℕ) : Type
 pub number-takes : (text : List ℕ) (number : ℕ) (rest : List ℕ) → read_number text ≡ Ok (number, rest)
     → TakesNumber text number rest
 unfolding read_number
-number-takes text number rest h = grind (
-  arith,
-  ok-value,
-  leb-true,
-  prefix_of-rest_of,
-  prefix_of-begins,
-  begins-with,
-  prefix_of-all,
-  rest_of-no,
-)
+number-takes text number rest h =
+    grind (arith, ok-value, leb-true, prefix_of-rest_of, prefix_of-begins, begins-with, prefix_of-all, rest_of-no)
 
 -- a number text is read, if no digit follows it
 pub number-again : (digits rest : List ℕ) (number : ℕ) → IsNumberText digits number → BeginsWithNo is_digit rest
     → read_number (digits ++ rest) ≡ Ok (number, rest)
 unfolding read_number
-number-again digits rest number read ends = grind (
-  arith,
-  with-begins,
-  begins-append,
-  prefix_of-again,
-  rest_of-again,
-  le-leb,
-)
+number-again digits rest number read ends =
+    grind (arith, with-begins, begins-append, prefix_of-again, rest_of-again, le-leb)
 
 -- a number begins with a digit
 pub number-digit : (text rest : List ℕ) (number : ℕ) → Ok (number, rest) ≡ read_number text → BeginsWith is_digit text

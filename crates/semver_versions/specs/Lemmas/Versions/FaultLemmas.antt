@@ -3,7 +3,7 @@ use Rattle.std.proofs.Common.{◌≡◌, ◌⊎◌, ◌≤◌, ◌<◌, ℕ, ◌
 use Rattle.std.proofs.Common.{◌∙◌, inl, inr, arith, subst, append_assoc, append-nil}
 use Rattle.std.proofs.lemmas.Bool.{cases_Bool, cond-false, cond-true, le-leb, leb-false, leb-true, lt-leb}
 use Rattle.std.proofs.lemmas.List.{length-append}
-use Rattle.std.specs.Prelude.{Option, Some, None, Result, ◌==◌, if◌then◌else◌, nat_le}
+use Rattle.std.specs.Prelude.{if◌then◌else◌, Option, Some, None, Result, ◌==◌, nat_le}
 use Rattle.semver_texts.specs.declared.TheConstants.{MAX_LENGTH, MAX_SAFE_INTEGER}
 use Rattle.semver_texts.specs.Characters.{BeginsWithNo, dot, is_blank, is_digit, is_version_mark}
 use Rattle.semver_texts.specs.NumberText.{number_of}
@@ -96,14 +96,10 @@ dots-stop : (texts : List (List ℕ)) (digits rest : List ℕ) → AreNumbers te
 unfolding read_triple
 dots-stop [] digits rest all few here limit none =
     grind (arith, number-again digits rest (number_of digits), unread-dot rest none)
-dots-stop (a ∷ []) digits rest all few here limit none = grind (
-  arith,
-  number-again digits rest (number_of digits),
-  unread-dot rest none,
-  number-again a (dot ∷ (digits ++ rest)) all.0.0 all.0.1 refl,
-  one-dot a (digits ++ rest),
-  dot-again (digits ++ rest),
-)
+dots-stop (a ∷ []) digits rest all few here limit none =
+    grind (arith, number-again digits rest (number_of digits),
+        number-again a (dot ∷ (digits ++ rest)) all.0.0 all.0.1 refl, unread-dot rest none, one-dot a (digits ++ rest),
+        dot-again (digits ++ rest))
 dots-stop (a ∷ b ∷ texts) digits rest all few here limit none = absurd (omega arith)
 
 -- a mark and blanks are taken before the numbers of a prefix

@@ -10,6 +10,6 @@ returns-in_err-flush-clause-part g c =
     let whole : (left : List ℕ) × Moves (g.W.Write.contents c.args.writer.now.inner)
     (g.W.Write.contents c.flush.new.writer.inner) c.args.self.now c.args.line.now left = (
       drop part.0 c.args.self.now ++ c.args.line.now,
-      moves-part _ _ c.args.self.now c.args.line.now part.0 part.1,
+      moves-part part.0 part.1,
     ) in
     on_err _ _ c.from_residual.ensures.0 whole

@@ -17,6 +17,6 @@ returns-in_ok-append-in-Some-clause-lines c =
     on_ok_weaker {Q = IsOpen record { range = c.append.new.text; is_range_ended = true; version = version }}
     c.append-in-Some.result (λ more. record {
       range = line_alone _ _ _ c.clear.ensures.items c.in_ok-append-in-Some.ensures.appended split.one_line;
-      version = line_alone _ _ _ c.clear-2.ensures.items more (one_line-from _ _ _ split c.requires);
+      version = line_alone _ _ _ c.clear-2.ensures.items more (one_line-from split c.requires);
       none_yet = λ is. false_not_true (sym is);
     }) c.append-in-Some.ensures.appended

@@ -1,0 +1,12 @@
+use Rattle.node_semver_c.specs.Answers.{IsMinimum}
+use Rattle.node_semver_c.proofs.Found.{found_of}
+use Rattle.node_semver_c.proofs.algebra.node_semver_min_version.Goals as goal
+
+pub returns-in-Ok : goal.returns-in-Ok
+returns-in-Ok c =
+    rw (← c.get.ensures) (found_of (IsMinimum c.get.result.now) c.in-Ok.found
+    c.keep_version_found.result c.keep_version_found.new.held.value record {
+      least = c.in-Ok.ensures.least;
+      none = c.in-Ok.ensures.none;
+      build = c.in-Ok.ensures.build;
+    } c.keep_version_found.ensures)

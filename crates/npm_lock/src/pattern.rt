@@ -1,0 +1,99 @@
+//! One pattern of `workspaces`: which texts are read, and what its stars match.
+ghost use Rattle.std.specs.Prelude.{◌≡◌, true};
+ghost use Rattle.npm_lock.specs.Workspaces as Workspaces;
+ghost use Rattle.npm_lock.specs.Private.Patterns as Patterns;
+
+use npm_packages::linked_folder;
+use npm_texts::{ends_with, rest_after, without_end};
+
+/// The pattern of a text, which may begin with `./` or `/`.
+pub(crate) fn pattern_of(text: &str) -> &str
+    ensures { result.now ≡ Workspaces.pattern_of text.now }
+{
+    without_slashes(linked_folder(text))
+}
+
+/// The text without each `/` at its start.
+fn without_slashes(text: &str) -> &str
+    ensures { result.now ≡ Workspaces.without_slashes text.now }
+{
+    let mut left = text;
+    'slashes: while let Some(rest) = rest_after(left, "/") {
+        left = rest;
+    }
+    left
+}
+
+/// Returns `true` for a pattern that is read here.
+pub(crate) fn is_read_text(pattern: &str) -> bool
+    ensures { result ≡ Workspaces.is_read pattern.now }
+{
+    let stem = stem_of(pattern);
+    if has_glob_byte(stem) {
+        false
+    } else if ends_with(pattern, "*") {
+        is_whole(stem)
+    } else {
+        !is_whole(stem)
+    }
+}
+
+fn is_whole(stem: &str) -> bool
+    ensures { result ≡ Workspaces.is_whole stem.now }
+{
+    stem.is_empty() || ends_with(stem, "/")
+}
+
+/// The pattern without `*` or `**` at its end.
+pub(crate) fn stem_of(pattern: &str) -> &str
+    ensures { result.now ≡ Workspaces.stem_of pattern.now }
+{
+    without_end(without_end(pattern, "*"), "*")
+}
+
+fn has_glob_byte(stem: &str) -> bool
+    ensures { result ≡ Workspaces.has_glob_byte stem.now }
+{
+    stem.bytes().any(|byte| b"!#*?[]{}()\\".contains(&byte))
+}
+
+/// Returns `true` for the name of a folder that `*` in a pattern of `workspaces` matches: `a`, but not `.a`. Does not
+/// allocate.
+pub fn is_part(rest: &str) -> bool
+    ensures { result ≡ Workspaces.is_part rest.now }
+{
+    is_rest(rest.as_bytes(), false)
+}
+
+/// Returns `true` if `**` matches the rest of a folder, or `*` does, with `is_tree` false.
+pub(crate) fn is_rest(rest: &[u8], is_tree: bool) -> bool
+    ensures { result ≡ Patterns.is_rest is_tree rest.now }
+{
+    are_parts(rest) && (is_tree || !has_slash(rest))
+}
+
+fn has_slash(rest: &[u8]) -> bool
+    ensures { result ≡ Workspaces.has_slash rest.now }
+{
+    rest.iter().any(|byte| *byte == b'/')
+}
+
+fn are_parts(rest: &[u8]) -> bool
+    ensures { result ≡ Workspaces.are_parts rest.now }
+{
+    !rest.is_empty() && !has_dot_part(rest)
+}
+
+/// Returns `true` if a part of the path begins with a dot.
+fn has_dot_part(path: &[u8]) -> bool
+    ensures { result ≡ Workspaces.has_dot_part true path.now }
+{
+    let mut is_start = true;
+    for byte in path {
+        if is_start && *byte == b'.' {
+            return true;
+        }
+        is_start = *byte == b'/';
+    }
+    false
+}

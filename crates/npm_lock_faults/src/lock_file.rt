@@ -1,0 +1,131 @@
+//! Where the fault of a lock file is.
+ghost use Rattle.std.specs.Prelude.{◌≡◌, IfOk, None, option_map};
+ghost use Rattle.serde_json.specs.View.{view};
+ghost use Rattle.npm_packages.specs.Faults as Faults;
+ghost use Rattle.npm_packages.specs.PackageValue.{package_value, packages_data};
+ghost use Rattle.npm_packages.specs.Packages as Packages;
+ghost use Rattle.npm_lock_version_one.specs.VersionOne.{any_fault};
+ghost use Rattle.npm_lock_faults.specs.FaultPaths as FaultPaths;
+ghost use Rattle.npm_lock_faults.specs.FaultPaths.{fault_of, fault_path_value};
+
+use crate::Result;
+use crate::fault_path::FaultPath;
+use crate::package::{of_member, package_fault_path};
+use crate::version_one::version_one_fault_path;
+use npm_lock_version_one::is_version_one;
+use npm_packages::{Fault, Lock, Package, is_link, linked_folder};
+use serde_json::Value;
+use std::alloc::Global;
+
+/// Returns the fault of a lock file of any version, and where it is, if it has one. `check_any` of npm_lock_version_one refuses such
+/// a lock file, and also one of version 1 whose manifest has a fault: see [`root_fault_path`](crate::root_fault_path).
+///
+/// # Errors
+///
+/// An allocation failed.
+///
+/// # Memory
+///
+/// Allocates the path, and nothing if there is no fault.
+pub fn lock_fault_path<'v>(alloc: Global, lock: &'v Value) -> Result<Option<FaultPath<'v>>>
+    ensures found { IfOk result (λ found. option_map fault_path_value found
+        ≡ FaultPaths.any_fault_path (view lock.now)) }
+    ensures same { IfOk result (λ found. fault_of (option_map fault_path_value found) ≡ any_fault (view lock.now) None) }
+{
+    any_fault_path(alloc, lock)
+}
+
+/// Where the fault of a lock file is.
+fn any_fault_path<'v>(alloc: Global, lock: &'v Value) -> Result<Option<FaultPath<'v>>>
+    ensures { IfOk result (λ found. option_map fault_path_value found
+        ≡ FaultPaths.any_fault_path (view lock.now)) }
+{
+    if is_version_one(lock) {
+        version_one_fault_path(alloc, lock)
+    } else {
+        later_fault_path(alloc, lock)
+    }
+}
+
+/// Where the fault of a lock file of version 2 or 3 is.
+fn later_fault_path<'v>(alloc: Global, lock: &'v Value) -> Result<Option<FaultPath<'v>>>
+    ensures { IfOk result (λ found. option_map fault_path_value found
+        ≡ FaultPaths.lock_fault_path (view lock.now)) }
+{
+    if !has_format(lock) {
+        return of_member(alloc, lock, "lockfileVersion", Fault::Version);
+    }
+    let Some(packages) = lock.get("packages") else {
+        return Ok(Some(FaultPath::of_value(alloc, Fault::Packages)));
+    };
+    match packages_fault_path(alloc, packages)? {
+        Some(found) => Ok(Some(found.inside("packages")?)),
+        None => Ok(None),
+    }
+}
+
+/// Returns `true` if `lockfileVersion` is 2 or 3.
+fn has_format(lock: &Value) -> bool
+    ensures { result ≡ Faults.has_format (view lock.now) }
+{
+    lock.get("lockfileVersion")
+        .and_then(Value::as_f64)
+        .is_some_and(is_format)
+}
+
+fn is_format(number: f64) -> bool
+    ensures { result ≡ Faults.is_format number }
+{
+    number == f64::from(2_u8) || number == f64::from(3_u8)
+}
+
+/// Where the fault of `packages` is.
+fn packages_fault_path<'v>(alloc: Global, packages: &'v Value) -> Result<Option<FaultPath<'v>>>
+    ensures { IfOk result (λ found. option_map fault_path_value found
+        ≡ FaultPaths.packages_fault_path (view packages.now)) }
+{
+    let Value::Object(members) = packages else {
+        return Ok(Some(FaultPath::of_value(alloc, Fault::Packages)));
+    };
+    let lock = Lock { alloc, members };
+    for (folder, entry) in members.iter() {
+        if let Some(found) = member_fault_path(lock, entry)? {
+            return Ok(Some(found.inside(folder.as_str())?));
+        }
+    }
+    Ok(None)
+}
+
+/// Where the fault of a member of `packages` is.
+fn member_fault_path<'v>(lock: Lock<'v>, entry: &'v Value) -> Result<Option<FaultPath<'v>>>
+    ensures { IfOk result (λ found. option_map fault_path_value found
+        ≡ FaultPaths.member_fault_path (packages_data lock.entry) (view entry.now)) }
+{
+    if !entry.is_object() {
+        return Ok(Some(FaultPath::of_value(lock.alloc, Fault::Package)));
+    }
+    if !is_link(entry) {
+        return package_fault_path(lock.alloc, entry);
+    }
+    match link_fault(lock, entry) {
+        Some(fault) => of_member(lock.alloc, entry, "resolved", fault),
+        None => Ok(None),
+    }
+}
+
+/// The fault of a link: `resolved` names no package that is no link.
+fn link_fault(lock: Lock<'_>, link: &Value) -> Option<Fault>
+    ensures { result ≡ Faults.link_fault (packages_data lock.entry) (view link.now) }
+{
+    match target_of(lock, link) {
+        Some(target) if !is_link(target.member) => None,
+        _ => Some(Fault::Link),
+    }
+}
+
+/// The package that `resolved` of a link names.
+fn target_of<'v>(lock: Lock<'v>, link: &Value) -> Option<Package<'v>>
+    ensures { option_map package_value result ≡ Packages.target_of (packages_data lock.entry) (view link.now) }
+{
+    lock.package_in(linked_folder(link.get("resolved")?.as_str()?))
+}

@@ -202,6 +202,17 @@ def osv_told(number, severity="unknown"):
     return {"id": f"O{number}", "severity": severity, "title": f"t{number}"}
 
 
+def copies():
+    """Copies of a package, each of another version and with a dependent of its own, and advisories that hit one each."""
+    numbers = range(1, MANY + 1)
+    packages = {f"node_modules/p{it}": {"version": "1.0.0", "dependencies": {"d": f"^{it}.0.0"}} for it in numbers}
+    packages.update({f"node_modules/p{it}/node_modules/d": {"version": f"{it}.0.0"} for it in numbers})
+    listed = [advisory(it, f"{it}.0.0 - {it}.0.3") for it in numbers]
+    hits = [found(f"p{it}/node_modules/d", f"{it}.0.0", [listed[it - 1]], f"{it}.0.4", f"{it}.0.4") for it in numbers]
+    hits = sorted(({**hit, "name": "d"} for hit in hits), key=lambda hit: hit["folder"])
+    return {"d": listed}, lock_of({}, packages), "info", hits
+
+
 def audits():
     """The advisories, a lock file, a level, and the packages that are hit."""
     everyone = lock_of(asked("*"), at_root("1.0.0"))
@@ -222,6 +233,7 @@ def audits():
     yield {"d": [advisory(1, "<1.5.0")]}, lock_of({}, packages), "info", [hit]
     apart = [advisory(number, f"{number}.0.0 - {number + 1}.0.0-0") for number in range(1, MANY)]
     yield {"d": apart}, one, "info", [found("d", "1.0.0", apart[:1], f"{MANY}.0.0", f"{MANY}.0.0")]
+    yield copies()
     long = advisory(1, "||".join(f"{number}.0.0" for number in range(MANY, 0, -1)), title="t" * LONG)
     yield {"d": [long]}, one, "info", [found("d", "1.0.0", [long], "1.0.1", "1.0.1")]
 

@@ -15,7 +15,8 @@ from public_calls import blanked_in_place, blocks
 
 # What no user calls: tests, and what scripts run.
 LEFT_OUT = ("memory_trials", "semver_memory", "npm_memory", "node_semver_callers")
-# Private functions of crates for npm's files that are on the page too, since the public call of their crate is made of them.
+# Private functions of crates for npm's files and of command_lines that are on the page too, since the public call of their crate is
+# made of them.
 ALSO = ("judgement_of", "dependency_of", "find", "asked_of", "verdict_of_both", "overridden", "workspace_of", "is_contained",
         "engine_problem", "path_of", "read_error", "json_error", "is_package_name")
 NAME = re.compile(r"^(?:(?:pub|abbrev|unfoldable|opaque|irreducible|def|rec|data|record)\s+)*([^\W\d][\w']*)")
@@ -134,7 +135,7 @@ def owner_of(at, within):
 def is_public(crate, path, is_pub, name, owner, trait, front):
     """Whether users of the crate can make a call."""
     names, modules = front
-    if name in ALSO and crate.startswith("npm_"):
+    if name in ALSO and crate.startswith(("npm_", "command_lines")):
         return True
     if names is None:
         return is_pub or trait not in (None, "From") or path.endswith("/main.rt")

@@ -35,7 +35,11 @@ pub extern "C" fn node_semver_least_beyond_with_prereleases(
     requires empty { answer.old.value ≡ None }
     ensures { IsFound (IsLeastContainedBeyond one.now.value other.now.value) result answer.new.value }
 {
-    match one.get().with_prereleases().least_beyond(alloc, other.get()) {
+    match one
+        .get()
+        .with_prereleases()
+        .least_beyond(alloc, other.get())
+    {
         Ok(found) => keep_version_found(alloc, found, answer),
         Err(_) => OUT_OF_MEMORY,
     }
@@ -52,7 +56,11 @@ pub extern "C" fn node_semver_range_least_common_with_prereleases(
     requires empty { answer.old.value ≡ None }
     ensures { IsFound (IsLeastContainedInBoth one.now.value other.now.value) result answer.new.value }
 {
-    match one.get().with_prereleases().least_common(alloc, other.get()) {
+    match one
+        .get()
+        .with_prereleases()
+        .least_common(alloc, other.get())
+    {
         Ok(found) => keep_version_found(alloc, found, answer),
         Err(_) => OUT_OF_MEMORY,
     }

@@ -9,6 +9,7 @@ pub mod Uniting
 pub mod Installing
 pub mod Reading
 pub mod Keeping
+pub mod Halving
 pub mod Auditing
 pub mod Listing
 pub mod VersionTests

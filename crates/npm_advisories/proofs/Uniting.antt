@@ -1,29 +1,12 @@
 -- All versions that advisories are about, by names.
-use Rattle.std.proofs.Common.{◌≡◌, ℕ, List, [], Bool, true, false, cond, Option, Some, None, IsSome, IsTrue, bytes_eq}
-use Rattle.std.proofs.Common.{not, refl, subst}
+use Rattle.std.proofs.Common.{◌≡◌, ℕ, List, [], Bool, true, false, cond, Option, Some, None, IsSome, bytes_eq}
+use Rattle.std.proofs.Common.{refl, subst}
 use Rattle.std.proofs.lemmas.Slice.Eq.{bytes_eq-Decides}
 use Rattle.std.specs.Option.{MatchOption}
-use Rattle.semver_cuts.specs.Ends.{Ends}
-use Rattle.node_semver.specs.RangeAlgebra.{sets_of_answer}
-use Rattle.node_semver.specs.Ranges.{RangeContains}
-use Rattle.node_semver.specs.Versions.{VersionValue}
 use Rattle.npm_advisories.specs.Private.Index.{at_name}
-use Rattle.npm_advisories.specs.Private.Spans.{IsInRange}
 use Rattle.npm_advisories.specs.Private.Unions.{IsUnion}
-use Rattle.npm_advisories.specs.declared.advisory.Advisory.{Advisory}
 use Rattle.npm_advisories.specs.declared.unions.Union.{Union}
 use Rattle.npm_advisories.specs.declared.index.Index.{Index}
-
--- a test is not true and false
-pub not-both : (b : Bool) → IsTrue (not b) → IsTrue b → ⊥
-not-both true other is = let no : false ≡ true = other in cc no
-not-both false other is = let no : false ≡ true = is in cc no
-
--- a version outside the union is one that no advisory is about
-pub spared : (advisories : List Advisory) (union : Union) (all : Option (List (Ends VersionValue))) → IsUnion advisories union
-    → union.all ≡ all → (v : VersionValue) → ¬ RangeContains (sets_of_answer all) v → ¬ IsInRange advisories v
-spared advisories union all is at v not hit =
-    not (subst (λ a. RangeContains (sets_of_answer a) v) at ((is.all v).1 hit))
 
 module _ (index : Index) where
   -- the union at a name, if there is one, is that of the advisories about this package

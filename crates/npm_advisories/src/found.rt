@@ -17,7 +17,6 @@ ghost use Rattle.npm_advisories.specs.Private.Unions.{IsKnown};
 use crate::Result;
 use crate::advisory::About;
 use crate::fault::AuditError;
-use crate::hits::hits_of;
 use crate::index::Index;
 use crate::names::Names;
 use crate::offer::offer_above;
@@ -136,10 +135,7 @@ fn found_of<'f, 'v>(
         return Ok(None);
     };
     let version = read_version(installed.version);
-    if union.spares(&version) {
-        return Ok(None);
-    }
-    let hits = hits_of(alloc, advisories, level, &version)?;
+    let hits = union.hits(alloc, advisories, level, &version)?;
     if hits.as_slice().is_empty() {
         return Ok(None);
     }

@@ -5,6 +5,7 @@ mod advisory;
 mod covered;
 mod fault;
 mod found;
+mod halves;
 mod hits;
 mod id;
 mod index;

@@ -1,16 +1,19 @@
 //! All versions that the advisories about one package are about, merged once: copies of the package are searched in them.
-ghost use Rattle.std.specs.Prelude.{◌≡◌, IfOk, IsTrue, List, OnOk, option_map};
-ghost use Rattle.npm_advisories.specs.Private.Spans.{IsPast};
+ghost use Rattle.std.specs.Prelude.{◌≡◌, IfOk, OnOk, map, option_map};
+ghost use Rattle.npm_advisories.specs.Advisories.{about_value};
+ghost use Rattle.npm_advisories.specs.Hits.{AreKept};
+ghost use Rattle.npm_advisories.specs.Private.Spans.{IsHitBy};
 ghost use Rattle.npm_advisories.specs.Private.Unions.{AreUnions, IsKnown, IsUnion, union_at};
 ghost use Rattle.npm_advisories.specs.declared.index.Index.{Index};
-ghost use Rattle.npm_advisories.specs.declared.advisory.Advisory.{Advisory};
 
 use crate::Result;
-use crate::advisory::Advisory;
+use crate::advisory::{About, Advisory};
 use crate::covered::covered_by;
+use crate::halves::Halves;
 use crate::index::Index;
+use crate::severity::Severity;
 use crate::spans::sets_of;
-use node_semver::{Range, Version, VersionRef};
+use node_semver::{Version, VersionRef};
 use semver_cuts::Span;
 use std::alloc::Global;
 use std::collections::BTreeMap;
@@ -18,9 +21,9 @@ use std::collections::BTreeMap;
 /// All versions that advisories are about.
 #[derive(Drop)]
 pub(crate) struct Union {
-    /// The versions; `None` if there are none.
-    all: Option<Range>,
-    /// The releases among them.
+    /// The versions of the list and of its halves.
+    halves: Halves,
+    /// All releases among them.
     covered: Vec<Span<Version>>,
 }
 
@@ -29,25 +32,31 @@ impl Union {
     fn of(alloc: Global, advisories: &[Advisory<'_>]) -> Result<Union>
         ensures { IfOk result (IsUnion advisories.now) }
     {
+        let halves = Halves::of(alloc, advisories)?;
         let sets = sets_of(alloc, advisories)?;
-        let all = Range::from_sets(alloc, &sets)?;
         let covered = covered_by(alloc, &sets)?;
-        Ok(Union { all, covered })
+        Ok(Union { halves, covered })
     }
 
-    /// Returns `true` if it is known that no advisory is about the version. If the version is not known, nothing is.
-    pub(crate) fn spares(&self, version: &Option<VersionRef<'_>>) -> bool
-        ensures { (advisories : List Advisory) → IsUnion advisories self.now → IsTrue result
-            → IsPast advisories version.now }
+    /// What the advisories of the list that hit a version say of themselves; all of the level if there is no version.
+    pub(crate) fn hits<'v>(
+        &self,
+        alloc: Global,
+        advisories: &[Advisory<'v>],
+        level: Severity,
+        version: &Option<VersionRef<'_>>,
+    ) -> Result<Vec<About<'v>>>
+        requires { IsUnion advisories.now self.now }
+        ensures { IfOk result (λ hits. AreKept (IsHitBy level version.now) (λ advisory. about_value advisory.about)
+            advisories.now (map about_value hits.items)) }
     {
-        match (version, &self.all) {
-            (Some(version), Some(all)) => !all.contains(version),
-            (Some(_), None) => true,
-            (None, _) => false,
-        }
+        let mut hits = Vec::new(alloc);
+        self.halves
+            .add_hits(alloc, advisories, level, version, &mut hits)?;
+        Ok(hits)
     }
 
-    /// The releases among the versions, as spans.
+    /// All releases among the versions, as spans.
     pub(crate) fn covered(&self) -> &[Span<Version>]
         ensures { result.now ≡ self.now.covered.items }
     {

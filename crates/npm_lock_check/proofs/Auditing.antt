@@ -17,7 +17,7 @@ pub refused_as : (checked file : Data) (advisories : Option Data) (fault : Fault
     → advisories ≡ Some file → IsFileFaultBeside checked file (Some fault) → AreRefusedAs fault error
     → IsAuditRefused checked advisories error
 refused_as checked file advisories fault error is told (inl (name, same, text)) =
-    inl (fault.kind, name, fault.place, same, (file, is, rw text told))
+    inl (fault.kind, name, fault.place, same, (file, is, fault.id, rw text told))
 refused_as checked file advisories fault error is told (inr memory) = inr (inr memory)
 
 -- the lock file that is checked has the fault of the one that was read

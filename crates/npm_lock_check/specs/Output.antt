@@ -9,6 +9,8 @@ use Rattle.npm_manifests.specs.Mismatches.{manifest_fault}
 use Rattle.npm_lock_version_one.specs.VersionOne.{any_fault}
 use Rattle.npm_packages.specs.declared.fault.Fault.{Fault}
 use Rattle.npm_advisories.specs.Audit.{FoundValue}
+use Rattle.npm_advisories.specs.Faults.{fault_at}
+use Rattle.npm_advisories.specs.Ids.{IdValue}
 use Rattle.npm_advisories.specs.LockFaults.{IsFileFaultBeside}
 use Rattle.npm_advisories.specs.declared.fault.FaultKind.{FaultKind}
 use Rattle.npm_lock_check.specs.Linked.{LinkedValue, LoadedValue}
@@ -76,7 +78,7 @@ IsNoLockFile placed manifest fault = any_fault placed manifest ≡ Some fault
 -- under this name
 abbrev pub AreNoAdvisories : (checked : Data) → (advisories : Option Data) → FaultKind → ListName → (place : ℕ) → Type 0
 AreNoAdvisories checked advisories kind name place = (file : Data) × (advisories ≡ Some file)
-    × IsFileFaultBeside checked file (Some (record { kind = kind; name = string_bytes name.text; place = place }))
+    × (id : Option IdValue) × IsFileFaultBeside checked file (Some (fault_at (string_bytes name.text) place id kind))
 
 -- Why no value was read, or memory ran out later: then all was read, and it is in UTF-8 and not empty.
 abbrev pub IsUnread : {R : Type 0} → (remaining : R → Option (List ℕ)) → (old new : WatchedValue R) → RunError → Type 0

@@ -1,4 +1,6 @@
 //! A run over several lock files.
+//!
+//! See docs/DECISIONS.md, "Several lock files are written after the last one is checked".
 ghost use Rattle.std.specs.Prelude.{◌≡◌, ◌≢◌, ℕ, List, IfErr, IfOk, IsErrOf, IsSome, OnOk, map};
 ghost use Rattle.std.specs.Fn.{FnReturnsAt};
 ghost use Rattle.std.specs.Io.KnownBytes.{Appends};

@@ -1,3 +1,2 @@
 pub mod CommandExamples
-pub mod MirrorExamples
-pub mod LineExamples
+pub mod StatusExamples

@@ -1,19 +1,20 @@
--- What the arguments of the program ask for.
-use Rattle.std.specs.Prelude.{◌==◌, ℕ, List, [], ◌∷◌, ◌++◌, Bool, true, false, if◌then◌else◌, length, nat_eq}
+-- What the arguments of the program mean.
+use Rattle.std.specs.Prelude.{ℕ, List, [], ◌∷◌, ◌++◌, Bool, true, false, if◌then◌else◌, length, nat_eq}
 use Rattle.std.specs.Prelude.{nat_lt}
 use Rattle.std.specs.Prelude.{Option, Some, None, is_some, option_map, Result, Ok, Err, codes}
-use Rattle.std.specs.List.{after_first, before_first, position_or_len, starts_with}
+use Rattle.std.specs.List.{starts_with}
 use Rattle.std.specs.Result.{result_map_both}
 use Rattle.std.specs.Str.{bytes_eq}
 use denote.Ref.{Bor}
+use Rattle.command_lines.specs.Arguments as Words
+use Rattle.command_lines.specs.Arguments.{ArgumentValue}
+use Rattle.command_lines.specs.declared.argument.TheConstants.{MAX_WORDS}
+use Rattle.npm_pick_reports.specs.declared.format.Format.{Format}
+use Rattle.npm_pick_reports.specs.declared.format.Format.TheVariants as Formats
 use Rattle.npm_pick_command.specs.Names.{name_of}
 use Rattle.npm_pick_command.specs.declared.argument_error.ArgumentError.{ArgumentError}
 use Rattle.npm_pick_command.specs.declared.argument_error.ArgumentError.TheVariants as Errors
-use Rattle.npm_pick_command.specs.declared.arguments.Argument.{Argument}
 use Rattle.npm_pick_command.specs.declared.arguments.Arguments.{Arguments}
-use Rattle.npm_pick_command.specs.declared.arguments.Format.{Format}
-use Rattle.npm_pick_command.specs.declared.arguments.Format.TheVariants as Formats
-use Rattle.npm_pick_command.specs.declared.arguments.TheConstants.{MAX_WORDS}
 use Rattle.npm_pick_command.specs.declared.name.Flag.{Flag}
 use Rattle.npm_pick_command.specs.declared.name.Flag.TheVariants as Flags
 use Rattle.npm_pick_command.specs.declared.name.Name.{Name}
@@ -23,11 +24,6 @@ use Rattle.npm_pick_command.specs.declared.name.Setting.TheVariants as Settings
 use Rattle.npm_pick_command.specs.declared.name.Shown.{Shown}
 
 -- ---- the arguments of a list of words
-
--- an argument: a word, and its value if it has one
-pub record ArgumentValue : Type 0 where
-  pub word : List ℕ
-  pub value : Option (List ℕ)
 
 -- the option has a value
 abbrev pub has_value : Option Name → Bool
@@ -39,42 +35,13 @@ has_value (Some (Kinds.Valued setting)) = true
 abbrev pub takes_value : (word : List ℕ) → Bool
 takes_value word = has_value (name_of word)
 
--- what stands before the first `=` of a word, and after it
-pub record Parts : Type 0 where
-  pub name : List ℕ
-  pub text : List ℕ
-
--- the parts of a word that has a `=`: `a` and `b=c` of `a=b=c`
-abbrev pub is_equals : (byte : ℕ) → Bool
-is_equals byte = byte == 61
-
-abbrev pub parts_of : (word : List ℕ) → Option Parts
-parts_of word = if nat_lt (position_or_len is_equals word) (length word)
-    then Some (record { name = before_first is_equals word; text = after_first is_equals word })
-    else None
-
--- the argument of a word with these parts: they are an option that has a value and that value, or else nothing
-abbrev pub parts_argument : (word : List ℕ) → Option Parts → ArgumentValue
-parts_argument word None = record { word = word; value = None }
-parts_argument word (Some parts) = if takes_value parts.name
-    then record { word = parts.name; value = Some parts.text }
-    else record { word = word; value = None }
-
--- the argument that one word is: `--node=20` has its value in the word
-abbrev pub one_word : (word : List ℕ) → ArgumentValue
-one_word word = parts_argument word (parts_of word)
-
--- the arguments of the words: an option that has a value takes the word after it, whatever that is
+-- the arguments of the words
 abbrev pub arguments_of : (words : List (List ℕ)) → List ArgumentValue
-arguments_of [] = []
-arguments_of (word ∷ []) = one_word word ∷ []
-arguments_of (word ∷ text ∷ rest) = if takes_value word
-    then record { word = word; value = Some text } ∷ arguments_of rest
-    else one_word word ∷ arguments_of (text ∷ rest)
+arguments_of words = Words.arguments_of takes_value words
 
--- ---- what is wrong with them
+-- ---- errors
 
--- what is wrong, and the word or the value that it is about
+-- the kind of error, and the word or the value that it is about
 pub data ArgumentErrorValue : Type 0 where
   too_many : ArgumentErrorValue
   unknown_option : (word : List ℕ) → ArgumentErrorValue
@@ -82,7 +49,7 @@ pub data ArgumentErrorValue : Type 0 where
   no_value : (word : List ℕ) → ArgumentErrorValue
   no_format : (text : List ℕ) → ArgumentErrorValue
   no_packument : ArgumentErrorValue
-  -- with the option that asks for it
+  -- with the option that needs it
   no_packuments : (option : List ℕ) → ArgumentErrorValue
   no_lock : ArgumentErrorValue
   no_manifest : ArgumentErrorValue
@@ -94,9 +61,9 @@ pub data ArgumentErrorValue : Type 0 where
   no_node_version : (text : List ℕ) → ArgumentErrorValue
   no_npm_version : (text : List ℕ) → ArgumentErrorValue
 
--- ---- what they ask for
+-- ---- their meaning
 
--- The text about the program, if one is asked for; the format; the values of the options; the options without a value;
+-- The text about the program, for `--help` and `--version`; the format; the values of the options; the options without a value;
 -- and the version, the tag or the range
 pub record ArgumentsValue : Type 0 where
   pub shown : Option Shown
@@ -117,7 +84,7 @@ pub record ArgumentsValue : Type 0 where
   pub npm : Option (List ℕ)
   pub spec : Option (List ℕ)
 
--- what no argument asks for
+-- the meaning of no arguments
 abbrev pub nothing_asked : ArgumentsValue
 nothing_asked = record {
   shown = None;
@@ -207,14 +174,14 @@ with_argument asked word (Some (Kinds.Valued setting)) (Some text) = with_value 
 abbrev pub asked_with : ArgumentsValue → ArgumentValue → Result ArgumentsValue ArgumentErrorValue
 asked_with asked argument = with_argument asked argument.word (name_of argument.word) argument.value
 
--- what all these arguments ask for, after others: the first error counts
+-- with all these arguments more: the first error counts
 abbrev pub asked_by : Result ArgumentsValue ArgumentErrorValue → List ArgumentValue
     → Result ArgumentsValue ArgumentErrorValue
 asked_by asked [] = asked
 asked_by (Err error) (argument ∷ rest) = Err error
 asked_by (Ok asked) (argument ∷ rest) = asked_by (asked_with asked argument) rest
 
--- what the words after the program's name ask for, of which there are at most 1,000
+-- the meaning of the words after the program's name, of which there are at most 1,000
 abbrev pub read_arguments : (words : List (List ℕ)) → Result ArgumentsValue ArgumentErrorValue
 read_arguments words = if nat_lt MAX_WORDS (length words) then Err too_many
     else asked_by (Ok nothing_asked) (arguments_of words)
@@ -243,9 +210,6 @@ manifests_of words = manifest_files (arguments_of words)
 abbrev pub text_value : Option (Bor (List ℕ)) → Option (List ℕ)
 text_value text = option_map (λ t. t.now) text
 
-abbrev pub argument_value : Argument → ArgumentValue
-argument_value argument = record { word = argument.word.now; value = option_map (λ text. text.now) argument.value }
-
 abbrev pub arguments_value : Arguments → ArgumentsValue
 arguments_value asked = record {
   shown = asked.shown;
@@ -266,10 +230,6 @@ arguments_value asked = record {
   npm = option_map (λ text. text.now) asked.npm;
   spec = option_map (λ text. text.now) asked.spec;
 }
-
--- the parts of a word
-abbrev pub part_values : Bor (List ℕ) × Bor (List ℕ) → Parts
-part_values parts = record { name = parts.0.now; text = parts.1.now }
 
 abbrev pub argument_error_value : ArgumentError → ArgumentErrorValue
 argument_error_value Errors.TooMany = too_many

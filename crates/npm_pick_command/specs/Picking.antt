@@ -1,4 +1,4 @@
--- What the arguments say of the version that is picked.
+-- The options of a pick, by the arguments.
 use Rattle.std.specs.Prelude.{◌≡◌, ℕ, List, Option, Some, None, codes, option_map, string_bytes, unwrap_or}
 use Rattle.jiff_core.specs.declared.timestamp.Timestamp.{Timestamp}
 use Rattle.node_semver.specs.Versions.{IsVersionText, VersionValue}
@@ -32,7 +32,7 @@ pub record AreValues (asked : ArgumentsValue) (values : Values) : Type 0 where
   pub node : IsWhole asked.node (option_map string_bytes values.node)
   pub npm : IsWhole asked.npm (option_map string_bytes values.npm)
 
--- What is asked of `npm_pick`: each option as the arguments have it. The tag is `latest` if none is named.
+-- The options of `npm_pick`: each is as the arguments have it. The tag is `latest` if none is named.
 pub record AreOptions (asked : ArgumentsValue) (options : Options) : Type 0 where
   pub tag : options.default_tag.now ≡ unwrap_or asked.tag (codes "latest")
   pub before : IsTime asked.before options.before

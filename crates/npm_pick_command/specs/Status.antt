@@ -1,7 +1,7 @@
 -- The exit status.
 use Rattle.std.specs.Prelude.{ℕ, true, false}
-use Rattle.npm_pick_command.specs.declared.reply.Ending.{Ending}
-use Rattle.npm_pick_command.specs.declared.reply.Ending.TheVariants.{Compared, Kept, Nothing, Picked}
+use Rattle.npm_pick_reports.specs.declared.reply.Ending.{Ending}
+use Rattle.npm_pick_reports.specs.declared.reply.Ending.TheVariants.{Compared, Kept, Nothing, Picked}
 
 -- 0 if a version is picked, nothing is outdated or each package has a document, and 1 if none is picked, something is
 -- outdated or a package that a mirror keeps has no document

@@ -16,7 +16,7 @@ pub data TaskValue : Type 0 where
   outdated : (packuments lock : List ℕ) → TaskValue
   keep : (packuments : List ℕ) → (lock : Option (List ℕ)) → TaskValue
 
--- `--packument FILE SPEC`; with no SPEC it is the empty text, which stands for `*`
+-- `--packument FILE SPEC`; with no SPEC it is the empty text, which means `*`
 abbrev pub pick_task : (packument spec : Option (List ℕ)) → Result TaskValue ArgumentErrorValue
 pick_task None spec = Err no_packument
 pick_task (Some packument) spec = Ok (pick packument (unwrap_or spec []))
@@ -51,7 +51,7 @@ abbrev pub keep_task : ArgumentsValue → Result TaskValue ArgumentErrorValue
 keep_task asked = if asked.outdated then Err two_tasks
     else mirror_task (folder_of (codes "--keep") asked) asked.manifest asked.lock
 
--- what the arguments ask for
+-- the task of the arguments
 abbrev pub task_of : ArgumentsValue → Result TaskValue ArgumentErrorValue
 task_of asked = if asked.keep then keep_task asked
     else if asked.outdated then outdated_task asked

@@ -1,8 +1,8 @@
-//! What is wrong with the arguments.
-use crate::shown::Quoted;
+//! Errors of the arguments.
+use command_lines::Quoted;
 use thiserror::Error;
 
-/// What is wrong with the arguments, with the word that it is about.
+/// An error of the arguments, with the word that it is about.
 #[derive(Clone, Copy, Debug, Drop, Error)]
 pub enum ArgumentError<'a> {
     /// More words than are read.
@@ -35,7 +35,7 @@ pub enum ArgumentError<'a> {
     /// `--outdated` and `--keep`.
     #[error("--outdated and --keep are not done at once; --help shows what is read")]
     TwoTasks,
-    /// A version, a tag or a range where none is asked for.
+    /// A version, a tag or a range after an option that allows none.
     #[error("{0} takes no SPEC, and not {1}; --help shows what is read")]
     NoSpec(&'static str, Quoted<'a>),
     /// The value of `--before` is no time.

@@ -1,22 +1,15 @@
-//! What the arguments of the program ask for.
-ghost use Rattle.std.specs.Prelude.{◌≡◌, ◌<◌, [], ◌∷◌, length, map, option_map, string_bytes, MatchOption};
+//! Reads the arguments of the program.
+ghost use Rattle.std.specs.Prelude.{◌≡◌, length, map, string_bytes};
+ghost use Rattle.command_lines.specs.Arguments.{argument_value};
 ghost use Rattle.npm_pick_command.specs.Arguments as ArgumentRules;
-ghost use Rattle.npm_pick_command.specs.Arguments.{argument_value, arguments_of, arguments_result, arguments_value, asked_by};
-ghost use Rattle.npm_pick_command.specs.Arguments.{part_values};
+ghost use Rattle.npm_pick_command.specs.Arguments.{arguments_of, arguments_result, arguments_value, asked_by};
 
 use crate::argument_error::ArgumentError;
 use crate::name::{Flag, Name, Setting, Shown, name_of};
-use crate::shown::Quoted;
+use command_lines::{Argument, MAX_WORDS, Options, Quoted, first_argument};
+use npm_pick_reports::Format;
 
-/// How an answer is written.
-#[derive(Clone, Copy, Debug, PartialEq, Eq, Drop)]
-pub enum Format {
-    Text,
-    /// A JSON object a line.
-    Json,
-}
-
-/// What the arguments ask for. A text is the value of the last option of its name.
+/// What the arguments mean. A text is the value of the last option of its name.
 #[derive(Clone, Copy, Drop)]
 pub struct Arguments<'a> {
     pub shown: Option<Shown>,
@@ -42,17 +35,18 @@ pub struct Arguments<'a> {
     pub spec: Option<&'a str>,
 }
 
-/// One argument: a word, and its value if it has one.
-#[derive(Clone, Copy, Drop)]
-pub struct Argument<'a> {
-    pub word: &'a str,
-    pub value: Option<&'a str>,
+/// The options of this program.
+pub struct PickOptions;
+
+impl Options for PickOptions {
+    ghost takes_value = { ArgumentRules.takes_value };
+
+    fn takes_value(word: &str) -> bool {
+        matches!(name_of(word), Some(Name::Valued(_)))
+    }
 }
 
-/// The greatest number of words that are read: each takes room on the stack.
-const MAX_WORDS: usize = 1000;
-
-/// Returns what the words after the program's name ask for. Of two values of an option the last one counts.
+/// Reads the words after the program's name. Of two values of an option the last one counts.
 pub fn read_arguments<'a>(words: &'a [String]) -> Result<Arguments<'a>, ArgumentError<'a>>
     ensures { arguments_result result ≡ ArgumentRules.read_arguments (map string_bytes words.now) }
 {
@@ -62,7 +56,7 @@ pub fn read_arguments<'a>(words: &'a [String]) -> Result<Arguments<'a>, Argument
     asked_from(nothing_asked(), words)
 }
 
-/// What these words ask for, after others.
+/// Reads the words that are left.
 fn asked_from<'a>(
     asked: Arguments<'a>,
     words: &'a [String],
@@ -70,13 +64,13 @@ fn asked_from<'a>(
     ensures { arguments_result result
         ≡ asked_by (Ok (arguments_value asked.entry)) (arguments_of (map string_bytes words.now)) }
 {
-    match first_argument(words) {
+    match first_argument::<PickOptions>(words) {
         Some((argument, rest)) => asked_from(asked_with(asked, argument)?, rest),
         None => Ok(asked),
     }
 }
 
-/// What no argument asks for.
+/// The meaning of no arguments.
 fn nothing_asked<'a>() -> Arguments<'a>
     ensures { arguments_value result ≡ ArgumentRules.nothing_asked }
 {
@@ -101,52 +95,7 @@ fn nothing_asked<'a>() -> Arguments<'a>
     }
 }
 
-/// The first argument of the words, and the words after it.
-pub fn first_argument<'a>(words: &'a [String]) -> Option<(Argument<'a>, &'a [String])>
-    ensures { MatchOption result (words.now ≡ []) (λ first. (length first.1.now < length words.now)
-        × (arguments_of (map string_bytes words.now)
-        ≡ argument_value first.0 ∷ arguments_of (map string_bytes first.1.now))) }
-{
-    let (first, rest) = words.split_first()?;
-    let word = first.as_str();
-    let Some((text, others)) = rest.split_first() else {
-        return Some((one_word(word), rest));
-    };
-    if takes_value(word) {
-        let value = Some(text.as_str());
-        return Some((Argument { word, value }, others));
-    }
-    Some((one_word(word), rest))
-}
-
-/// The argument that one word is. `--node=20` has its value in the word.
-fn one_word<'a>(word: &'a str) -> Argument<'a>
-    ensures { argument_value result ≡ ArgumentRules.one_word word.now }
-{
-    match parts_of(word) {
-        Some((name, text)) if takes_value(name) => Argument {
-            word: name,
-            value: Some(text),
-        },
-        _ => Argument { word, value: None },
-    }
-}
-
-/// The word before its first `=`, and after it.
-fn parts_of(word: &str) -> Option<(&str, &str)>
-    ensures { option_map (λ parts. part_values parts) result ≡ ArgumentRules.parts_of word.now }
-{
-    word.split_once('=')
-}
-
-/// Returns `true` if the word is an option with a value.
-fn takes_value(word: &str) -> bool
-    ensures { result ≡ ArgumentRules.takes_value word.now }
-{
-    matches!(name_of(word), Some(Name::Valued(_)))
-}
-
-/// What is asked for with one more argument.
+/// Adds an argument.
 fn asked_with<'a>(
     asked: Arguments<'a>,
     argument: Argument<'a>,
@@ -166,7 +115,7 @@ fn asked_with<'a>(
     }
 }
 
-/// What is asked for with one more option that has no value.
+/// Adds an option that has no value.
 fn with_flag<'a>(asked: Arguments<'a>, flag: Flag) -> Arguments<'a>
     ensures { arguments_value result ≡ ArgumentRules.with_flag (arguments_value asked.entry) flag }
 {
@@ -195,7 +144,7 @@ fn with_flag<'a>(asked: Arguments<'a>, flag: Flag) -> Arguments<'a>
     }
 }
 
-/// What is asked for with one more option that has a value.
+/// Adds an option that has a value.
 fn with_value<'a>(
     asked: Arguments<'a>,
     setting: Setting,
@@ -209,7 +158,7 @@ fn with_value<'a>(
     }
 }
 
-/// The same if the value is kept as it is.
+/// Adds an option whose value is kept as it is.
 fn with_text<'a>(asked: Arguments<'a>, setting: Setting, text: &'a str) -> Arguments<'a>
     ensures { arguments_value result ≡ ArgumentRules.with_text (arguments_value asked.entry) setting text.now }
 {
@@ -249,7 +198,7 @@ fn with_text<'a>(asked: Arguments<'a>, setting: Setting, text: &'a str) -> Argum
     }
 }
 
-/// What is asked for with one more format.
+/// Adds a format.
 fn with_format<'a>(asked: Arguments<'a>, text: &'a str) -> Result<Arguments<'a>, ArgumentError<'a>>
     ensures { arguments_result result ≡ ArgumentRules.with_format (arguments_value asked.entry) text.now }
 {
@@ -272,7 +221,7 @@ fn format_of(text: &str) -> Option<Format>
     }
 }
 
-/// What is asked for with one more word that is no option: the version, the tag or the range, of which there is one.
+/// Adds a word that is no option: the version, the tag or the range, of which there is one.
 fn with_spec<'a>(asked: Arguments<'a>, word: &'a str) -> Result<Arguments<'a>, ArgumentError<'a>>
     ensures { arguments_result result ≡ ArgumentRules.with_spec (arguments_value asked.entry) word.now }
 {

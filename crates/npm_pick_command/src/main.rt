@@ -3,65 +3,44 @@
 //! keeps.
 //!
 //! The exit status is 0 if a version is picked, nothing is outdated or each package has a document, 1 if none is picked, something
-//! is outdated or a package that a mirror keeps has no document, and 2 if nothing was asked: a wrong argument, or a file that is not
-//! read. What is not picked or not asked has a line on standard error.
+//! is outdated or a package that a mirror keeps has no document, and 2 after an error: a wrong argument, or a file that is not read.
+//! A line on standard error says why no version is picked, and what the error is.
 #![tactic(auto)]
 
 ghost use Rattle.std.specs.Prelude.{◌≡◌, IfErr, None, Ok, Some, false, true};
 ghost use Rattle.npm_pick_command.specs.Status.{status_of_ending};
-ghost use Rattle.npm_pick_command.specs.declared.reply.Ending.{Ending};
+ghost use Rattle.npm_pick_reports.specs.declared.reply.Ending.{Ending};
 
 mod argument_error;
 mod arguments;
-mod asks;
 mod given;
 mod help;
-mod in_order;
-mod input;
-mod input_error;
-mod load_error;
 mod manifest;
 mod manifest_files;
-mod members;
-mod mirror;
-mod mirror_lines;
 mod name;
-mod notes;
-mod outdated;
-mod outdated_lines;
 mod packument_file;
-mod picked_line;
 mod picking;
 mod program_error;
-mod reply;
-mod requests;
-mod run_error;
-mod shown;
 mod task;
-mod words;
 
 use arguments::{Arguments, read_arguments};
+use command_lines::{InputError, Quoted, Watched, open_error, read_json, words_of};
 use help::{HELP, VERSION};
-use input::read_json;
-use input_error::{InputError, open_error};
 use manifest::checked_manifest;
 use manifest_files::manifests_of;
 use name::Shown;
 use npm_pick::Options;
+use npm_pick_reports::{Done, Ending, Question, RunError, run};
 use packument_file::packument_in;
 use picking::Values;
 use program_error::ProgramError;
-use reply::{Done, Ending, Question, run};
-use run_error::RunError;
 use serde_json::Value;
-use shown::Quoted;
 use std::alloc::AllocError;
 use std::fs::File;
 use std::io;
 use std::io::Write;
 use std::process::ExitCode;
 use task::{Task, task_of};
-use words::words_of;
 
 /// Ends with the status of `status_of`.
 fn main(rt: HostRuntime) -> ExitCode {
@@ -99,7 +78,7 @@ fn say(rt: &HostRuntime, done: &Done) -> io::Result<()> {
     }
 }
 
-/// Does what the arguments ask for. Returns how the program ends, or `None` if a text was shown in place of an answer.
+/// Does the task of the arguments. Returns how the program ends, or `None` if only a text about it was shown.
 fn answered<'a>(rt: &HostRuntime, words: &'a [String]) -> Result<Option<Done>, ProgramError<'a>> {
     let asked = read_arguments(words)?;
     if let Some(shown) = asked.shown {
@@ -121,7 +100,7 @@ fn show(rt: &HostRuntime, shown: Shown) -> Result<(), RunError> {
     print!(rt; "{text}").map_err(|_| RunError::Write)
 }
 
-/// Reads the files of a task, and answers it.
+/// Reads the files of a task, and does it.
 fn done<'a>(
     rt: &HostRuntime,
     words: &'a [String],
@@ -156,7 +135,7 @@ fn done<'a>(
     }
 }
 
-/// Answers a question. Documents of packages are in this folder.
+/// Writes the reply to a question. Documents of packages are in this folder.
 fn replied<'a>(
     rt: &HostRuntime,
     question: Question<'_>,
@@ -191,7 +170,7 @@ fn manifest_at<'a>(rt: &HostRuntime, path: &'a str) -> Result<Value, ProgramErro
     let value = value_at(rt, "--manifest", path)?;
     match checked_manifest(value) {
         Ok(manifest) => Ok(manifest),
-        Err(error) => Err(ProgramError::File("--manifest", Quoted { text: path }, error)),
+        Err(fault) => Err(ProgramError::Manifest(Quoted { text: path }, fault)),
     }
 }
 
@@ -210,10 +189,10 @@ fn value_at<'a>(
 /// Reads the JSON value of a file.
 fn read_at(rt: &HostRuntime, path: &str) -> Result<Value, InputError> {
     if path == "-" {
-        return read_json(rt.alloc(), &mut rt.stdin());
+        return read_json(rt.alloc(), &mut Watched::new(rt.stdin()));
     }
-    let mut file = File::open(rt, path).map_err(open_error)?;
-    read_json(rt.alloc(), &mut file)
+    let file = File::open(rt, path).map_err(|error| open_error(error))?;
+    read_json(rt.alloc(), &mut Watched::new(file))
 }
 
 /// Returns the exit status: 0 if a version is picked, nothing is outdated, each package that a mirror keeps has a document or a text

@@ -1,9 +1,11 @@
 //! The files of manifests that the arguments name.
 ghost use Rattle.std.specs.Prelude.{◌≡◌, ◌++◌, IfOk, OnOk, map, string_bytes};
-ghost use Rattle.npm_pick_command.specs.Arguments.{argument_value, manifest_in, manifests_of as manifests_named};
+ghost use Rattle.command_lines.specs.Arguments.{argument_value};
+ghost use Rattle.npm_pick_command.specs.Arguments.{manifest_in, manifests_of as manifests_named};
 
-use crate::arguments::{Argument, first_argument};
+use crate::arguments::PickOptions;
 use crate::name::{Name, Setting, name_of};
+use command_lines::{Argument, first_argument};
 use std::alloc::{AllocError, Global};
 
 /// Returns the values of all options `--manifest`, in their order.
@@ -12,7 +14,7 @@ pub fn manifests_of<'a>(alloc: Global, words: &'a [String]) -> Result<Vec<&'a st
 {
     let mut files = Vec::new(alloc);
     let mut left = words;
-    'words: while let Some((argument, rest)) = first_argument(left) {
+    'words: while let Some((argument, rest)) = first_argument::<PickOptions>(left) {
         push_manifest(&mut files, argument)?;
         left = rest;
     }

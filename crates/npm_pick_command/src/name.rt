@@ -2,7 +2,7 @@
 ghost use Rattle.std.specs.Prelude.{◌≡◌};
 ghost use Rattle.npm_pick_command.specs.Names as Names;
 
-/// A text that is shown in place of an answer.
+/// A text about the program.
 #[derive(Clone, Copy, Debug, PartialEq, Eq, Drop)]
 pub enum Shown {
     Help,

@@ -4,9 +4,8 @@ ghost use Rattle.std.specs.List.{list_all};
 ghost use Rattle.npm_texts.specs.RangeText.{is_tag_byte};
 ghost use Rattle.npm_pick_command.specs.PackumentFile as Files;
 
-use crate::input::read_json;
-use crate::input_error::{InputError, open_error};
-use crate::load_error::{LoadError, PackageName};
+use command_lines::{InputError, Watched, open_error, read_json};
+use npm_pick_reports::{LoadError, PackageName};
 use npm_texts::rest_after;
 use serde_json::Value;
 use std::alloc::{AllocError, Global};
@@ -50,11 +49,11 @@ fn read_at(
     end: &str,
 ) -> Result<Option<Value>, InputError> {
     let path = path_of(rt.alloc(), folder, name, end).map_err(|_| InputError::Memory)?;
-    if !is_regular(rt, path.as_str()).map_err(open_error)? {
+    if !is_regular(rt, path.as_str()).map_err(|error| open_error(error))? {
         return Ok(None);
     }
-    let mut file = File::open(rt, path.as_str()).map_err(open_error)?;
-    read_json(rt.alloc(), &mut file).map(Some)
+    let file = File::open(rt, path.as_str()).map_err(|error| open_error(error))?;
+    read_json(rt.alloc(), &mut Watched::new(file)).map(Some)
 }
 
 /// Returns `true` for a regular file. Of a symbolic link the file that it leads to counts. A pipe is no regular file, and is not

@@ -1,4 +1,4 @@
-//! What the arguments say of the version that is picked.
+//! The options of a pick, by the arguments.
 ghost use Rattle.std.specs.Prelude.{◌≡◌, IfOk, Some, string_bytes, option_map};
 ghost use Rattle.node_semver.specs.Versions.{IsVersionText, VersionValue};
 ghost use Rattle.npm_pick_command.specs.Arguments.{arguments_value};
@@ -9,7 +9,7 @@ use crate::argument_error::ArgumentError;
 use crate::arguments::Arguments;
 use crate::given::{time_given, version_given};
 use crate::program_error::ProgramError;
-use crate::shown::Quoted;
+use command_lines::Quoted;
 use jiff::Timestamp;
 use node_semver::VersionRef;
 use npm_pick::Options;
@@ -37,7 +37,7 @@ impl Values {
         })
     }
 
-    /// Returns what is asked of `npm_pick`.
+    /// Returns the options of `npm_pick`.
     pub fn options<'o>(&'o self, asked: Arguments<'o>) -> Options<'o>
         requires { AreValues (arguments_value asked) self.now }
         ensures { AreOptions (arguments_value asked.entry) result }

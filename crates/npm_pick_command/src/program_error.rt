@@ -1,9 +1,8 @@
 //! Why the program ends with status 2.
 use crate::argument_error::ArgumentError;
-use crate::input_error::InputError;
-use crate::run_error::RunError;
-use crate::shown::Quoted;
-use crate::words::WordsError;
+use command_lines::{InputError, Quoted, WordsError};
+use npm_packages::Fault;
+use npm_pick_reports::RunError;
 use std::alloc::AllocError;
 use thiserror::Error;
 
@@ -13,13 +12,16 @@ pub enum ProgramError<'a> {
     /// The arguments were not read.
     #[error("{0}")]
     Words(&'a WordsError),
-    /// The arguments ask for nothing that is done here.
+    /// The arguments have an error.
     #[error("{0}")]
     Argument(ArgumentError<'a>),
     /// The file after this option was not read.
     #[error("{0} {1}: {2}")]
     File(&'static str, Quoted<'a>, InputError),
-    /// Nothing was answered.
+    /// The JSON value of this file is no manifest.
+    #[error("--manifest {0}: {1}")]
+    Manifest(Quoted<'a>, Fault),
+    /// The program stopped.
     #[error("{0}")]
     Run(RunError),
 }

@@ -6,7 +6,7 @@ ghost use Rattle.npm_pick_command.specs.Task.{folder_result, task_result};
 
 use crate::argument_error::ArgumentError;
 use crate::arguments::Arguments;
-use crate::shown::Quoted;
+use command_lines::Quoted;
 
 /// What the program does, with the files for it.
 #[derive(Clone, Copy, Debug, PartialEq, Eq, Drop)]
@@ -28,7 +28,7 @@ pub enum Task<'a> {
     },
 }
 
-/// Returns what the arguments ask for.
+/// Returns the task of the arguments.
 pub fn task_of<'a>(asked: &Arguments<'a>) -> Result<Task<'a>, ArgumentError<'a>>
     ensures { task_result result ≡ Tasks.task_of (arguments_value asked.now) }
 {
@@ -47,7 +47,7 @@ pub fn task_of<'a>(asked: &Arguments<'a>) -> Result<Task<'a>, ArgumentError<'a>>
     }
 }
 
-/// What `--outdated` asks for.
+/// The task of `--outdated`.
 fn outdated_task<'a>(asked: &Arguments<'a>) -> Result<Task<'a>, ArgumentError<'a>>
     ensures { task_result result ≡ Tasks.outdated_task (arguments_value asked.now) }
 {
@@ -58,7 +58,7 @@ fn outdated_task<'a>(asked: &Arguments<'a>) -> Result<Task<'a>, ArgumentError<'a
     }
 }
 
-/// What `--keep` asks for.
+/// The task of `--keep`.
 fn keep_task<'a>(asked: &Arguments<'a>) -> Result<Task<'a>, ArgumentError<'a>>
     ensures { task_result result ≡ Tasks.keep_task (arguments_value asked.now) }
 {

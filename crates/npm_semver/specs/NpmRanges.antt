@@ -9,5 +9,7 @@ pub use Rattle.npm_sets.specs.PartialLaws.{IsOneNpmPartial, IsReadAsWritten, IsR
 pub use Rattle.npm_sets.specs.Rows.{hyphen_comparator, lead_comparator, no_versions}
 pub use Rattle.npm_sets.specs.NpmMeaning.{AreNpmSets, IsNpmRefused, NpmAdmit, NpmSetAdmits, NpmSetsAdmit, NpmTextAdmits}
 pub use Rattle.npm_sets.specs.NpmMeaning.{alternatives_of, is_unknown, piece_comparators, word_comparator}
+pub use Rattle.npm_sets.specs.NpmReadingBack.{HasNpmPrint, IsNpmPrintCut, IsNpmPrintSet, IsNpmReadAsEqual}
+pub use Rattle.npm_sets.specs.NpmReadingBack.{IsStrictIdentifier, NpmReadsBack}
 pub use Rattle.npm_sets.specs.RefusedPlace.{HasOnePlace, IsFirstRefused, IsRefusalOffset, IsRefusedAt, IsRefusedFrom}
 pub use Rattle.npm_sets.specs.declared.options.NpmOptions.{NpmOptions}

@@ -9,7 +9,7 @@ ghost use Rattle.semver_texts.specs.IdentifierValue.{IdentifierValue};
 ghost use Rattle.semver_texts.specs.Order.{IsBelow};
 ghost use Rattle.semver_texts.specs.Version.{VersionValue};
 
-pub use npm_sets::laws::partials_are_those_of_the_grammar;
+pub use npm_sets::laws::{partials_are_those_of_the_grammar, prints_are_read_back_by_npm};
 pub use npm_sets::refused::a_refused_text_has_one_place;
 
 /// A bumped version is greater than the version, but after `Pre`, and after `PreRelease` with an identifier.

@@ -373,8 +373,13 @@ fn each_is_read_back(rt: &(impl Abort + AllocGlobal), options: NpmOptions, rows:
     }
 }
 
-// Not so: an end that is one above the limit, and a prerelease that has no hyphen in the text.
-const NOT_READ_BACK: [&str; 2] = ["^9007199254740991", "1.2.3{251*a}"];
+// Not so: an end that is one above the limit, a prerelease that has no hyphen in the text, and digits with a leading zero
+// that are too large for a number.
+const NOT_READ_BACK: [&str; 3] = [
+    "^9007199254740991",
+    "1.2.3{251*a}",
+    "1.2.3-0100000000000000000000",
+];
 
 fn is_not_read_back(alloc: Global, row: &str) -> bool {
     match &spread(alloc, row) {

@@ -3,3 +3,4 @@ pub mod SpaceExamples
 pub mod PlaceExamples
 pub mod PartialExamples
 pub mod LimitExamples
+pub mod ReadingBackExamples

@@ -5,5 +5,6 @@ pub mod Pieces
 pub mod PlainSpaces
 pub mod Full
 pub mod Places
+pub mod Prints
 -- ---- worked examples, which compute
 pub mod Examples

@@ -18,5 +18,7 @@ pub mod PartialLaws
 pub mod RefusedPlace
 pub mod NpmAnswer
 pub mod FullTexts
+-- ---- which prints of ranges are read back
+pub mod NpmReadingBack
 -- ---- not part of any public contract of `node_semver`: what private functions compute
 pub mod Private

@@ -2,8 +2,8 @@
 use Rattle.std.proofs.Common.{◌≡◌, ◌∙◌, ℕ, List, [], ◌∷◌, ◌++◌, append_assoc, ap, codes, drop, length, refl, replicate, sym, take}
 use Rattle.std.proofs.Common.{take-append-drop}
 use Rattle.std.proofs.lemmas.List.Concat.{flat_map-append}
+use Rattle.command_lines.specs.Shown.{shown, shown_byte}
 use Rattle.semver_command.specs.RefusedText.{blanks_before, refused_lines}
-use Rattle.semver_command.specs.Shown.{shown, shown_byte}
 
 pub lines_whole : (text : List ℕ) (offset : ℕ) (before after start line spaces lines : List ℕ) → before ≡ take offset text
     → after ≡ drop offset text → start ≡ shown before → line ≡ start ++ shown after

@@ -16,7 +16,6 @@ pub mod Increment  -- the version after an increment
 pub mod Answer  -- all that is written, and how it ends
 -- What `--explain` writes.
 pub mod Opened  -- which prereleases satisfy a set
-pub mod Shown  -- a text in printable ASCII
 pub mod RefusedText  -- a text that is refused, with a mark at its fault
 pub mod Explained  -- the sets of ranges
 -- The program.

@@ -1,4 +1,3 @@
 pub mod Explaining
 pub mod Gathering
 pub mod Reading
-pub mod ShownBytes

@@ -3,7 +3,7 @@
 --     >=1.2 foo
 --           ^
 use Rattle.std.specs.Prelude.{ℕ, List, ◌++◌, codes, length, replicate, take}
-use Rattle.semver_command.specs.Shown.{shown}
+use Rattle.command_lines.specs.Shown.{shown}
 
 -- as many blanks as the text before its fault has characters when it is shown
 abbrev pub blanks_before : (text : List ℕ) → (offset : ℕ) → List ℕ

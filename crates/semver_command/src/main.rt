@@ -26,7 +26,6 @@ mod ranges;
 mod refused_text;
 mod reply;
 mod set_lines;
-mod shown;
 mod words;
 mod writing;
 mod written;

@@ -2,7 +2,7 @@
 ghost use Rattle.std.specs.Prelude.{◌≡◌, IfOk, drop, length, replicate, take};
 ghost use Rattle.semver_command.specs.RefusedText.{refused_lines};
 
-use crate::shown::push_shown;
+use command_lines::push_shown_bytes;
 use std::alloc::{AllocError, Global};
 
 /// Returns two lines: the text, and below it a `^` under the byte at this offset. A byte that is no printable ASCII is
@@ -20,9 +20,9 @@ pub fn lines_of_refused(alloc: Global, text: &str, offset: usize) -> Result<Vec<
 {
     let (before, after) = parted(text.as_bytes(), offset);
     let mut lines = Vec::new(alloc);
-    push_shown(&mut lines, before)?;
+    push_shown_bytes(&mut lines, before)?;
     let blanks = blanks(alloc, &lines)?;
-    push_shown(&mut lines, after)?;
+    push_shown_bytes(&mut lines, after)?;
     lines.push(b'\n')?;
     lines.extend_from_slice(&blanks)?;
     lines.extend_from_slice(b"^\n")?;

@@ -35,20 +35,20 @@ pub so_far_more : {range version_first bytes_first version bytes line next mid :
     → IsAnswerLine (strip_carriage_return range) version line → Moves now new held line left
     → BeginsWithPair bytes range next mid → VersionsSoFar range version_first bytes_first next mid old new waiting left
 so_far_more {line = line} so_far answer moves begins = record {
-      done = so_far.done ++ line;
-      goes = goes-more line so_far.goes answer begins;
-      moves = moves-trans so_far.moves moves;
-    }
+  done = so_far.done ++ line;
+  goes = goes-more line so_far.goes answer begins;
+  moves = moves-trans so_far.moves moves;
+}
 
 pub so_far_end : {range version_first bytes_first version bytes line : List ℕ} {old now new : Option (List ℕ)}
     {waiting held left : List ℕ} → VersionsSoFar range version_first bytes_first version bytes old now waiting held
     → IsAnswerLine (strip_carriage_return range) version line → Moves now new held line left
     → AnswersRange range version_first bytes_first bytes old new waiting left
 so_far_end {line = line} so_far answer moves = record {
-      added = so_far.done ++ line;
-      answers = goes-end line so_far.goes answer;
-      moves = moves-trans so_far.moves moves;
-    }
+  added = so_far.done ++ line;
+  answers = goes-end line so_far.goes answer;
+  moves = moves-trans so_far.moves moves;
+}
 
 -- the writer failed
 pub so_far_part : {range version_first bytes_first version bytes line : List ℕ} {old now new : Option (List ℕ)}

@@ -27,12 +27,12 @@ pub moves-trans : {old mid new : Option (List ℕ)} {waiting one held other left
     → Moves old mid waiting one held → Moves mid new held other left → Moves old new waiting (one ++ other) left
 moves-trans {old = old} {mid = mid} {new = new} {waiting = waiting} {one = one} {held = held} {other = other} {left =
     left} first second = record {
-  written = first.written ++ second.written;
-  put = Appends-trans old mid new first.written second.written first.put second.put;
-  all = sym (append_assoc waiting one other) ∙ ap (λ (l : List ℕ). l ++ other) first.all
-      ∙ append_assoc first.written held other ∙ ap (λ (l : List ℕ). first.written ++ l) second.all
-      ∙ sym (append_assoc first.written second.written left);
-}
+      written = first.written ++ second.written;
+      put = Appends-trans old mid new first.written second.written first.put second.put;
+      all = sym (append_assoc waiting one other) ∙ ap (λ (l : List ℕ). l ++ other) first.all
+          ∙ append_assoc first.written held other ∙ ap (λ (l : List ℕ). first.written ++ l) second.all
+          ∙ sym (append_assoc first.written second.written left);
+    }
 
 -- some of what waits was written, before more is added
 pub moves-part : {old new : Option (List ℕ)} {waiting added : List ℕ} (count : ℕ) → Appends old new (take count waiting)

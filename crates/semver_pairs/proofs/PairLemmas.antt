@@ -178,10 +178,10 @@ pub goes-more : {range version_first bytes_first version bytes done : List ℕ} 
     → GoesOn range version_first bytes_first next mid (done ++ line)
 goes-more {range = range} {version_first = version_first} {bytes_first = bytes_first} {done = done} line goes answer
     begins = record {
-  go_on = λ rest added from.
-      subst (AnswersFrom range version_first bytes_first rest) (sym (append_assoc done line added))
-      (goes.go_on rest (line ++ added) (from-more line answer begins from));
-}
+      go_on = λ rest added from.
+          subst (AnswersFrom range version_first bytes_first rest) (sym (append_assoc done line added))
+          (goes.go_on rest (line ++ added) (from-more line answer begins from));
+    }
 
 pub goes-end : {range version_first bytes_first version bytes done : List ℕ} (line : List ℕ)
     → GoesOn range version_first bytes_first version bytes done

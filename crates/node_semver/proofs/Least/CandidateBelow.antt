@@ -137,8 +137,11 @@ module _ (included : Bool) (P Wanted : VersionValue → Type 0) (sets others : L
       (subst (λ (b : Bool). AllByRecursion P (candidates_at b c)) e all) in
       between c last found.version found.is (inl e) found.first.at (found.first.none_below w last.below)
   at-cut c last all set candidates is lower false e =
-      grind (arith, by-cut c last (subst (λ (b : Bool). AllByRecursion P (candidates_at b c)) e all) set candidates
-          (subst (λ (b : Bool). IsIn b set w) e is) lower w.pre_release refl)
+      grind (
+        arith,
+        by-cut c last (subst (λ (b : Bool). AllByRecursion P (candidates_at b c)) e all) set candidates
+            (subst (λ (b : Bool). IsIn b set w) e is) lower w.pre_release refl,
+      )
 
   pub candidate-below : AllByRecursion (IsCandidateSet included P) sets
       → AllByRecursion (λ (other : Ends VersionValue). AllByRecursion P (candidates_at included (end other))) others

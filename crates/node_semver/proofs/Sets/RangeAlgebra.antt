@@ -90,5 +90,10 @@ common-releases ones others v release = grind (
 pub difference-releases : (ones others spans : List (Ends VersionValue)) → AreDifference version_cmp ones others spans
     → (v : VersionValue) → ¬ IsPrerelease v → RangeAdmits spans v ↔ (RangeAdmits ones v × (¬ RangeAdmits others v))
 difference-releases ones others spans are v release =
-    grind (arith, release-admitted spans v release, release-admitted ones v release, release-admitted others v release,
-        difference-cuts version_cmp ones others spans are (Before v))
+    grind (
+      arith,
+      release-admitted spans v release,
+      release-admitted ones v release,
+      release-admitted others v release,
+      difference-cuts version_cmp ones others spans are (Before v),
+    )

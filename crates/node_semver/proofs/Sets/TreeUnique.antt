@@ -42,8 +42,13 @@ tree-unique merging (without one other) sets sets' (inl none) (inr made) =
 tree-unique merging (without one other) sets sets' (inr made) (inl none) =
     difference-none made.0 made.1 sets (tree-unique merging one made.0 [] made.2 none.0) made.4 ∙ sym none.1
 tree-unique merging (without one other) sets sets' (inr made) (inr made') =
-    grind (arith, difference-unique, version_total, tree-unique merging one made.0 made'.0 made.2 made'.2,
-        tree-unique merging other made.1 made'.1 made.3 made'.3)
+    grind (
+      arith,
+      difference-unique,
+      version_total,
+      tree-unique merging one made.0 made'.0 made.2 made'.2,
+      tree-unique merging other made.1 made'.1 made.3 made'.3,
+    )
 
 -- the sets of both sides are the intersection of the two lists
 both-common : HaveOneMerging → (one other : Formula) (sets ones others : Sets) → AreSetsOfTree (both one other) sets

@@ -1,13 +1,11 @@
 -- All versions that advisories are about, by the names of packages.
-use Rattle.std.specs.Prelude.{◌≡◌, ◌↔◌, ℕ, List, [], Option}
+use Rattle.std.specs.Prelude.{◌≡◌, ℕ, List, [], Option}
 use Rattle.std.specs.BTreeMap.{get_by}
 use Rattle.std.specs.Cmp.Lexicographic.{slice_cmp}
 use Rattle.std.specs.Option.{MatchOption}
 use Rattle.std.specs.Ordering.{nat_cmp}
-use Rattle.node_semver.specs.RangeAlgebra.{sets_of_answer}
-use Rattle.node_semver.specs.Ranges.{RangeContains}
-use Rattle.node_semver.specs.Versions.{VersionValue}
 use Rattle.npm_advisories.specs.Private.Covering.{AreCovered}
+use Rattle.npm_advisories.specs.Private.Halves.{AreHalves}
 use Rattle.npm_advisories.specs.Private.Index.{at_name}
 use Rattle.npm_advisories.specs.Private.Spans.{IsInRange}
 use Rattle.npm_advisories.specs.declared.advisory.Advisory.{Advisory}
@@ -17,7 +15,7 @@ use Rattle.npm_advisories.specs.declared.unions.Unions.{Unions}
 
 -- these are the versions that the advisories are about, and the releases among them
 pub record IsUnion (advisories : List Advisory) (union : Union) : Type 0 where
-  pub all : (v : VersionValue) → RangeContains (sets_of_answer union.all) v ↔ IsInRange advisories v
+  pub halves : AreHalves advisories union.halves
   pub covered : AreCovered union.covered.items (IsInRange advisories)
 
 -- the union at a name

@@ -88,7 +88,7 @@ chunks-none (b ∷ text) all =
     let parts = and_parts (is_space b) _ all in
     chunks-space b text parts.0 ∙ chunks-none text parts.1
 
-chunks-whole : (text : List ℕ) → AreAll is_solid text → chunks_of text ≡ and_more text []
+pub chunks-whole : (text : List ℕ) → AreAll is_solid text → chunks_of text ≡ and_more text []
 chunks-whole [] all = chunks-empty
 chunks-whole (b ∷ []) all =
     chunks-step b [] (not-true (is_space b) (and_parts (is_solid b) true all).0)

@@ -163,8 +163,11 @@ set_ends-read (Before v) (Before w) lt some a b = grind (
 )
 set_ends-read (Before v) (After w) lt some a b = between-read v w lt a b
 set_ends-read (Before v) End lt some a b =
-    grind (arith, word-read_alike (lower_text (Before v)) (at_least v) (at_least v) (at_least-word v [] a tt) refl
-        (itself (at_least v)))
+    grind (
+      arith,
+      word-read_alike (lower_text (Before v)) (at_least v) (at_least v) (at_least-word v [] a tt) refl
+          (itself (at_least v)),
+    )
 set_ends-read (After v) Start lt some a b = cc lt
 set_ends-read (After v) (Before w) lt some a b = grind (
   arith,

@@ -42,8 +42,11 @@ laters-unique [] (a ∷ one) other x y = absurd x
 laters-unique (piece ∷ pieces) [] other x y = absurd x
 laters-unique (piece ∷ pieces) (a ∷ one) [] x y = absurd y
 laters-unique (piece ∷ pieces) (a ∷ one) (b ∷ other) x y =
-    grind (arith, alternative-unique (rest_of is_blank piece) a b (from-later piece a x.0) (from-later piece b y.0),
-        laters-unique pieces one other x.1 y.1)
+    grind (
+      arith,
+      alternative-unique (rest_of is_blank piece) a b (from-later piece a x.0) (from-later piece b y.0),
+      laters-unique pieces one other x.1 y.1,
+    )
 
 -- ---- a text writes one list of alternatives
 

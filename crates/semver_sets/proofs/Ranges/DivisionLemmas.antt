@@ -30,8 +30,12 @@ divide-more : (text : List ℕ) (c : Option Comparator) (rest : List ℕ) (b : �
     → HasWord text c (b ∷ rest)
     → IsDivision (rest_of is_blank (b ∷ rest)) words → IsDivision text (c ∷ words)
 divide-more text c rest b words h1 h2 =
-    grind (arith, prefix_of-rest_of is_blank (b ∷ rest), prefix_of-all is_blank (b ∷ rest),
-        rest_of-no is_blank (b ∷ rest))
+    grind (
+      arith,
+      prefix_of-rest_of is_blank (b ∷ rest),
+      prefix_of-all is_blank (b ∷ rest),
+      rest_of-no is_blank (b ∷ rest),
+    )
 
 divide-last : (text : List ℕ) (c : Option Comparator) → HasWord text c [] → IsDivision text (c ∷ [])
 divide-last text c w = grind (arith, append-nil w.word)
@@ -83,8 +87,11 @@ more-behind text word (b ∷ blanks) rest c words whole w begins all ends d = gr
 next-of_more : (text : List ℕ) (c x : Option Comparator) (words : List (Option Comparator))
     → IsDivision text (c ∷ x ∷ words) → HasMore text c (x ∷ words)
 next-of_more text c x words d =
-    grind (arith, more-behind text d.1.word d.1.blanks d.0 c (x ∷ words) d.1.whole d.1.first d.1.blank.some
-        d.1.blank.all d.1.blanks_end d.2)
+    grind (
+      arith,
+      more-behind text d.1.word d.1.blanks d.0 c (x ∷ words) d.1.whole d.1.first d.1.blank.some
+          d.1.blank.all d.1.blanks_end d.2,
+    )
 
 -- a text has one division
 pub division-unique : (text : List ℕ) (ws xs : List (Option Comparator)) → IsDivision text ws → IsDivision text xs

@@ -21,8 +21,13 @@ joined-pieces one other [] others no_end first second = absurd first
 joined-pieces one other (piece ∷ []) [] no_end first second = absurd second
 joined-pieces one other (piece ∷ []) (next ∷ others) no_end first second = grind arith
 joined-pieces one other (piece ∷ next ∷ ones) others no_end first second =
-    grind (arith, append_assoc, later-ends, joined-pieces first.0 other (next ∷ ones) others (λ ends. no_end (later-ends
-        one piece first.0 first.1.whole ends)) first.2 second)
+    grind (
+      arith,
+      append_assoc,
+      later-ends,
+      joined-pieces first.0 other (next ∷ ones) others (λ ends. no_end (later-ends
+          one piece first.0 first.1.whole ends)) first.2 second,
+    )
 
 -- ---- alternatives
 

@@ -71,8 +71,11 @@ module _ {X : Type 0} (p : X → Bool) (xs : List X) where
   pub passed-more : (k : ℕ) (d : X) → k < length xs → p (get_or xs k d) ≡ true
       → AllByRecursion (λ x. p x ≡ true) (take k xs) → AllByRecursion (λ x. p x ≡ true) (take (k + 1) xs)
   passed-more k d within here before =
-      grind (arith, take_more xs k d within,
-          all-append (λ x. p x ≡ true) (take k xs) (get_or xs k d ∷ []) before (here, tt))
+      grind (
+        arith,
+        take_more xs k d within,
+        all-append (λ x. p x ≡ true) (take k xs) (get_or xs k d ∷ []) before (here, tt),
+      )
 
   not-true : (b : Bool) → ¬ (b ≡ true) → b ≡ false
   not-true b h1 = grind arith
@@ -108,13 +111,19 @@ module _ (t : Triple) where
 
     pub parted-below : IsPartitionedBy is_below xs
     parted-below i j d most within e =
-        grind (arith, below-before (triple_cmp (get_or xs i d).triple t) (triple_cmp (get_or xs j d).triple t) (rises i
-            j d most within) e)
+        grind (
+          arith,
+          below-before (triple_cmp (get_or xs i d).triple t) (triple_cmp (get_or xs j d).triple t) (rises i
+              j d most within) e,
+        )
 
     pub parted-at_most : IsPartitionedBy is_at_most xs
     parted-at_most i j d most within e =
-        grind (arith, at_most-before (triple_cmp (get_or xs i d).triple t) (triple_cmp (get_or xs j d).triple t) (rises
-            i j d most within) e)
+        grind (
+          arith,
+          at_most-before (triple_cmp (get_or xs i d).triple t) (triple_cmp (get_or xs j d).triple t) (rises
+              i j d most within) e,
+        )
 
   not-below : (r : Ordering) → is_lt r ≡ true → is_eq r ≡ false
   not-below r h1 = grind arith

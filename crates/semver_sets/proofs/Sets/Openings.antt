@@ -78,8 +78,13 @@ pub named-all : (v : VersionValue) (place : ℕ) (sets : List (Ends VersionValue
 unfolding named
 named-all v place [] = refl
 named-all v place (set ∷ sets) =
-    grind (arith, named-append v (openings_of place set) (openings_from (place + 1) sets), named-set place v set,
-        place-then place (has_open_end v set) (places_opening v (place + 1) sets), named-all v (place + 1) sets)
+    grind (
+      arith,
+      named-append v (openings_of place set) (openings_from (place + 1) sets),
+      named-set place v set,
+      place-then place (has_open_end v set) (places_opening v (place + 1) sets),
+      named-all v (place + 1) sets,
+    )
 
 -- ---- what they say of a version
 

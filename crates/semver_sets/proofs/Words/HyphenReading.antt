@@ -88,8 +88,11 @@ right_at-none text h1 = grind arith
 pub right-none : (text : List ℕ) (r : Partial × List ℕ) → read_partial text ≡ Some r → read_right text ≡ None
 unfolding read_right
 right-none text r h =
-    grind (arith, right_at-none (rest_of is_blank text) (partial-no hyphen (rest_of is_blank text) r refl
-        (partial-unblanked text r h)))
+    grind (
+      arith,
+      right_at-none (rest_of is_blank text) (partial-no hyphen (rest_of is_blank text) r refl
+          (partial-unblanked text r h)),
+    )
 
 -- ---- hyphen ranges
 

@@ -22,16 +22,24 @@ no-operator : (text : List ℕ) (r : Partial × List ℕ) → read_partial text 
 unfolding read_operator
 no-operator [] r h = refl
 no-operator (b ∷ rest) r h =
-    grind (arith, partial-no greater_sign (b ∷ rest) r refl h, partial-no 61 (b ∷ rest) r refl h,
-        partial-no 60 (b ∷ rest) r refl h)
+    grind (
+      arith,
+      partial-no greater_sign (b ∷ rest) r refl h,
+      partial-no 61 (b ∷ rest) r refl h,
+      partial-no 60 (b ∷ rest) r refl h,
+    )
 
 -- a text that begins with a partial has no lead
 pub lead-none : (text : List ℕ) (r : Partial × List ℕ) → read_partial text ≡ Some r → read_lead text ≡ (no_lead, text)
 unfolding read_lead
 lead-none [] r h = refl
 lead-none (b ∷ rest) r h =
-    grind (arith, partial-no caret (b ∷ rest) r refl h, partial-no tilde (b ∷ rest) r refl h,
-        no-operator (b ∷ rest) r h)
+    grind (
+      arith,
+      partial-no caret (b ∷ rest) r refl h,
+      partial-no tilde (b ∷ rest) r refl h,
+      no-operator (b ∷ rest) r h,
+    )
 
 -- where there is no lead, the whole text is left
 pub lead-plain : (text : List ℕ) → (read_lead text).0 ≡ no_lead → (read_lead text).1 ≡ text
@@ -108,8 +116,12 @@ pub lead-takes : (text : List ℕ) → Stands text (read_lead text)
 unfolding read_lead
 lead-takes [] = refl
 lead-takes (b ∷ text) =
-    grind (arith, unblanked (caret ∷ []) text, tilde-takes text,
-        operator_lead-takes (b ∷ text) (read_operator (b ∷ text)) (operator-takes (b ∷ text)))
+    grind (
+      arith,
+      unblanked (caret ∷ []) text,
+      tilde-takes text,
+      operator_lead-takes (b ∷ text) (read_operator (b ∷ text)) (operator-takes (b ∷ text)),
+    )
 
 -- ---- each of these is read
 

@@ -40,8 +40,11 @@ right-read p is = right-end p.major p.minor p.patch (zeroed p) is.major is.minor
 
 hyphen-word : (text : List ℕ) (c : Option Comparator) → IsHyphenText text c → IsReadWord c
 hyphen-word text c is =
-    grind (arith, left-read is.left_text is.left is.left_read,
-        right-read is.right (partial-read is.right_text is.right is.right_read))
+    grind (
+      arith,
+      left-read is.left_text is.left is.left_read,
+      right-read is.right (partial-read is.right_text is.right is.right_read),
+    )
 
 pub word-bounded : (word rest : List ℕ) (c : Option Comparator) → IsWord word rest c → IsReadWord c
 word-bounded word rest c (hyphen_range is clean) = hyphen-word word c is

@@ -91,8 +91,11 @@ pub word-again : (word rest : List ℕ) (comparator : Option Comparator) → IsW
 unfolding read_word
 word-again word rest comparator (hyphen_range read clean) = rw (hyphen-again word rest comparator read clean) refl
 word-again word rest comparator (simple none read clean) =
-    grind (arith, hyphen-none (word ++ rest) (read_hyphen (word ++ rest)) refl none,
-        simple-again word rest comparator read clean)
+    grind (
+      arith,
+      hyphen-none (word ++ rest) (read_hyphen (word ++ rest)) refl none,
+      simple-again word rest comparator read clean,
+    )
 word-again word rest comparator (ignored none nothing solid clean nil) = grind (
   arith,
   hyphen-none (word ++ rest) (read_hyphen (word ++ rest)) refl none,

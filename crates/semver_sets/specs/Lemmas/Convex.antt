@@ -43,8 +43,12 @@ module _ (v : VersionValue) where
   convex-lower (Before p) Start pre opens h k = never-greater h
   convex-lower (Before p) (Before q) pre opens h k = opened-lower v p q pre opens (from-cmp p q h) (from-cmp q v k)
   convex-lower (Before p) (After q) pre opens h k =
-      grind (arith, opened-lower v p q pre, from-cmp p q (by-value (version_cmp p q) Less h),
-          from-cmp q v (by-value (version_cmp q v) Greater k))
+      grind (
+        arith,
+        opened-lower v p q pre,
+        from-cmp p q (by-value (version_cmp p q) Less h),
+        from-cmp q v (by-value (version_cmp q v) Greater k),
+      )
   convex-lower (Before p) End pre opens h k = never-greater k
   convex-lower (After p) Start pre opens h k = never-greater h
   convex-lower (After p) (Before q) pre opens h k =
@@ -61,8 +65,12 @@ module _ (v : VersionValue) where
   convex-upper (Before p) Start opens h k = cc h
   convex-upper (Before p) (Before q) opens h k = opened-upper v p q opens (from-cmp v q (inl h)) (from-cmp q p k)
   convex-upper (Before p) (After q) opens h k =
-      grind (arith, opened-upper v p q, from-cmp v q (by-value (version_cmp v q) Less (inl h)),
-          from-cmp q p (by-value (version_cmp q p) Greater k))
+      grind (
+        arith,
+        opened-upper v p q,
+        from-cmp v q (by-value (version_cmp v q) Less (inl h)),
+        from-cmp q p (by-value (version_cmp q p) Greater k),
+      )
   convex-upper (Before p) End opens h k = never-greater k
   convex-upper (After p) Start opens h k = cc h
   convex-upper (After p) (Before q) opens h k =

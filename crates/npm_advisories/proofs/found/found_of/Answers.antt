@@ -5,11 +5,10 @@ use Rattle.npm_advisories.specs.Advisories.{about_name, about_value}
 use Rattle.npm_advisories.specs.Audit.{version_or_least}
 use Rattle.npm_advisories.specs.Hits.{AreHits, none}
 use Rattle.npm_advisories.specs.Private.Covering.{AreCovered}
-use Rattle.npm_advisories.specs.Private.Index.{at_name}
 use Rattle.npm_advisories.specs.Private.Reading.{IsAdvisory}
 use Rattle.npm_advisories.specs.Private.Spans.{IsInRange}
 use Rattle.npm_advisories.proofs.Auditing.{empty-of, some-of}
-use Rattle.npm_advisories.proofs.Keeping.{admitted-same, hits-same, none-hit, unhit-same}
+use Rattle.npm_advisories.proofs.Keeping.{admitted-same, hits-same, unhit-same}
 use Rattle.npm_advisories.proofs.Results.{same-offer}
 use Rattle.npm_advisories.proofs.Uniting.{known-empty, known-union}
 use Rattle.npm_advisories.proofs.found.found_of.Goals as goal
@@ -27,15 +26,11 @@ returns-in_default-at c = λ values are v text.
     hits-same c.args.level v (about_name name values) [] [] (subst (AllZip IsAdvisory (about_name name values)) empty are)
     none
 
-pub returns-then-spares : goal.returns-then-spares
-returns-then-spares c = λ values are v text.
+pub hits-requires : goal.hits-requires
+hits-requires c =
     let name = c.args.installed.now.name.now in
-    let version = c.read_version-version.result in
-    let known = known-union c.args.index.now name _ c.in-Some-at.union.now (sym c.in-Some-at.ensures) c.requires in
-    let past = c.spares.ensures (at_name c.args.index.now name) known c.if-spares.true in
-    subst (λ w. AreHits c.args.level w (about_name name values) []) (sym (c.read_version-version.ensures.only v text))
-    (hits-same c.args.level version (about_name name values) (at_name c.args.index.now name) [] are
-    (none-hit c.args.level version (at_name c.args.index.now name) past))
+    rw c.in-Some.ensures
+    (known-union c.args.index.now name _ c.in-Some-at.union.now (sym c.in-Some-at.ensures) c.requires)
 
 pub returns-then-is_empty : goal.returns-then-is_empty
 returns-then-is_empty c = λ values are v text.

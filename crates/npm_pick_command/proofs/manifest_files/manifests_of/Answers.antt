@@ -1,6 +1,7 @@
 -- The file of an argument comes before those of the words that are left.
 use Rattle.std.proofs.Common.{◌∙◌, ◌++◌, ap, append_assoc, map, string_bytes, sym}
-use Rattle.npm_pick_command.specs.Arguments.{argument_value, arguments_of, manifest_files, manifest_in}
+use Rattle.command_lines.specs.Arguments.{argument_value}
+use Rattle.npm_pick_command.specs.Arguments.{arguments_of, manifest_files, manifest_in}
 use Rattle.npm_pick_command.proofs.manifest_files.manifests_of.Goals as goal
 
 pub words-preserved : goal.words-preserved

@@ -77,8 +77,13 @@ hyphen-taken rest some = record {
 bare-taken : (b : ℕ) (rest : List ℕ) → is_identifier_character b ≡ true → (b == hyphen) ≡ false
     → TakesPrerelease (b ∷ rest) (list_values (b ∷ rest)) (list_rest (b ∷ rest))
 bare-taken b rest some other =
-    grind (arith, list-whole (b ∷ rest), some-values (b ∷ rest), list-takes (b ∷ rest) some,
-        prefix_of-no-hyphen b rest some other)
+    grind (
+      arith,
+      list-whole (b ∷ rest),
+      some-values (b ∷ rest),
+      list-takes (b ∷ rest) some,
+      prefix_of-no-hyphen b rest some other,
+    )
 
 -- as read
 abbrev Takes : List ℕ → List IdentifierValue × List ℕ → Type 0

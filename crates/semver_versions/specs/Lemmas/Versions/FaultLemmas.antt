@@ -97,9 +97,14 @@ unfolding read_triple
 dots-stop [] digits rest all few here limit none =
     grind (arith, number-again digits rest (number_of digits), unread-dot rest none)
 dots-stop (a ∷ []) digits rest all few here limit none =
-    grind (arith, number-again digits rest (number_of digits),
-        number-again a (dot ∷ (digits ++ rest)) all.0.0 all.0.1 refl, unread-dot rest none, one-dot a (digits ++ rest),
-        dot-again (digits ++ rest))
+    grind (
+      arith,
+      number-again digits rest (number_of digits),
+      number-again a (dot ∷ (digits ++ rest)) all.0.0 all.0.1 refl,
+      unread-dot rest none,
+      one-dot a (digits ++ rest),
+      dot-again (digits ++ rest),
+    )
 dots-stop (a ∷ b ∷ texts) digits rest all few here limit none = absurd (omega arith)
 
 -- a mark and blanks are taken before the numbers of a prefix

@@ -64,8 +64,15 @@ with_zero-above v pre = grind (arith, with_zero-prerelease)
 
 pub none-between_zeros : (v w : VersionValue) → IsPrerelease v → IsBelow v w → ¬ IsBelow w (with_zero v)
 none-between_zeros v w pre above below =
-    grind (arith, triple-between v w (with_zero v), prerelease-below w (with_zero v), with_zero-prerelease v,
-        none-before_zero v.pre_release w.pre_release, lists-below v w, lists-below w (with_zero v))
+    grind (
+      arith,
+      triple-between v w (with_zero v),
+      prerelease-below w (with_zero v),
+      with_zero-prerelease v,
+      none-before_zero v.pre_release w.pre_release,
+      lists-below v w,
+      lists-below w (with_zero v),
+    )
 
 -- ---- the next version of any version
 

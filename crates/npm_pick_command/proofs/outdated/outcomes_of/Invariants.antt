@@ -1,9 +1,0 @@
--- What was found out so far, and then what is found out about the edges that are left, is what is found out about all.
-use Rattle.std.specs.Fn.{FnReturnsAt}
-use Rattle.npm_pick_command.specs.Outdated.{IsOutcome}
-use Rattle.npm_pick_command.proofs.Outcomes.{AreSoFar}
-use Rattle.npm_pick_command.proofs.outdated.outcomes_of.Given as goal
-
-abbrev pub invariant-loop-edge : goal.invariant-loop-edge
-invariant-loop-edge g l =
-    AreSoFar (IsOutcome (FnReturnsAt g.F.Fn l.load) l.all l.options) l.edges l.edge-index l.outcomes.items

@@ -1,8 +1,0 @@
--- The line has the bytes so far.
-use Rattle.std.proofs.Common.{◌≡◌, ◌++◌, take}
-use Rattle.std.specs.List.{flat_map}
-use Rattle.npm_pick_command.specs.Shown.{shown_byte}
-use Rattle.npm_pick_command.proofs.shown.push_shown.Given as goal
-
-abbrev pub invariant-loop-byte : goal.invariant-loop-byte
-invariant-loop-byte l = l.line.items ≡ l.initial.line.items ++ flat_map shown_byte (take l.byte-index l.byte-items)

@@ -1,5 +1,0 @@
--- What private functions are said to compute.
-
-pub mod ShownBytes  -- what is written for one byte
-pub mod Requests  -- the texts that are asked for
-pub mod Mirroring  -- what is kept of a package

@@ -1,0 +1,85 @@
+-- Lists that are gathered item by item.
+use Rattle.std.proofs.Common.{Global, String, string_bytes, ◌≡◌, ◌∙◌, ℕ, ◌+◌, ◌<◌, ◌≤◌, List, [], ◌∷◌, ◌++◌, ap, append_assoc, append-nil, get_or, length, map, sym, take}
+use Rattle.std.proofs.lemmas.List.{map-append, take_all, take_more}
+use Rattle.std.proofs.lemmas.List.Concat.{flat_map-append}
+use Rattle.std.specs.List.{flat_map}
+
+module _ {A X : Type 0} (seen : A → X) (items : List A) where
+  -- the value of one item more
+  pub seen_at : (i : ℕ) (none : A) → i < length items
+      → map seen (take (i + 1) items) ≡ map seen (take i items) ++ (seen (get_or items i none) ∷ [])
+  seen_at i none small = ap (map seen) (take_more items i none small)
+      ∙ map-append seen (take i items) (get_or items i none ∷ [])
+
+  -- the same where the item has a name
+  pub seen_more : (i : ℕ) (item : A) → i < length items → item ≡ get_or items i item
+      → map seen (take (i + 1) items) ≡ map seen (take i items) ++ (seen item ∷ [])
+  seen_more i item small here =
+      seen_at i item small ∙ ap (λ x. map seen (take i items) ++ (seen x ∷ [])) (sym here)
+
+  module _ {Y : Type 0} (made : X → List Y) (start : List Y) where
+    -- an item more makes this more
+    pub made_at : (i : ℕ) (none : A) (old new : List Y) → i < length items
+        → new ≡ old ++ made (seen (get_or items i none)) → old ≡ start ++ flat_map made (map seen (take i items))
+        → new ≡ start ++ flat_map made (map seen (take (i + 1) items))
+    made_at i none old new small is held =
+        let item = get_or items i none in
+        let before = flat_map made (map seen (take i items)) in
+        let one : flat_map made (seen item ∷ []) ≡ made (seen item) = append-nil (made (seen item)) in
+        let all : flat_map made (map seen (take (i + 1) items)) ≡ before ++ made (seen item) =
+        ap (flat_map made) (seen_at i none small) ∙ flat_map-append made (map seen (take i items)) (seen item ∷ [])
+        ∙ ap (λ l. before ++ l) one in
+        is ∙ ap (λ l. l ++ made (seen item)) held ∙ append_assoc start before (made (seen item))
+        ∙ ap (λ l. start ++ l) (sym all)
+
+    -- the same where the item has a name
+    pub made_more : (i : ℕ) (item : A) (old new : List Y) → i < length items → item ≡ get_or items i item
+        → new ≡ old ++ made (seen item) → old ≡ start ++ flat_map made (map seen (take i items))
+        → new ≡ start ++ flat_map made (map seen (take (i + 1) items))
+    made_more i item old new small here is held =
+        made_at i item old new small (is ∙ ap (λ x. old ++ made (seen x)) here) held
+
+    -- the same after the last one
+    pub made_all : (i : ℕ) (old : List Y) → length items ≤ i → old ≡ start ++ flat_map made (map seen (take i items))
+        → old ≡ start ++ flat_map made (map seen items)
+    made_all i old past held = held ∙ ap (λ l. start ++ flat_map made (map seen l)) (take_all i items past)
+
+  module _ {Y : Type 0} (made : X → Y) (start : List Y) where
+    -- an item more makes one more
+    pub one_at : (i : ℕ) (none : A) (old new : List Y) → i < length items
+        → new ≡ old ++ (made (seen (get_or items i none)) ∷ []) → old ≡ start ++ map made (map seen (take i items))
+        → new ≡ start ++ map made (map seen (take (i + 1) items))
+    one_at i none old new small is held =
+        let item = get_or items i none in
+        let before = map made (map seen (take i items)) in
+        let all : map made (map seen (take (i + 1) items)) ≡ before ++ (made (seen item) ∷ []) =
+        ap (map made) (seen_at i none small) ∙ map-append made (map seen (take i items)) (seen item ∷ []) in
+        is ∙ ap (λ l. l ++ (made (seen item) ∷ [])) held ∙ append_assoc start before (made (seen item) ∷ [])
+        ∙ ap (λ l. start ++ l) (sym all)
+
+    -- the same where the item has a name
+    pub one_more : (i : ℕ) (item : A) (old new : List Y) → i < length items → item ≡ get_or items i item
+        → new ≡ old ++ (made (seen item) ∷ []) → old ≡ start ++ map made (map seen (take i items))
+        → new ≡ start ++ map made (map seen (take (i + 1) items))
+    one_more i item old new small here is held =
+        one_at i item old new small (is ∙ ap (λ x. old ++ (made (seen x) ∷ [])) here) held
+
+    pub one_all : (i : ℕ) (old : List Y) → length items ≤ i → old ≡ start ++ map made (map seen (take i items))
+        → old ≡ start ++ map made (map seen items)
+    one_all i old past held = held ∙ ap (λ l. start ++ map made (map seen l)) (take_all i items past)
+
+-- four parts behind a list
+pub four_parts : {X : Type 0} (s a b c d e f g h : List X) → e ≡ s ++ a → f ≡ e ++ b → g ≡ f ++ c → h ≡ g ++ d
+    → h ≡ s ++ (((a ++ b) ++ c) ++ d)
+four_parts s a b c d e f g h one two three four = rw (four, three, two, one) (simp append_assoc)
+
+-- an item more, by its value
+pub pushed-seen : {V Y : Type 0} (seen : V → Y) (old new : List V) (value : V) (made : Y) → new ≡ old ++ (value ∷ [])
+    → seen value ≡ made → map seen new ≡ map seen old ++ (made ∷ [])
+pushed-seen seen old new value made is same = ap (map seen) is ∙ map-append seen old (value ∷ [])
+    ∙ ap (λ y. map seen old ++ (y ∷ [])) same
+
+-- the same of texts
+pub pushed : (old new : List (String Global)) (text : String Global) (made : List ℕ) → new ≡ old ++ (text ∷ [])
+    → string_bytes text ≡ made → map string_bytes new ≡ map string_bytes old ++ (made ∷ [])
+pushed = pushed-seen string_bytes

@@ -1,0 +1,6 @@
+pub mod Outcomes
+pub mod TextOrder
+pub mod Gathering
+pub mod Grouping
+pub mod Mirrors
+pub mod Examples

@@ -1,0 +1,4 @@
+-- What private functions are said to compute.
+
+pub mod Requests  -- the texts of the requests
+pub mod Mirroring  -- the versions that are kept of a package

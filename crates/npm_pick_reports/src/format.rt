@@ -1,0 +1,9 @@
+//! How a reply is written.
+
+/// How a reply is written.
+#[derive(Clone, Copy, Debug, PartialEq, Eq, Drop)]
+pub enum Format {
+    Text,
+    /// A JSON object a line.
+    Json,
+}

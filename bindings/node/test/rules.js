@@ -29,9 +29,9 @@ const rules = [
         example: ['validRange', '^9007199254740991'],
         npm: null,
         here: '>=9007199254740991.0.0 <9007199254740992.0.0-0',
-        why: 'npm refuses an end that it makes itself, and does not read a number after an x; it compares digits of '
-            + 'prereleases as doubles, and in loose mode ignores a word above 250 characters; `coerce` with '
-            + '`includePrerelease` cuts an identifier above 250',
+        why: 'npm refuses an end that it makes itself, ignores a number after an x and, in loose mode, a word above 250 '
+            + 'characters, compares digits of prereleases as doubles, and cuts an identifier above 250 in `coerce` with '
+            + '`includePrerelease`',
         version: hasLarge,
         range: (text) => hasLarge(text) || /[^\s|]{250,}/.test(text),
     },
@@ -40,8 +40,7 @@ const rules = [
         example: ['compareBuild', '1.0.0+01.b', '1.0.0+1.a'],
         npm: 0,
         here: 1,
-        why: 'an identifier of digits is a number: `01` is 1, and the next identifiers decide; `coerce` with '
-            + '`includePrerelease` drops the zeros',
+        why: 'an identifier of digits is a number; `coerce` with `includePrerelease` drops the zeros',
         calls: [...BUILDS, 'coerce'],
         version: has(/\+.*(?<![0-9A-Za-z-])0\d+(?![0-9A-Za-z-])/),
     },
@@ -50,8 +49,7 @@ const rules = [
         example: ['validRange', 'vv1.2.3'],
         npm: null,
         here: '1.2.3',
-        why: 'marks are read the same before each partial, without blanks: `=1 - 2` is a range here alone, `v 1 - 2` in '
-            + 'npm alone',
+        why: 'marks may precede any partial, without blanks: `=1 - 2` is a range here alone, `v 1 - 2` in npm alone',
         range: has(/v[v=\s]/, /=\s*=/, /(^|[\s|])=\s*\S+\s+-\s/, /\s-\s+=/),
     },
     {
@@ -59,8 +57,7 @@ const rules = [
         example: ['validRange', '1.2.3-v= 1', true],
         npm: null,
         here: '>=1.0.0 <2.0.0-0',
-        why: '`v=` is two marks, after which a partial is a word of its own; npm joins it where the `v` ends a prerelease '
-            + 'or a build',
+        why: '`v=` is two marks, after which no partial is joined; npm joins it where the `v` ends a prerelease or a build',
         range: hasLoosely(/[^\s|]v=(\s|$)/),
     },
     {
@@ -100,8 +97,8 @@ const rules = [
         example: ['satisfies', '1.2.3-b', '^1.2.3-a || *'],
         npm: false,
         here: true,
-        why: 'npm drops the alternatives beside `*`, and in loose mode a `*` between words that it ignores; it takes '
-            + '`>=0.0.0` for no end, which shows beside a prerelease of 0.0.0',
+        why: 'npm drops the alternatives beside `*`, and in loose mode a `*` between ignored words; to npm `>=0.0.0` is no '
+            + 'end, which shows beside a prerelease of 0.0.0',
         range: (text, isLoose) => hasAny(text) || (isLoose && STAR.test(text))
             || (ZERO.test(text) && text.includes('0.0.0-')),
     },

@@ -46,10 +46,10 @@ pub either_way : (key : Key) (name folder : List ℕ)
     → is_eq (key_cmp key (key_of name folder)) ≡ is_key key name folder
 either_way key name folder =
     rw (key_total.antisymm key (key_of name folder)) (by_order (key_cmp (key_of name folder) key)) where
-  by_order : (o : Ordering) → is_eq (ordering_reverse o) ≡ is_eq o
-  by_order Less = refl
-  by_order Equal = refl
-  by_order Greater = refl
+      by_order : (o : Ordering) → is_eq (ordering_reverse o) ≡ is_eq o
+      by_order Less = refl
+      by_order Equal = refl
+      by_order Greater = refl
 
 -- ---- the folder above
 
@@ -58,16 +58,22 @@ pub before_above : (path parent last other : List ℕ) → path ≡ parent ++ (4
     → slice_cmp nat_cmp other path ≡ Less
 before_above path parent last other whole up =
     by_order (slice_cmp nat_cmp other parent) refl up where
-  less : slice_cmp nat_cmp parent path ≡ Less
-  less = rw whole (by_start parent) where
-    by_start : (start : List ℕ) → slice_cmp nat_cmp start (start ++ (47 ∷ last)) ≡ Less
-    by_start [] = refl
-    by_start (b ∷ start) = rw (tied_itself nat_cmp_total b) (by_start start)
+      less : slice_cmp nat_cmp parent path ≡ Less
+      less = rw whole (by_start parent) where
+        by_start : (start : List ℕ) → slice_cmp nat_cmp start (start ++ (47 ∷ last)) ≡ Less
+        by_start [] = refl
+        by_start (b ∷ start) = rw (tied_itself nat_cmp_total b) (by_start start)
 
-  by_order : (o : Ordering) → slice_cmp nat_cmp other parent ≡ o → is_gt o ≡ false → slice_cmp nat_cmp other path ≡ Less
-  by_order Less is low = nat_list_cmp_total.trans other parent path is less
-  by_order Equal is low = nat_list_cmp_total.congr other parent path is ∙ less
-  by_order Greater is low = absurd (cc low)
+      by_order : (o : Ordering) → slice_cmp nat_cmp other parent ≡ o → is_gt o ≡ false → slice_cmp nat_cmp other path ≡ Less
+      by_order Less is low = nat_list_cmp_total.trans other parent path is less
+      by_order Equal is low = nat_list_cmp_total.congr other parent path is ∙ less
+      by_order Greater is low = absurd (cc low)
+
+-- what is up to the root is the root
+pub before_root : (path other : List ℕ) → (path ≡ [] → ⊥) → IsUpTo other [] → slice_cmp nat_cmp other path ≡ Less
+before_root [] other some up = absurd (some refl)
+before_root (b ∷ path) [] some up = refl
+before_root (b ∷ path) (x ∷ other) some up = absurd (cc up)
 
 -- the nearest of the same folders
 pub nearest_by : (places : Places) (name : List ℕ) (First Second : List ℕ → Type 0) (best : Option Hit)
@@ -106,7 +112,7 @@ module _ (e : Key × Hit) (rest : List (Key × Hit)) (sorted : IsStrictlySortedB
         → IfSome (left_for rest name folder) (λ hit. hit.folder.now ≡ folder)
     by_key true is =
         let same = key_is e.0 name folder is in
-        let none : left_for rest name folder ≡ None = rw same (absent_key e.0 rest sorted.0) in
+        let none : left_for rest name folder ≡ None = rw (same.0, same.1) (absent_key e.0 rest sorted.0) in
         rw none tt
     by_key false is = rw is at (all name folder)
 
@@ -146,7 +152,7 @@ module _ (e : Key × Hit) (rest : List (Key × Hit)) (sorted : IsStrictlySortedB
             → IsDone places above rest name folder
         by_key true is left =
             let same = key_is e.0 name folder is in
-            let here : IsNearestOf places name (IsOver folder) None = rw same none in
+            let here : IsNearestOf places name (IsOver folder) None = rw (same.0, same.1) none in
             inl (rw left.1 here)
         by_key false is left = inr (rw is at left.0, left.1)
 
@@ -163,7 +169,7 @@ module _ (e : Key × Hit) (rest : List (Key × Hit)) (sorted : IsStrictlySortedB
         by_key true is =
             let same = key_is e.0 name folder is in
             let there : at_place new name folder ≡ Some next = rw is at now_at in
-            let here : IsNearestOf places name (IsOver folder) (Some next) = rw same is_next in
+            let here : IsNearestOf places name (IsOver folder) (Some next) = rw (same.0, same.1) is_next in
             inl (rw there here)
         by_key false is =
             let there : at_place new name folder ≡ at_place above name folder = rw is at now_at in

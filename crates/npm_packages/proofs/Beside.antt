@@ -19,7 +19,7 @@ module _ (places : Places) (name path : List ℕ) (last : Hit) (by_folder : AreB
     last_is = rw is_last.there at (by_folder name is_last.folder)
 
     last_there : at_place places name last.folder.now ≡ Some last
-    last_there = rw last_is is_last.there
+    last_there = ap (λ t. at_place places name t) last_is ∙ is_last.there
 
     -- it begins with each folder of the name that the path begins with
     in_last : (folder : List ℕ) → IsSome (at_place places name folder) → BeginsWith path folder
@@ -74,7 +74,10 @@ module _ (places : Places) (name path : List ℕ) (last : Hit) (by_folder : AreB
             first_is = rw is_first.there at (by_folder name is_first.folder)
 
             first_there : at_place places name first.folder.now ≡ Some first
-            first_there = rw first_is is_first.there
+            first_there = ap (λ t. at_place places name t) first_is ∙ is_first.there
+
+            pub first_some : IsSome (at_place places name first.folder.now)
+            first_some = rw first_there refl
 
             from_start : IsUpTo start first.folder.now
             from_start = rw first_is is_first.from
@@ -109,7 +112,7 @@ module _ (places : Places) (name path : List ℕ) (last : Hit) (by_folder : AreB
               less_than_start folder some is = elim (whole_or_less start folder (in_start folder some is)) [
                 | inl same ↦
                     let low = not_before_it start first.folder.now from_start in
-                    let high = no_later folder some (start_up_to start folder ([], sym same ∙ sym (append-nil start))) in
+                    let high = no_later folder some (start_up_to start folder ([], same ∙ sym (append-nil start))) in
                     let equal : first.folder.now ≡ start = same_text first.folder.now start low (rw same at high) in
                     let here : first.folder.now ≡ folder = equal ∙ sym same in
                     absurd (apart (rw here is))
@@ -148,6 +151,3 @@ module _ (places : Places) (name path : List ℕ) (last : Hit) (by_folder : AreB
                 hit = (is.hit.0, over_path h.folder.now (rw is.hit.0 refl) is.hit.1);
                 nearest = λ folder some front. is.nearest folder some (over_first folder some front);
               }
-
-              pub first_some : IsSome (at_place places name first.folder.now)
-              first_some = rw first_there refl

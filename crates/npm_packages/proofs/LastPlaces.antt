@@ -87,10 +87,10 @@ module _ (places : Places) (bound : Key) (range : List (Key × Hit))
 pub not_before_it : (text other : List ℕ) → IsUpTo text other → is_lt (slice_cmp nat_cmp other text) ≡ false
 not_before_it text other up =
     rw (nat_list_cmp_total.antisymm other text) (by_order (slice_cmp nat_cmp text other) up) where
-  by_order : (o : Ordering) → is_gt o ≡ false → is_lt (ordering_reverse o) ≡ false
-  by_order Less is = refl
-  by_order Equal is = refl
-  by_order Greater is = cc is
+      by_order : (o : Ordering) → is_gt o ≡ false → is_lt (ordering_reverse o) ≡ false
+      by_order Less is = refl
+      by_order Equal is = refl
+      by_order Greater is = cc is
 
 -- a text is up to what the text after it is up to
 pub up_to_it : (a b c : List ℕ) → IsUpTo a b → IsUpTo b c → IsUpTo a c

@@ -10,8 +10,8 @@ ghost use Rattle.npm_packages.specs.PackageValue.{packages_data};
 
 use crate::Result;
 use crate::folder::is_modules;
-use crate::places::{Places, above_all};
 use crate::place::{Lock, Package};
+use crate::places::{Places, above_all};
 use crate::search::{front_of, inside, rest_of, split_last};
 use std::collections::BTreeMap;
 

@@ -14,7 +14,7 @@ loop-folder-init c =
     record {
       sorted = rw entries c.iter-folder-items.ensures.ordered;
       members = λ key value is. is;
-      sound = λ name folder. rw c.new.ensures.empty tt;
+      sound = λ name folder. rw c.new-places.ensures.empty tt;
       complete = λ name folder found plain is.
           inr (rw entries (some_member (packages_data c.args.lock) (place_in folder name) found is.found));
     }

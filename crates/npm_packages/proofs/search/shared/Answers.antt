@@ -21,6 +21,6 @@ returns-clause-common c = (
   (
     drop c.bytes.same c.args.folder.now,
     sym (take-append-drop c.bytes.same c.args.folder.now)
-    ∙ ap (λ t. t ++ drop c.bytes.same c.args.folder.now) (sym c.bytes.invariant.alike),
+        ∙ ap (λ t. t ++ drop c.bytes.same c.args.folder.now) (sym c.bytes.invariant.alike),
   ),
 )

@@ -1,6 +1,6 @@
 -- The packages above those that are passed: one more pair of a name and a folder.
 use Rattle.std.proofs.Common.{◌≡◌, ◌∙◌, ◌⊎◌, ◌&&◌, ℕ, List, [], ◌∷◌, ◌++◌, Bool, true, false, cond, Option, Some, None, Ordering}
-use Rattle.std.proofs.Common.{Less, Equal, Greater, ap, bytes_eq, inl, inr, is_eq, nat_cmp, refl, sym}
+use Rattle.std.proofs.Common.{Less, Equal, Greater, bytes_eq, inl, inr, is_eq, nat_cmp, refl, sym}
 use Rattle.std.proofs.lemmas.Cmp.{nat_cmp_total, nat_list_cmp_total, on_total, then_total, tied_itself}
 use Rattle.std.proofs.lemmas.Map.{lookup-none}
 use Rattle.std.proofs.lemmas.Map.Entries.{none_below_head}

@@ -1,15 +1,13 @@
 -- The nearest folder of a name, found by the last folder that is not after a path and the first one that begins as both do.
-use Rattle.std.proofs.Common.{◌≡◌, ◌∙◌, ◌⊎◌, ◌<◌, ◌≤◌, ℕ, List, [], ◌∷◌, ◌++◌, Bool, true, false, Option, Some, None, ap}
-use Rattle.std.proofs.Common.{append-nil, arith, inl, inr, length, nat_cmp, nat_lt, refl, sym}
+use Rattle.std.proofs.Common.{◌≡◌, ◌∙◌, ◌<◌, ◌≤◌, ℕ, List, [], Bool, true, false, Option, Some, None, ap}
+use Rattle.std.proofs.Common.{append-nil, arith, inl, inr, length, nat_lt, refl, sym}
 use Rattle.std.proofs.lemmas.Bool.Decides.{nat_tests}
-use Rattle.std.specs.Cmp.Lexicographic.{slice_cmp}
 use Rattle.std.specs.Option.{IsSome}
-use Rattle.std.specs.Ordering.{is_gt, is_lt}
 use Rattle.npm_packages.specs.Index.{IsFront, IsNearestOf, IsOver, Places, at_place}
 use Rattle.npm_packages.specs.Private.Index.{AreByFolder, IsFirstFrom, IsLastTo, IsUpTo}
 use Rattle.npm_packages.specs.Private.Search.{BeginsWith}
 use Rattle.npm_packages.specs.declared.index.Hit.{Hit}
-use Rattle.npm_packages.proofs.LastPlaces.{begins_between, between, longer, not_before_it, same_text, start_up_to, up_to_it, whole_or_less}
+use Rattle.npm_packages.proofs.LastPlaces.{begins_between, longer, not_before_it, same_text, start_up_to, up_to_it, whole_or_less}
 use Rattle.npm_packages.proofs.Starts.{begins_front, front_shared, within}
 
 module _ (places : Places) (name path : List ℕ) (last : Hit) (by_folder : AreByFolder places)

@@ -1,6 +1,6 @@
 -- The nearest package of a name, and what it says about the name.
-use Rattle.std.proofs.Common.{◌≡◌, ◌∙◌, ◌⊎◌, ◌↔◌, ◌<◌, ◌≤◌, ℕ, List, [], ◌∷◌, ◌++◌, Bool, true, false, Option, Some, None, ap, append-nil}
-use Rattle.std.proofs.Common.{arith, inl, inr, length, IsTrue, nat_eq, option_map, refl, sym}
+use Rattle.std.proofs.Common.{◌≡◌, ◌⊎◌, ◌↔◌, ◌<◌, ◌≤◌, ℕ, List, Bool, true, false, Option, Some, None, ap}
+use Rattle.std.proofs.Common.{arith, inl, inr, length, IsTrue, nat_eq, option_map, refl}
 use Rattle.std.proofs.lemmas.Bool.Decides.{Decides-eqb}
 use Rattle.serde_json.specs.Data.{Data}
 use Rattle.npm_packages.specs.Folders.{IsAbove, is_modules, place_in}

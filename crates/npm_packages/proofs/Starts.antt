@@ -1,7 +1,7 @@
 -- Beginnings that two paths share, and the folder above a path by its text.
-use Rattle.std.proofs.Common.{◌≡◌, ◌∙◌, ◌⊎◌, ◌<◌, ◌≤◌, ◌+◌, ℕ, List, [], ◌∷◌, ◌++◌, ap, append-nil, append_assoc, arith}
+use Rattle.std.proofs.Common.{◌≡◌, ◌∙◌, ◌<◌, ◌≤◌, ◌+◌, ℕ, List, [], ◌∷◌, ◌++◌, ap, append-nil, append_assoc, arith}
 use Rattle.std.proofs.Common.{inl, inr, length, refl, sym}
-use Rattle.std.proofs.lemmas.List.{append_cancel_left, length-append}
+use Rattle.std.proofs.lemmas.List.{length-append}
 use Rattle.npm_packages.specs.Index.{HasNoSlash, IsFront, IsOver}
 use Rattle.npm_packages.specs.Private.Search.{BeginsWith}
 use Rattle.npm_packages.proofs.Fronts.{has_slash, parted}

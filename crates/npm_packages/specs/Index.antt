@@ -65,7 +65,7 @@ pub record ArePlacesOf (packages : Data) (places : Places) : Type 0 where
 abbrev pub IsFront : (path front : List ℕ) → Type 0
 IsFront path front = (front ≡ []) ⊎ (path ≡ front) ⊎ ((rest : List ℕ) × (path ≡ front ++ (47 ∷ rest)))
 
--- one of these, but not the path itself
+-- the same without the path itself
 abbrev pub IsOver : (path front : List ℕ) → Type 0
 IsOver path front = IsFront path front × (length front < length path)
 
@@ -78,14 +78,14 @@ pub record IsNearestOf (places : Places) (name : List ℕ) (Folders : List ℕ �
   pub hit : IfSome best (λ h. (at_place places name h.folder.now ≡ Some h) × Folders h.folder.now)
   pub nearest : (folder : List ℕ) → IsSome (at_place places name folder) → Folders folder → IsCovered best folder
 
--- if there is a package, `above` has the one of its name in the nearest folder above
+-- if there is a package, `above` has the one of its name in the nearest folder above it, or nothing if there is none
 abbrev pub HasAbove : (places above : Places) → (name folder : List ℕ) → Type 0
 HasAbove places above name folder = IsSome (at_place places name folder)
     → IsNearestOf places name (IsOver folder) (at_place above name folder)
 
 -- ---- the index
 
--- it has the packages of the lock file, and for each the next one above
+-- what it has is right, no package of a plain name is left out, and each has the next one of its name above it
 pub record IsIndexOf (packages : Data) (index : Index) : Type 0 where
   pub places : ArePlacesOf packages index.by_name
   pub above : (name folder : List ℕ) → HasAbove index.by_name index.above name folder

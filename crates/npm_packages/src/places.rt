@@ -1,4 +1,4 @@
-//! The package of a name in the nearest folder at or above a path, in a few searches however deep the path is.
+//! Packages by their names and folders, and the nearest one at or above a path.
 //!
 //! See docs/DECISIONS.md, "The index has packages by their names and folders".
 ghost use Rattle.std.specs.Prelude.{◌≡◌, ℕ, List, IfOk, IsSome};
@@ -36,8 +36,8 @@ pub(crate) fn nearest<'v>(
     nearest_beside(places, above, name, path, last)
 }
 
-/// The same if the last folder that is not after the path is beside it. Among the folders that begin as both do, the first one
-/// is at or above the path, or what is above that folder is above the path too.
+/// The same if the last folder that is not after the path is beside it. Of the folders that begin with what both share, the
+/// first one is at or above the path, or else what is nearest above that folder is nearest above the path too.
 fn nearest_beside<'v>(
     places: &Places<'v>,
     above: &Places<'v>,

@@ -1,4 +1,4 @@
--- What one call adds to the packages of an index, and which folder is the last one up to some bytes, or the first one from there.
+-- What one call adds to the places of packages, and which folder is the last one up to some bytes, or the first one from there.
 use Rattle.std.specs.Prelude.{◌≡◌, ℕ, List, Some, IsSome, ◌&&◌, false, bytes_eq, if◌then◌else◌}
 use Rattle.std.specs.Cmp.Lexicographic.{slice_cmp}
 use Rattle.std.specs.Option.{IfSome}
@@ -14,7 +14,7 @@ abbrev pub IsAdded : (name : List ℕ) → Hit → (old new : Places) → Type 0
 IsAdded name hit old new = (other folder : List ℕ) → at_place new other folder
     ≡ (if bytes_eq name other && bytes_eq hit.folder.now folder then Some hit else at_place old other folder)
 
--- the index is right as before, has what it had, and the package at one more place
+-- the places are right as before, have what they had, and the package at one more place
 pub record IsMore (packages : Data) (place : List ℕ) (old new : Places) : Type 0 where
   pub sound : ((name folder : List ℕ) → IfSome (at_place old name folder) (IsRight packages name folder))
       → (name folder : List ℕ) → IfSome (at_place new name folder) (IsRight packages name folder)
@@ -32,7 +32,7 @@ AreByFolder places = (name folder : List ℕ) → IfSome (at_place places name f
 abbrev pub IsUpTo : (folder left : List ℕ) → Type 0
 IsUpTo folder left = is_gt (slice_cmp nat_cmp folder left) ≡ false
 
--- what it has for the name in the last folder that is not after these bytes
+-- what they have for the name in the last folder that is not after these bytes
 pub record IsLastTo (places : Places) (name left : List ℕ) (hit : Hit) : Type 0 where
   pub folder : List ℕ
   pub there : at_place places name folder ≡ Some hit

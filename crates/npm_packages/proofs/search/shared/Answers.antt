@@ -1,6 +1,5 @@
 -- What both begin with is no longer than the bytes that are the same.
-use Rattle.std.proofs.Common.{◌≡◌, ◌∙◌, ◌++◌, ◌∷◌, [], ◌≤◌, ap, arith, drop, length, refl, sym, take}
-use Rattle.std.proofs.Math.Seq.{take-suc}
+use Rattle.std.proofs.Common.{◌∙◌, ◌++◌, ◌≤◌, ap, arith, drop, length, sym}
 use Rattle.std.proofs.lemmas.List.{take-append-drop}
 use Rattle.npm_packages.proofs.LastPlaces.{begins_taken, no_more}
 use Rattle.npm_packages.proofs.search.shared.Goals as goal

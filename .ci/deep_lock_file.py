@@ -10,6 +10,8 @@
     stars     the root asks for N names, which are workspaces, each in a folder of its own, before the `/*` or `/**` of a pattern
     copies    N packages, each with a copy of one name in its own `node_modules`, ask for that name
     chain     N packages of one name, each in the `node_modules` of the one before, and beside each one a package that asks for it
+    beside    a chain of N packages, each in the `node_modules` of the one before, that ask for a name in the root; beside each one a
+              package has that name in its own `node_modules`
     crowded   N folders with twenty names in their `node_modules`, and N packages in a folder `z/z/z/..` of N parts that ask for
               these names
 """
@@ -36,6 +38,14 @@ elif shape == "chain":
         packages[f"{folder}node_modules/a"] = {"version": "1.2.3", "dependencies": {"a": "^1.0.0"}}
         packages[f"{folder}node_modules/b"] = {"version": "1.2.3", "dependencies": {"a": "^1.0.0"}}
         folder += "node_modules/a/"
+elif shape == "beside":
+    folder = ""
+    for _ in range(count):
+        packages[f"{folder}node_modules/a"] = {"version": "1.2.3"}
+        packages[f"{folder}node_modules/a/node_modules/found"] = {"version": "1.2.3"}
+        packages[f"{folder}node_modules/b"] = {"version": "1.2.3", "dependencies": {"found": "^1.0.0"}}
+        folder += "node_modules/b/"
+    packages["node_modules/found"] = {"version": "1.2.3"}
 elif shape == "crowded":
     few = names[:20]
     for i in range(count):

@@ -11,11 +11,10 @@ use Rattle.serde_json.specs.Data.{Data, Members, member}
 use Rattle.serde_json.specs.Find.{get, get_member}
 use Rattle.npm_packages.specs.Folders.{place_in}
 use Rattle.npm_packages.specs.Packages.{IsFoundIn, Package, package_at}
-use Rattle.npm_packages.specs.Index.{IsEnd, IsPlain, IsRight, at_place}
-use Rattle.npm_packages.specs.Private.Index.{IsAdded, IsMore}
+use Rattle.npm_packages.specs.Index.{ArePlacesOf, IsEnd, IsPlain, IsRight, Places, at_place}
+use Rattle.npm_packages.specs.Private.Index.{AreByFolder, IsAdded, IsMore}
 use Rattle.npm_packages.specs.PackageValue.{package_value}
 use Rattle.npm_packages.specs.declared.index.Hit.{Hit}
-use Rattle.npm_packages.specs.declared.index.Index.{Index}
 use Rattle.npm_packages.proofs.Fronts.{end_of_place, same_end, same_place}
 use Rattle.npm_texts.specs.Lemmas.Keys.{exact, itself}
 
@@ -26,6 +25,16 @@ pub same_keys : (name other folder at : List ℕ)
     ≡ (bytes_eq name other && bytes_eq folder at)
 same_keys name other folder at = sym (tied_then (slice_cmp nat_cmp name other) (slice_cmp nat_cmp folder at))
     ∙ (λ i. is_eq-slice_cmp name other i && is_eq-slice_cmp folder at i)
+
+-- ---- what the places have
+
+-- each hit is in the folder of its key
+pub by_folder : (packages : Data) (places : Places) → ArePlacesOf packages places → AreByFolder places
+by_folder packages places are name folder = by_hit (at_place places name folder) refl where
+  by_hit : (o : Option Hit) → at_place places name folder ≡ o → IfSome o (λ hit. hit.folder.now ≡ folder)
+  by_hit None there = tt
+  by_hit (Some h) there =
+      let right : IsRight packages name folder h = rw there at (are.sound name folder) in right.folder_is
 
 -- ---- one more hit
 
@@ -40,7 +49,7 @@ right_at : (packages : Data) (name : List ℕ) (hit : Hit) → IsFoundIn package
 right_at packages name hit found other folder of_name of_folder =
     record { folder_is = of_folder; found = rw (of_name, of_folder) at found }
 
-module _ (packages : Data) (place name : List ℕ) (hit : Hit) (old new : Index) (added : IsAdded name hit old new) where
+module _ (packages : Data) (place name : List ℕ) (hit : Hit) (old new : Places) (added : IsAdded name hit old new) where
   by_sound : IsFoundIn packages name hit.folder.now (package_value hit.found) → (other folder : List ℕ)
       → IfSome (at_place old other folder) (IsRight packages other folder) → (a b : Bool) → bytes_eq name other ≡ a
       → bytes_eq hit.folder.now folder ≡ b → IfSome (at_place new other folder) (IsRight packages other folder)
@@ -75,9 +84,9 @@ module _ (packages : Data) (place name : List ℕ) (hit : Hit) (old new : Index)
         by_has other folder of_name of_folder;
   }
 
-module _ (packages : Data) (place : List ℕ) (index : Index) where
+module _ (packages : Data) (place : List ℕ) (places : Places) where
   -- nothing is at the place
-  pub none_there : package_at packages place ≡ None → IsMore packages place index index
+  pub none_there : package_at packages place ≡ None → IsMore packages place places places
   none_there none = record {
     sound = λ all. all;
     stays = λ name folder some. some;
@@ -88,7 +97,7 @@ module _ (packages : Data) (place : List ℕ) (index : Index) where
   -- the place is in no folder that is looked in
   pub none_in : (name : List ℕ) → IsEnd place name
       → ((folder : List ℕ) (found : Package) → IsFoundIn packages name folder found → place ≡ place_in folder name → ⊥)
-      → IsMore packages place index index
+      → IsMore packages place places places
   none_in name is_end none = record {
     sound = λ all. all;
     stays = λ name folder some. some;
@@ -128,7 +137,7 @@ some_member packages place found is = by_member (get place packages) refl where
   by_member (Some value) some = rw some refl
 
 -- the package of a member is in the index, and the others are left
-pub has_next : (packages : Data) (old new : Index) (name folder key : List ℕ) (value : Data) (rest : Members)
+pub has_next : (packages : Data) (old new : Places) (name folder key : List ℕ) (value : Data) (rest : Members)
     (found : Package) → IsPlain name → IsFoundIn packages name folder found → IsMore packages key old new
     → IsSome (at_place old name folder) ⊎ IsSome (get_member (place_in folder name) (member key value rest))
     → IsSome (at_place new name folder) ⊎ IsSome (get_member (place_in folder name) rest)

@@ -1,4 +1,4 @@
--- The last folder up to some bytes, and the text that each folder above begins with.
+-- The last folder up to some bytes, the first one from there, and the text that each folder above begins with.
 use Rattle.std.proofs.Common.{◌≡◌, ◌∙◌, ◌⊎◌, ◌<◌, ◌≤◌, ◌-◌, ℕ, zero, suc, List, [], ◌∷◌, ◌++◌, true, false, Ordering}
 use Rattle.std.proofs.Common.{Less, Equal, Greater, ap, append-nil, arith, inl, inr, length, nat_cmp, refl, slice_index, nat_lt, sym, take, Bool, None, Some}
 use Rattle.std.proofs.lemmas.Bool.Decides.{nat_tests}
@@ -6,16 +6,15 @@ use Rattle.std.proofs.lemmas.Cmp.{nat_cmp_total, tied_itself}
 use Rattle.std.proofs.lemmas.List.{length-append}
 use Rattle.std.proofs.lemmas.Map.Lookups.{exact_bytes, exact_unsigned}
 use Rattle.std.specs.Cmp.Lexicographic.{nat_list_cmp_total, slice_cmp}
-use Rattle.std.specs.Ordering.{is_gt, is_lt, ordering_then}
-use Rattle.std.specs.BTreeMap.Range.{IsInRange, IsRangeOf}
+use Rattle.std.specs.Ordering.{is_gt, is_lt, ordering_reverse, ordering_then}
+use Rattle.std.specs.BTreeMap.Range.{IsEntryInRange, IsInRange, IsRangeOf}
 use Rattle.std.specs.Option.{IsSome}
 use Rattle.std.specs.declared.ops.Bound.TheVariants.{Included, Unbounded}
 use denote.Ref.{Bor}
-use Rattle.npm_packages.specs.Index.{at_place}
-use Rattle.npm_packages.specs.Private.Index.{IsLastTo, IsUpTo}
+use Rattle.npm_packages.specs.Index.{Places, at_place}
+use Rattle.npm_packages.specs.Private.Index.{IsFirstFrom, IsLastTo, IsUpTo}
 use Rattle.npm_packages.specs.Private.Search.{BeginsWith}
 use Rattle.npm_packages.specs.declared.index.Hit.{Hit}
-use Rattle.npm_packages.specs.declared.index.Index.{Index}
 
 -- ---- two keys of the index
 
@@ -43,22 +42,22 @@ key_of name folder = (record { ref_ptr = (0, 0); now = name }, record { ref_ptr 
 
 -- ---- the keys up to a name and some bytes
 
-module _ (index : Index) (bound : Key) (range : List (Key × Hit))
-    (is_range : IsRangeOf key_cmp Unbounded (Included bound) index.by_name range)
+module _ (places : Places) (bound : Key) (range : List (Key × Hit))
+    (is_range : IsRangeOf key_cmp Unbounded (Included bound) places range)
   where
     in_range : (folder : List ℕ) → IsUpTo folder bound.1.now
         → IsInRange key_cmp Unbounded (Included bound) (key_of bound.0.now folder)
     in_range folder up = (tt, rw (of_one_name bound.0.now (slice_cmp nat_cmp folder bound.1.now)) up)
 
-    pub none_in : range ≡ [] → (folder : List ℕ) → IsSome (at_place index bound.0.now folder)
+    pub none_in : range ≡ [] → (folder : List ℕ) → IsSome (at_place places bound.0.now folder)
         → IsUpTo folder bound.1.now → ⊥
     none_in empty folder some up =
-        let none : at_place index bound.0.now folder ≡ None =
+        let none : at_place places bound.0.now folder ≡ None =
         is_range.5 empty (key_of bound.0.now folder) (in_range folder up) in
         cc (rw none at some)
 
     module _ (e : Key × Hit) (front : List (Key × Hit)) (is : range ≡ front ++ e ∷ []) where
-      not_before : (folder : List ℕ) → IsSome (at_place index bound.0.now folder) → IsUpTo folder bound.1.now
+      not_before : (folder : List ℕ) → IsSome (at_place places bound.0.now folder) → IsUpTo folder bound.1.now
           → is_lt (ordering_then (slice_cmp nat_cmp e.0.0.now bound.0.now) (slice_cmp nat_cmp e.0.1.now folder)) ≡ false
       not_before folder some up = is_range.4 e front is (key_of bound.0.now folder) (in_range folder up) some
 
@@ -66,9 +65,9 @@ module _ (index : Index) (bound : Key) (range : List (Key × Hit))
           ≡ false
       up_to_bound = (is_range.3 e front is).0.1
 
-      pub last_in : e.0.0.now ≡ bound.0.now → IsLastTo index bound.0.now bound.1.now e.1
+      pub last_in : e.0.0.now ≡ bound.0.now → IsLastTo places bound.0.now bound.1.now e.1
       last_in same =
-          let there : at_place index e.0.0.now e.0.1.now ≡ Some e.1 = (is_range.3 e front is).1 in
+          let there : at_place places e.0.0.now e.0.1.now ≡ Some e.1 = (is_range.3 e front is).1 in
           record {
             folder = e.0.1.now;
             there = rw same at there;
@@ -77,10 +76,78 @@ module _ (index : Index) (bound : Key) (range : List (Key × Hit))
                 (rw same at (not_before other some up));
           }
 
-      pub other_in : (e.0.0.now ≡ bound.0.now → ⊥) → (folder : List ℕ) → IsSome (at_place index bound.0.now folder)
+      pub other_in : (e.0.0.now ≡ bound.0.now → ⊥) → (folder : List ℕ) → IsSome (at_place places bound.0.now folder)
           → IsUpTo folder bound.1.now → ⊥
       other_in differ folder some up =
           differ (between_names e.0.0.now bound.0.now _ _ up_to_bound (not_before folder some up))
+
+-- ---- the keys from a name and some bytes
+
+-- what is not before a text
+pub not_before_it : (text other : List ℕ) → IsUpTo text other → is_lt (slice_cmp nat_cmp other text) ≡ false
+not_before_it text other up =
+    rw (nat_list_cmp_total.antisymm other text) (by_order (slice_cmp nat_cmp text other) up) where
+      by_order : (o : Ordering) → is_gt o ≡ false → is_lt (ordering_reverse o) ≡ false
+      by_order Less is = refl
+      by_order Equal is = refl
+      by_order Greater is = cc is
+
+-- a text is up to what the text after it is up to
+pub up_to_it : (a b c : List ℕ) → IsUpTo a b → IsUpTo b c → IsUpTo a c
+up_to_it a b c first second = by_order (slice_cmp nat_cmp a b) (slice_cmp nat_cmp b c) refl refl where
+  by_order : (o p : Ordering) → slice_cmp nat_cmp a b ≡ o → slice_cmp nat_cmp b c ≡ p → IsUpTo a c
+  by_order Less Less is then = rw (nat_list_cmp_total.trans a b c is then) refl
+  by_order Less Equal is then = rw (← exact_bytes b c then, is) refl
+  by_order Less Greater is then = let never : true ≡ false = rw then at second in absurd (cc never)
+  by_order Equal p is then = rw (exact_bytes a b is) second
+  by_order Greater p is then = let never : true ≡ false = rw is at first in absurd (cc never)
+
+names_between : (key name : List ℕ) (a b : Ordering) → is_gt (ordering_then (slice_cmp nat_cmp key name) a) ≡ false
+    → is_gt (ordering_then (slice_cmp nat_cmp name key) b) ≡ false → key ≡ name
+names_between key name a b up down = by_order (slice_cmp nat_cmp key name) refl where
+  by_order : (o : Ordering) → slice_cmp nat_cmp key name ≡ o → key ≡ name
+  by_order Less is =
+      let low : true ≡ false = rw (nat_list_cmp_total.antisymm name key, is) at down in absurd (cc low)
+  by_order Equal is = exact_bytes key name is
+  by_order Greater is = let high : true ≡ false = rw is at up in absurd (cc high)
+
+module _ (places : Places) (bound : Key) (range : List (Key × Hit))
+    (is_range : IsRangeOf key_cmp (Included bound) Unbounded places range)
+  where
+    from_range : (folder : List ℕ) → IsUpTo bound.1.now folder
+        → IsInRange key_cmp (Included bound) Unbounded (key_of bound.0.now folder)
+    from_range folder from = (rw (of_one_name bound.0.now (slice_cmp nat_cmp bound.1.now folder)) from, tt)
+
+    pub none_from : range ≡ [] → (folder : List ℕ) → IsSome (at_place places bound.0.now folder)
+        → IsUpTo bound.1.now folder → ⊥
+    none_from empty folder some from =
+        let none : at_place places bound.0.now folder ≡ None =
+        is_range.5 empty (key_of bound.0.now folder) (from_range folder from) in
+        cc (rw none at some)
+
+    module _ (e : Key × Hit) (rest : List (Key × Hit)) (is : range ≡ e ∷ rest) where
+      not_after : (folder : List ℕ) → IsSome (at_place places bound.0.now folder) → IsUpTo bound.1.now folder
+          → is_gt (ordering_then (slice_cmp nat_cmp e.0.0.now bound.0.now) (slice_cmp nat_cmp e.0.1.now folder)) ≡ false
+      not_after folder some from = rw is at (is_range.2 (key_of bound.0.now folder) (from_range folder from) some)
+
+      first_entry : IsEntryInRange key_cmp (Included bound) Unbounded places e
+      first_entry = rw is at is_range.1
+
+      pub first_in : e.0.0.now ≡ bound.0.now → IsFirstFrom places bound.0.now bound.1.now e.1
+      first_in same =
+          let there : at_place places e.0.0.now e.0.1.now ≡ Some e.1 = first_entry.1 in
+          record {
+            folder = e.0.1.now;
+            there = rw same at there;
+            from = rw (of_one_name bound.0.now (slice_cmp nat_cmp bound.1.now e.0.1.now)) at (rw same at first_entry.0.0);
+            first = λ other some from. rw (of_one_name bound.0.now (slice_cmp nat_cmp e.0.1.now other)) at
+                (rw same at (not_after other some from));
+          }
+
+      pub other_from : (e.0.0.now ≡ bound.0.now → ⊥) → (folder : List ℕ) → IsSome (at_place places bound.0.now folder)
+          → IsUpTo bound.1.now folder → ⊥
+      other_from differ folder some from =
+          differ (names_between e.0.0.now bound.0.now _ _ (not_after folder some from) first_entry.0.0)
 
 -- ---- beginnings
 

@@ -1,3 +1,5 @@
+pub mod Above
+pub mod Beside
 pub mod Examples
 pub mod Fronts
 pub mod Groups
@@ -9,4 +11,5 @@ pub mod Nearest
 pub mod OverrideNames
 pub mod OverrideRules
 pub mod Reaching
+pub mod Starts
 pub mod DependentTexts

@@ -1,80 +1,52 @@
 -- The nearest package of a name, and what it says about the name.
-use Rattle.std.proofs.Common.{◌≡◌, ◌∙◌, ◌⊎◌, ◌↔◌, ◌<◌, ◌≤◌, ℕ, List, [], ◌∷◌, ◌++◌, Bool, true, false, Option, Some, None, ap, append-nil}
-use Rattle.std.proofs.Common.{arith, inl, inr, length, IsTrue, nat_eq, option_map, refl, sym}
+use Rattle.std.proofs.Common.{◌≡◌, ◌⊎◌, ◌↔◌, ◌<◌, ◌≤◌, ℕ, List, Bool, true, false, Option, Some, None, ap}
+use Rattle.std.proofs.Common.{arith, inl, inr, length, IsTrue, nat_eq, option_map, refl}
 use Rattle.std.proofs.lemmas.Bool.Decides.{Decides-eqb}
 use Rattle.serde_json.specs.Data.{Data}
 use Rattle.npm_packages.specs.Folders.{IsAbove, is_modules, place_in}
 use Rattle.npm_packages.specs.Packages.{IsFound, IsFoundIn, IsPassed, Package, package_at}
-use Rattle.npm_packages.specs.Index.{IsIndexOf, IsPlain, IsRight}
-use Rattle.npm_packages.specs.Private.Index.{IsLastTo}
+use Rattle.npm_packages.specs.Index.{ArePlacesOf, IsCovered, IsFront, IsNearestOf, IsPlain, IsRight, Places}
 use Rattle.npm_packages.specs.PackageValue.{package_value}
 use Rattle.npm_packages.specs.Lookups.{IsOutermostFrom, IsReached, itself}
-use Rattle.npm_packages.specs.Private.Search.{BeginsWith, IsCovered, IsHit, IsNearest}
+use Rattle.npm_packages.specs.Private.Search.{IsHit, IsNearest}
 use Rattle.npm_packages.specs.declared.index.Hit.{Hit}
-use Rattle.npm_packages.specs.declared.index.Index.{Index}
-use Rattle.npm_packages.proofs.LastPlaces.{begins_between, same_text, start_up_to, whole_or_less}
-use Rattle.npm_packages.proofs.Reaching.{found_in_nearest, found_in_none, reached_front, reached_same, reached_shorter, shorter}
+use Rattle.npm_packages.proofs.Reaching.{found_in_nearest, found_in_none, front_reached, reached_front, reached_same}
+use Rattle.npm_packages.proofs.Reaching.{reached_shorter, reached_within, shorter}
 
--- ---- the last folder up to some bytes
+-- ---- the nearest hit in no folder above the outermost one
 
-module _ (packages : Data) (from name left : List ℕ) (index : Index) (h : Hit) (is_index : IsIndexOf packages index)
-    (plain : IsPlain name) (last : IsLastTo index name left h)
+module _ (packages : Data) (from outermost name : List ℕ) (places : Places) (is : ArePlacesOf packages places)
+    (is_outermost : IsOutermostFrom from outermost) (plain : IsPlain name)
   where
-    pub hit_is : IsRight packages name last.folder h
-    hit_is = rw last.there at (is_index.sound name last.folder)
+    covered : (best : Option Hit) → IsNearestOf places name (IsFront from) best → (folder : List ℕ) (found : Package)
+        → IsReached from folder → IsFoundIn packages name folder found → IsCovered best folder
+    covered best nearest folder found reached is_found =
+        nearest.nearest folder (is.complete name folder found plain is_found) (reached_front reached)
 
-    pub hit_found : IsFoundIn packages name h.folder.now (package_value h.found)
-    hit_found = rw hit_is.folder_is hit_is.found
+    pub nearest_none : IsNearestOf places name (IsFront from) None → IsNearest packages from name None
+    nearest_none nearest = record { hit = tt; nearest = covered None nearest }
 
-    -- it begins with each folder of the name that the bytes begin with
-    pub in_hit : (folder : List ℕ) (found : Package) → IsFoundIn packages name folder found → BeginsWith left folder
-        → BeginsWith h.folder.now folder
-    in_hit folder found is begins =
-        let some = is_index.complete name folder found plain is in
-        rw hit_is.folder_is (begins_between folder left last.folder begins
-        (last.last folder some (start_up_to folder left begins)) last.up_to)
+    module _ (h : Hit) (nearest : IsNearestOf places name (IsFront from) (Some h)) where
+      pub nearest_some : length outermost ≤ length h.folder.now → IsNearest packages from name (Some h)
+      nearest_some long = record {
+        hit = record {
+          reached = front_reached is_outermost.reached h.folder.now nearest.hit.1 long;
+          found =
+              let right : IsRight packages name h.folder.now h = rw nearest.hit.0 at (is.sound name h.folder.now) in
+              right.found;
+        };
+        nearest = covered (Some h) nearest;
+      }
 
-    -- and if it is not reached, with the whole of none that is reached
-    less_than_hit : (IsReached from h.folder.now → ⊥) → (folder : List ℕ) → IsReached from folder
-        → BeginsWith h.folder.now folder → length folder < length h.folder.now
-    less_than_hit none folder reached begins = elim (whole_or_less h.folder.now folder begins) [
-      | inl same ↦ absurd (none (rw same at reached))
-      | inr less ↦ less
-    ]
-
-    pub less_than_left : (IsReached from h.folder.now → ⊥) → (folder : List ℕ) (found : Package)
-        → IsReached from folder → IsFoundIn packages name folder found → BeginsWith left folder
-        → length folder < length left
-    less_than_left none folder found reached is begins = elim (whole_or_less left folder begins) [
-      | inl same ↦
-          let some = is_index.complete name folder found plain is in
-          let low = rw same at (last.last folder some (start_up_to folder left begins)) in
-          let equal : last.folder ≡ left = same_text last.folder left low last.up_to in
-          let here : h.folder.now ≡ folder = hit_is.folder_is ∙ equal ∙ sym same in
-          absurd (none (rw here reached))
-      | inr less ↦ less
-    ]
-
-    -- the rest begins with each folder of the name as before
-    pub still_begins : (IsReached from h.folder.now → ⊥) → (next : List ℕ)
-        → ((start : List ℕ) → BeginsWith left start → BeginsWith h.folder.now start → length start < length h.folder.now
-        → length start < length left → BeginsWith next start)
-        → (folder : List ℕ) (found : Package) → IsReached from folder → IsFoundIn packages name folder found
-        → BeginsWith left folder → BeginsWith next folder
-    still_begins none next kept folder found reached is begins =
-        let in_it = in_hit folder found is begins in
-        kept folder begins in_it (less_than_hit none folder reached in_it)
-        (less_than_left none folder found reached is begins)
-
--- at first all bytes are left
-pub begins_reached : (from folder : List ℕ) → IsReached from folder → BeginsWith from folder
-begins_reached from folder reached = elim (reached_front reached) [
-  | inl empty ↦ (from, ap (λ t. t ++ from) (sym empty))
-  | inr some ↦ elim some [
-    | inl same ↦ ([], same ∙ sym (append-nil folder))
-    | inr rest ↦ (47 ∷ rest.0, rest.1)
-  ]
-]
+      pub nearest_over_all : length h.folder.now < length outermost → IsNearest packages from name None
+      nearest_over_all short = record {
+        hit = tt;
+        nearest = λ folder found reached is_found.
+            let near = covered (Some h) nearest folder found reached is_found in
+            let same : near.0 ≡ h = cc near.1 in
+            let less : length folder ≤ length h.folder.now = rw same at near.2 in
+            absurd (omega (arith, less, short, reached_within reached is_outermost.reached is_outermost.last));
+      }
 
 -- ---- what the nearest hit says
 

@@ -6,7 +6,7 @@ use Rattle.serde_json.specs.Data.{Data}
 use Rattle.npm_packages.specs.Folders.{IsAbove, IsOutermost, is_modules, place_in}
 use Rattle.npm_packages.specs.Packages.{IsFound, IsPassed, Package, above as found_above, here, nowhere, package_at}
 use Rattle.npm_packages.specs.Lookups.{IsReached, above, itself}
-use Rattle.npm_packages.specs.Private.Search.{IsFront}
+use Rattle.npm_packages.specs.Index.{IsFront}
 use Rattle.npm_packages.proofs.Fronts.{has_slash, parted, same_cut}
 
 -- ---- the folder above

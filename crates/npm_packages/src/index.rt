@@ -1,18 +1,17 @@
 //! The index of a lock file: which package a name has in the `node_modules` of a folder.
 //!
 //! See docs/DECISIONS.md, "The index has packages by their names and folders".
-ghost use Rattle.std.specs.Prelude.{◌≡◌, ◌∷◌, ◌++◌, ◌↔◌, ℕ, List, IfOk, IsSome, IsTrue, OnOk, Some};
-ghost use Rattle.std.specs.Option.{MatchOption};
+ghost use Rattle.std.specs.Prelude.{◌≡◌, ◌∷◌, ◌++◌, ◌↔◌, List, IfOk, IsTrue, OnOk, Some, ℕ};
 ghost use Rattle.serde_json.specs.Find.{get};
 ghost use Rattle.serde_json.specs.View.{view};
-ghost use Rattle.npm_packages.specs.Index.{IsIndexOf, IsEnd, IsLast, IsPlain};
-ghost use Rattle.npm_packages.specs.Private.Index.{IsAdded, IsLastTo, IsMore, IsUpTo};
-ghost use Rattle.npm_packages.specs.Index.{at_place};
+ghost use Rattle.npm_packages.specs.Index.{ArePlacesOf, IsIndexOf, IsEnd, IsLast, IsPlain};
+ghost use Rattle.npm_packages.specs.Private.Index.{IsAdded, IsMore};
 ghost use Rattle.npm_packages.specs.PackageValue.{packages_data};
 
 use crate::Result;
 use crate::folder::is_modules;
 use crate::place::{Lock, Package};
+use crate::places::{Places, above_all};
 use crate::search::{front_of, inside, rest_of, split_last};
 use std::collections::BTreeMap;
 
@@ -28,7 +27,9 @@ pub(crate) struct Hit<'v> {
 /// up in it.
 #[derive(Drop)]
 pub struct Index<'v> {
-    by_name: BTreeMap<(&'v str, &'v [u8]), Hit<'v>>,
+    pub(crate) by_name: Places<'v>,
+    /// For each package the one of its name in the nearest folder above its folder, if there is one.
+    pub(crate) above: Places<'v>,
 }
 
 impl<'v> Index<'v> {
@@ -40,52 +41,50 @@ impl<'v> Index<'v> {
     ///
     /// # Memory
     ///
-    /// Allocates an entry for each package that is in a `node_modules`. Names and folders are borrowed.
+    /// Allocates an entry for each package that is in a `node_modules`, and one more for each of them with another package of
+    /// its name in a folder above. Names and folders are borrowed.
     pub fn of_lock(lock: Lock<'v>) -> Result<Index<'v>>
         ensures { IfOk result (λ index. IsIndexOf (packages_data lock.entry) index) }
     {
-        let mut index = Index {
-            by_name: BTreeMap::new(lock.alloc),
-        };
-        for (folder, member) in lock.members.iter() {
-            let folder = folder.as_str();
-            index.add_member(lock, Package { folder, member })?;
-        }
-        Ok(index)
+        let by_name = places_of(lock)?;
+        let above = above_all(lock.alloc, &by_name)?;
+        Ok(Index { by_name, above })
     }
+}
 
-    /// Adds a member of `packages` that is in a `node_modules`, but not a link whose target is not there.
-    fn add_member(&mut self, lock: Lock<'v>, placed: Package<'v>) -> Result<()>
-        requires { get placed.folder.now (packages_data lock) ≡ Some (view placed.member.now) }
-        ensures { OnOk result (IsMore (packages_data lock.entry) placed.entry.folder.now self.old self.new) }
-    {
-        let Some(found) = lock.found_at(placed) else {
-            return Ok(());
-        };
-        let name = end_of(placed.folder);
-        match inside(placed.folder, name) {
-            Some(folder) if !is_modules(folder) => self.add(name, Hit { folder, found }),
-            _ => Ok(()),
-        }
+/// The packages of a lock file by their names and folders.
+fn places_of<'v>(lock: Lock<'v>) -> Result<Places<'v>>
+    ensures { IfOk result (λ places. ArePlacesOf (packages_data lock.entry) places) }
+{
+    let mut places = BTreeMap::new(lock.alloc);
+    for (folder, member) in lock.members.iter() {
+        let folder = folder.as_str();
+        add_member(&mut places, lock, Package { folder, member })?;
     }
+    Ok(places)
+}
 
-    /// Adds the package of a name in the `node_modules` of a folder.
-    fn add(&mut self, name: &'v str, hit: Hit<'v>) -> Result<()>
-        ensures { OnOk result (IsAdded name.now hit.entry self.old self.new) }
-    {
-        self.by_name.insert((name, hit.folder.as_bytes()), hit)?;
-        Ok(())
+/// Adds a member of `packages` that is in a `node_modules`, but not a link whose target is not there.
+fn add_member<'v>(places: &mut Places<'v>, lock: Lock<'v>, placed: Package<'v>) -> Result<()>
+    requires { get placed.folder.now (packages_data lock) ≡ Some (view placed.member.now) }
+    ensures { OnOk result (IsMore (packages_data lock.entry) placed.entry.folder.now places.old places.new) }
+{
+    let Some(found) = lock.found_at(placed) else {
+        return Ok(());
+    };
+    let name = end_of(placed.folder);
+    match inside(placed.folder, name) {
+        Some(folder) if !is_modules(folder) => add(places, name, Hit { folder, found }),
+        _ => Ok(()),
     }
+}
 
-    /// The package of a name in the last folder that is not after these bytes.
-    pub(crate) fn last_to(&self, name: &'v str, left: &'v [u8]) -> Option<Hit<'v>>
-        ensures { MatchOption result
-            ((folder : List ℕ) → IsSome (at_place self.now name.now folder) → IsUpTo folder left.now → ⊥)
-            (IsLastTo self.now name.now left.now) }
-    {
-        let (key, hit) = self.by_name.range(..=(name, left)).next_back()?;
-        if key.0 == name { Some(*hit) } else { None }
-    }
+/// Adds the package of a name in the `node_modules` of a folder.
+fn add<'v>(places: &mut Places<'v>, name: &'v str, hit: Hit<'v>) -> Result<()>
+    ensures { OnOk result (IsAdded name.now hit.entry places.old places.new) }
+{
+    places.insert((name, hit.folder.as_bytes()), hit)?;
+    Ok(())
 }
 
 /// Returns `true` for a name of one part, or of a scope and a part, as npm's names are.

@@ -14,6 +14,7 @@ mod index;
 mod linked;
 mod overrides;
 mod place;
+mod places;
 mod search;
 
 pub use asked::{Asked, Names, accepted_of, asked_of, is_optional_peer};

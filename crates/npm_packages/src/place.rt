@@ -14,7 +14,8 @@ ghost use Rattle.npm_packages.specs.Private.Search.{IsNearest};
 use crate::Result;
 use crate::folder::is_modules;
 use crate::index::{Hit, Index, is_plain};
-use crate::search::{above_of, is_reached, shared};
+use crate::places::nearest;
+use crate::search::above_of;
 use serde_json::{Map, Value};
 use std::alloc::Global;
 
@@ -80,8 +81,7 @@ impl<'v> Lock<'v> {
         }
     }
 
-    /// The nearest package of a plain name: that of the last folder in the order of bytes, or else of the last one that is not
-    /// after what the two folders share.
+    /// The nearest package of a plain name, in no folder above the outermost one.
     fn nearest(
         self,
         index: &Index<'v>,
@@ -94,16 +94,11 @@ impl<'v> Lock<'v> {
         requires plain { IsPlain name.now }
         ensures { IsNearest (packages_data self.entry) from.now name.now result }
     {
-        let mut left = from.as_bytes();
-        'nearer: loop {
-            let hit = index.last_to(name, left)?;
-            if is_reached(from, outermost, hit.folder) {
-                return Some(hit);
-            }
-            if left.is_empty() {
-                return None;
-            }
-            left = shared(left, hit.folder.as_bytes());
+        let hit = nearest(&index.by_name, &index.above, name, from)?;
+        if outermost.len() <= hit.folder.len() {
+            Some(hit)
+        } else {
+            None
         }
     }
 

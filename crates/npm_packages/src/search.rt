@@ -2,9 +2,9 @@
 ghost use Rattle.std.specs.Prelude.{◌≡◌, ◌≢◌, ◌<◌, ◌↔◌, ◌++◌, ◌∷◌, ℕ, List, IsTrue, length};
 ghost use Rattle.std.specs.Option.{MatchOption};
 ghost use Rattle.npm_packages.specs.Folders.{IsAbove, IsOutermost, place_in};
-ghost use Rattle.npm_packages.specs.Index.{HasNoSlash};
-ghost use Rattle.npm_packages.specs.Lookups.{IsOutermostFrom, IsReached};
-ghost use Rattle.npm_packages.specs.Private.Search.{BeginsWith, IsFront};
+ghost use Rattle.npm_packages.specs.Index.{HasNoSlash, IsFront};
+ghost use Rattle.npm_packages.specs.Lookups.{IsOutermostFrom};
+ghost use Rattle.npm_packages.specs.Private.Search.{BeginsWith};
 
 use crate::folder::is_up;
 
@@ -45,7 +45,7 @@ pub(crate) fn split_last(path: &str) -> Option<(&str, &str)>
 pub(crate) fn shared<'t>(left: &'t [u8], folder: &[u8]) -> &'t [u8]
     ensures kept { (start : List ℕ) → BeginsWith left.now start → BeginsWith folder.now start
         → length start < length folder.now → length start < length left.now → BeginsWith result.now start }
-    ensures shorter { 0 < length left.now → length result.now < length left.now }
+    ensures common { BeginsWith left.now result.now × BeginsWith folder.now result.now }
 {
     let end = left.len().min(folder.len()).saturating_sub(1);
     let mut same = 0;
@@ -55,16 +55,8 @@ pub(crate) fn shared<'t>(left: &'t [u8], folder: &[u8]) -> &'t [u8]
     &left[..same]
 }
 
-/// Returns `true` if the folder is this one, or above it and not above the outermost one.
-pub(crate) fn is_reached(from: &str, outermost: &str, folder: &str) -> bool
-    requires { IsOutermostFrom from.now outermost.now }
-    ensures { IsTrue result ↔ IsReached from.now folder.now }
-{
-    outermost.len() <= folder.len() && is_front(from, folder)
-}
-
 /// Returns `true` if a path is this one, or begins so before a `/`. Each path begins with the empty one.
-fn is_front(path: &str, front: &str) -> bool
+pub(crate) fn is_front(path: &str, front: &str) -> bool
     ensures { IsTrue result ↔ IsFront path.now front.now }
 {
     match path.strip_prefix(front) {

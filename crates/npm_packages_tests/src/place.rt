@@ -30,31 +30,59 @@ const TEXT: &str =
         {"from": "", "name": "e"},
         {"from": "../x", "name": "a"}]}"#;
 
+// The same where a name is beside the folders above: what comes last before a folder, in the order of bytes, is in another one.
+const MANY: &str =
+    r#"{"lock": {"lockfileVersion": 3, "packages": {"": {}, "node_modules/x": {"version": "1.0.0"},
+    "node_modules/a/node_modules/x": {"version": "1.0.0"}, "node_modules/a-b/node_modules/x": {"version": "1.0.0"},
+    "node_modules/b": {"version": "1.0.0"}, "node_modules/b/node_modules/a/node_modules/x": {"version": "1.0.0"},
+    "node_modules/b/node_modules/a/node_modules/a/node_modules/x": {"version": "1.0.0"},
+    "node_modules/b/node_modules/b/node_modules/a/node_modules/x": {"version": "1.0.0"},
+    "node_modules/b/node_modules/y": {"version": "1.0.0"}, "node_modules/b/node_modules/a/node_modules/y": {"version": "1.0.0"},
+    "../node_modules/x": {"version": "1.0.0"}, "../../p/node_modules/x": {"version": "1.0.0"},
+    "../../p/node_modules/y": {"version": "1.0.0"}, "w/node_modules/y": {"version": "1.0.0"}}},
+    "rows": [
+        {"from": "node_modules/b/node_modules/b/node_modules/b", "name": "x", "found": "node_modules/x", "own": false},
+        {"from": "node_modules/b/node_modules/b/node_modules/b", "name": "y", "found": "node_modules/b/node_modules/y", "own": false},
+        {"from": "node_modules/b/node_modules/b", "name": "y", "found": "node_modules/b/node_modules/y", "own": false},
+        {"from": "node_modules/b", "name": "y", "found": "node_modules/b/node_modules/y", "own": true},
+        {"from": "node_modules/b/node_modules/a/node_modules/b", "name": "x",
+            "found": "node_modules/b/node_modules/a/node_modules/x", "own": false},
+        {"from": "node_modules/a/node_modules/c", "name": "x", "found": "node_modules/a/node_modules/x", "own": false},
+        {"from": "node_modules/a-b", "name": "x", "found": "node_modules/a-b/node_modules/x", "own": true},
+        {"from": "node_modules/a-b-c", "name": "x", "found": "node_modules/x", "own": false},
+        {"from": "node_modules/a-b-c", "name": "y"},
+        {"from": "../q", "name": "x", "found": "../node_modules/x", "own": false},
+        {"from": "../q", "name": "y"},
+        {"from": "w/v", "name": "y", "found": "w/node_modules/y", "own": false},
+        {"from": "v", "name": "y"}]}"#;
+
 #[test]
 fn finds_names_from_folders(rt: HostRuntime) -> Result<(), Fail> {
-    let alloc = rt.alloc();
-    let value = Value::from_str(alloc, TEXT)?;
-    let lock = lock_of(alloc, value.get("lock").ok_or("no lock")?)?;
-    let index = Index::of_lock(lock)?;
-    let rows = value
-        .get("rows")
-        .and_then(Value::as_array)
-        .ok_or("no rows")?;
-    assert!(rt; rows.len() == 9);
-    for row in rows {
-        let from = text(row, "from");
-        match lock.find(&index, from, outermost_of(from), text(row, "name"))? {
-            Some((found, is_own)) => {
-                assert!(rt;
-                    row.get("found").and_then(Value::as_str) == Some(found.folder),
-                    "{row}"
-                );
-                assert!(rt;
-                    row.get("own").and_then(Value::as_bool) == Some(is_own),
-                    "{row}"
-                );
+    for (table, count) in [(TEXT, 9), (MANY, 13)] {
+        let alloc = rt.alloc();
+        let value = Value::from_str(alloc, table)?;
+        let lock = lock_of(alloc, value.get("lock").ok_or("no lock")?)?;
+        let index = Index::of_lock(lock)?;
+        let rows = value
+            .get("rows")
+            .and_then(Value::as_array)
+            .ok_or("no rows")?;
+        assert!(rt; rows.len() == count);
+        for row in rows {
+            let from = text(row, "from");
+            match lock.find(&index, from, outermost_of(from), text(row, "name"))? {
+                Some((found, is_own)) => {
+                    assert!(rt;
+                        row.get("found").and_then(Value::as_str) == Some(found.folder),
+                        "{row}"
+                    );
+                    assert!(rt;
+                        row.get("own").and_then(Value::as_bool) == Some(is_own),
+                        "{row}"
+                    );
+                }
+                None => assert!(rt; row.get("found").is_none(), "{row}"),
             }
-            None => assert!(rt; row.get("found").is_none(), "{row}"),
         }
     }
     Ok(())

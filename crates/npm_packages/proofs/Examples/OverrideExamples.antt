@@ -1,6 +1,6 @@
 -- What the definitions say of `overrides`.
 use Rattle.std.proofs.Common.{◌≡◌, [], true, false, Some, None, codes, refl}
-use Rattle.serde_json.specs.Data.{Data, array, item, member, no_items, no_members, null, object, string}
+use Rattle.serde_json.specs.Data.{Data, array, item, member, no_items, no_members, object, string}
 use Rattle.npm_packages.specs.Asked.{AskedValue}
 use Rattle.npm_packages.specs.Overrides.{changed_by, in_place, name_of, overridden, rule_for, unread}
 

@@ -10,7 +10,7 @@ use Rattle.npm_packages.specs.Folders.{place_in}
 use Rattle.npm_packages.specs.Packages.{IsFoundIn, Package}
 use Rattle.npm_packages.specs.Index.{IsPlain, IsRight, at_place}
 use Rattle.npm_packages.specs.PackageValue.{packages_data}
-use Rattle.npm_packages.proofs.index.Index.of_lock.Given as goal
+use Rattle.npm_packages.proofs.index.places_of.Given as goal
 
 abbrev pub invariant-loop-folder : goal.invariant-loop-folder
 invariant-loop-folder l = record {
@@ -18,9 +18,9 @@ invariant-loop-folder l = record {
   members : (key : List ℕ) (value : Data) → get_member key (members_view l.folder-iterator) ≡ Some value
       → get_member key (members_view l.initial.folder-iterator) ≡ Some value;
   sound : (name folder : List ℕ)
-      → IfSome (at_place l.index name folder) (IsRight (packages_data l.lock) name folder);
+      → IfSome (at_place l.places name folder) (IsRight (packages_data l.lock) name folder);
   complete : (name folder : List ℕ) (found : Package) → IsPlain name
       → IsFoundIn (packages_data l.lock) name folder found
-      → IsSome (at_place l.index name folder)
+      → IsSome (at_place l.places name folder)
       ⊎ IsSome (get_member (place_in folder name) (members_view l.folder-iterator));
 }

@@ -1,7 +1,7 @@
 -- The map has one hit more.
 use Rattle.npm_packages.proofs.Indexing.{same_keys}
 use Rattle.npm_packages.proofs.LastPlaces.{key_of}
-use Rattle.npm_packages.proofs.index.Index.add.Goals as goal
+use Rattle.npm_packages.proofs.index.add.Goals as goal
 
 pub returns : goal.returns
 returns c = λ other folder.

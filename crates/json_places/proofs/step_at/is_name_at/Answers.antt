@@ -3,7 +3,7 @@ use Rattle.std.proofs.Common.{◌≡◌, ◌<◌, ◌∙◌, ◌∷◌, drop, ge
 use Rattle.std.proofs.lemmas.Option.{slice_get_read}
 use Rattle.json.specs.Token as Tokens
 use Rattle.json.specs.Lex.{tokens}
-use Rattle.json_places.proofs.name.is_name_at.Goals as goal
+use Rattle.json_places.proofs.step_at.is_name_at.Goals as goal
 
 pub returns-in-Some-Key : goal.returns-in-Some-Key
 returns-in-Some-Key c = λ equal.

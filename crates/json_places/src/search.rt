@@ -150,9 +150,12 @@ impl Search {
         ensures last { self.new.last ≡ self.old.last }
     {
         match self.open.last_mut() {
-            Some(Open {
-                next: Some(next), ..
-            }) => {
+            Some(
+                Open {
+                    next: Some(next),
+                    ..
+                },
+            ) => {
                 let position = *next;
                 *next = position.saturating_add(1);
                 Some(position)

@@ -46,7 +46,10 @@ fn is_name_at(
 fn is_item_at(scratch: &mut Scratch, text: &str, offset: usize) -> Result<bool, AllocError>
     ensures { IfOk result (λ is_item. is_item ≡ true → IsItemAt text.now offset) }
 {
-    if text.len() <= offset || is_white_space(text.as_bytes()[offset]) || !text.is_char_boundary(offset) {
+    if text.len() <= offset
+        || is_white_space(text.as_bytes()[offset])
+        || !text.is_char_boundary(offset)
+    {
         return Ok(false);
     }
     if !is_after_mark(text.as_bytes(), offset) {

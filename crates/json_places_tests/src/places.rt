@@ -63,7 +63,10 @@ fn finds_items(rt: HostRuntime) -> Result<(), Fail> {
         path_of(alloc, &[list, Step::Item(0)])?,
         path_of(alloc, &[list, Step::Item(0), Step::Item(0)])?,
         path_of(alloc, &[list, Step::Item(1), Step::Item(0)])?,
-        path_of(alloc, &[list, Step::Item(1), Step::Item(1), Step::Member("a")])?,
+        path_of(
+            alloc,
+            &[list, Step::Item(1), Step::Item(1), Step::Member("a")],
+        )?,
         path_of(alloc, &[list, Step::Item(1), Step::Item(2)])?,
         path_of(alloc, &[list, Step::Item(2)])?,
         path_of(alloc, &[Step::Item(0)])?,

@@ -23,7 +23,10 @@ fn shows_a_path(rt: HostRuntime) -> Result<(), Fail> {
     let shown = ShownPlace::of_path(alloc, TEXT, inner)?;
     assert_eq!(rt; (shown.line, shown.column), (2, 3));
     assert_eq!(rt; shown.steps.as_slice()[1], ShownStep::Item(1));
-    assert_eq!(rt; format!(in alloc; "{shown}")?.as_str(), ": \"l\", [1], \"a\\\"\\xc3\\xa9\" (line 2, column 3)");
+    assert_eq!(rt;
+        format!(in alloc; "{shown}")?.as_str(),
+        ": \"l\", [1], \"a\\\"\\xc3\\xa9\" (line 2, column 3)"
+    );
     Ok(())
 }
 
@@ -32,9 +35,15 @@ fn shows_a_path(rt: HostRuntime) -> Result<(), Fail> {
 fn shows_where_the_text_begins(rt: HostRuntime) -> Result<(), Fail> {
     let alloc = rt.alloc();
     let absent = ShownPlace::of_path(alloc, TEXT, path(alloc, &[Step::Item(7)])?)?;
-    assert_eq!(rt; format!(in alloc; "{absent}")?.as_str(), ": [7] (line 1, column 1)");
+    assert_eq!(rt;
+        format!(in alloc; "{absent}")?.as_str(),
+        ": [7] (line 1, column 1)"
+    );
     let whole = ShownPlace::of_path(alloc, TEXT, path(alloc, &[])?)?;
-    assert_eq!(rt; format!(in alloc; "{whole}")?.as_str(), " (line 1, column 1)");
+    assert_eq!(rt;
+        format!(in alloc; "{whole}")?.as_str(),
+        " (line 1, column 1)"
+    );
     assert_eq!(rt; ShownPlace::of_file(alloc), whole);
     Ok(())
 }

@@ -6,7 +6,7 @@ use Rattle.npm_advisories.specs.Faults.{FaultValue}
 use Rattle.npm_advisories.specs.LockFaults.{IsFileFaultBeside}
 use Rattle.npm_packages.specs.Faults.{lock_fault}
 use Rattle.npm_lock_version_one.specs.VersionOne.{any_fault, converted}
-use Rattle.npm_lock_check.specs.Linked.{LinkedValue}
+use Rattle.npm_manifest_files.specs.Linked.{LinkedValue}
 use Rattle.npm_lock_check.specs.Private.Refusals.{AreRefusedAs, IsAuditRefused, IsCheckRefused, IsLockRefused}
 use Rattle.npm_lock_check.specs.Private.Refusals.{IsRefused}
 use Rattle.npm_lock_check.specs.Report.{WantedValue}

@@ -6,9 +6,9 @@ use Rattle.serde_json.specs.Data.{Data}
 use Rattle.npm_lock.specs.FoundWorkspaces.{workspace_problem}
 use Rattle.npm_lock.specs.Outcomes.{ProblemValue, problem_value}
 use Rattle.npm_lock.specs.declared.problem.Problem.{Problem}
-use Rattle.npm_lock_check.specs.Linked.{workspace_value}
+use Rattle.npm_manifest_files.specs.Linked.{workspace_value}
 use Rattle.npm_lock_check.specs.Report.{workspace_problems}
-use Rattle.npm_lock_check.specs.declared.linked.Workspace.{Workspace}
+use Rattle.npm_manifest_files.specs.declared.linked.Workspace.{Workspace}
 
 module _ (lock : Data) (all : List Workspace) (i : ℕ) (one : Workspace) (small : i < length all)
     (is : one ≡ get_or all i one) where

@@ -2,7 +2,6 @@
 use Rattle.std.proofs.Common.{◌≡◌, ◌↔◌, ◌∙◌, ◌++◌, ℕ, ◌+◌, ◌<◌, List, [], ◌∷◌, Option, Some, None, Result, Ok, Err, ap}
 use Rattle.std.proofs.Common.{Bool, append_assoc, drop, get_or, if◌then◌else◌, inl, inr, length, map, refl, sym, true}
 use Rattle.std.proofs.Common.{IfErr, IfOk}
-use denote.Ref.{Bor}
 use Rattle.std.proofs.lemmas.List.{drop_more}
 use Rattle.serde_json.specs.Data.{Data}
 use Rattle.serde_json.specs.View.{view}
@@ -12,16 +11,14 @@ use Rattle.npm_packages.specs.declared.fault.CheckError.{CheckError}
 use Rattle.npm_packages.specs.declared.fault.CheckError.TheVariants.{Refused}
 use Rattle.npm_packages.specs.declared.fault.Fault.{Fault}
 use Rattle.npm_manifests.specs.declared.mismatch.Mismatch.{Mismatch}
-use Rattle.npm_lock_check.specs.Linked.{AreRead, AreReadAfter, LinkedValue, LoadedValue, linked_value, loaded_value}
-use Rattle.npm_lock_check.specs.Linked.{one_more, with_found}
+use Rattle.npm_manifest_files.specs.Linked.{LinkedValue, linked_value, loaded_value}
 use Rattle.npm_lock_check.specs.Output.{linked_fault}
 use Rattle.npm_lock_check.specs.Private.Refusals.{AreLinkedRefused, IsOneRefused}
 use Rattle.npm_lock_check.specs.Report.{AreAllMismatches, AreLeftMismatches, AreLoaded, IsNotLoaded, has_packages}
 use Rattle.npm_lock_check.specs.Report.{is_compared}
-use Rattle.npm_lock_check.specs.declared.linked.Found.{Found}
-use Rattle.npm_lock_check.specs.declared.linked.Linked.{Linked}
-use Rattle.npm_lock_check.specs.declared.linked.Loaded.{Loaded}
-use Rattle.npm_lock_check.specs.declared.run_error.LoadError.{LoadError}
+use Rattle.npm_manifest_files.specs.declared.linked.Linked.{Linked}
+use Rattle.npm_manifest_files.specs.declared.linked.Loaded.{Loaded}
+use Rattle.npm_manifest_files.specs.declared.load_error.LoadError.{LoadError}
 use Rattle.npm_lock_check.specs.declared.run_error.RunError.{RunError}
 
 -- a manifest that is not refused has no fault
@@ -77,28 +74,6 @@ pub left_of : (lock : Data) (manifests : List LinkedValue) (is_ignored : Bool) (
     → has_packages lock ≡ true → AreAllMismatches lock manifests all → list ≡ (if is_ignored then [] else all)
     → AreLeftMismatches lock manifests is_ignored list
 left_of lock manifests is_ignored all list has are is = rw has (all, are, is)
-
--- ---- manifests that are read
-
-module _ (Gives : (folder : List ℕ) → Result Found LoadError → Type 0) (all : List (Bor (List ℕ))) (i : ℕ)
-    (none : Bor (List ℕ)) (small : i < length all) (before : LoadedValue)
-    (held : (after : LoadedValue) → AreReadAfter Gives before (map (λ folder. folder.now) (drop i all)) after
-    → AreRead Gives (map (λ folder. folder.now) all) after) where
-  abbrev one : Bor (List ℕ)
-  one = get_or all i none
-
-  first_left : drop i all ≡ one ∷ drop (i + 1) all
-  first_left = drop_more all i none small
-
-  -- the manifest of one folder more
-  pub found_more : (found : Found) (more : LoadedValue) → Gives one.now (Ok found) → more ≡ with_found one.now found before
-      → (after : LoadedValue) → AreReadAfter Gives more (map (λ folder. folder.now) (drop (i + 1) all)) after
-      → AreRead Gives (map (λ folder. folder.now) all) after
-  found_more found more gives is after later =
-      let left : AreReadAfter Gives before (map (λ folder. folder.now) (drop i all)) after =
-      rw first_left
-      (one_more before one.now (map (λ folder. folder.now) (drop (i + 1) all)) found after gives (rw (← is) later)) in
-      held after left
 
 -- ---- manifests that are loaded
 

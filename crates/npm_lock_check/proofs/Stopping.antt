@@ -7,14 +7,14 @@ use Rattle.serde_json.specs.Data.{Data}
 use Rattle.serde_json.specs.Read.{read}
 use Rattle.serde_json.specs.View.{view}
 use Rattle.serde_json.specs.declared.value.Value.{Value}
-use Rattle.npm_lock_check.specs.Linked.{LinkedValue, LoadedValue}
+use Rattle.npm_manifest_files.specs.Linked.{LinkedValue, LoadedValue}
 use Rattle.command_lines.specs.WatchedValue.{WatchedValue}
 use Rattle.command_lines.specs.Inputs.{IsInput, IsInputText}
 use Rattle.npm_lock_check.specs.Output.{IsRefusedAs, IsStopped, IsUnread}
 use Rattle.npm_lock_check.specs.Private.Refusals.{IsRefused}
 use Rattle.npm_lock_check.specs.Report.{AreLoaded, WantedValue, manifests_of, placed}
-use Rattle.npm_lock_check.specs.declared.linked.Loaded.{Loaded}
-use Rattle.npm_lock_check.specs.declared.run_error.LoadError.{LoadError}
+use Rattle.npm_manifest_files.specs.declared.linked.Loaded.{Loaded}
+use Rattle.npm_manifest_files.specs.declared.load_error.LoadError.{LoadError}
 use Rattle.npm_lock_check.specs.declared.run_error.RunError.{RunError}
 use Rattle.npm_lock_check.specs.declared.run_error.RunError.TheVariants.{Memory, NoAdvisories, NoLinked, NoLockFile}
 use Rattle.npm_lock_check.specs.declared.run_error.RunError.TheVariants.{NoManifest}

@@ -3,9 +3,6 @@
 pub mod Kinds  -- sets of kinds of problems
 pub mod Arguments  -- the arguments
 pub mod NodeVersion  -- the version of Node that an argument names
-pub mod ManifestFile  -- where the manifest of a workspace is
-pub mod WorkspaceName  -- the name of a workspace
-pub mod Linked  -- the manifests of workspaces, and the workspaces on disk
 pub mod Report  -- the report of a lock file
 pub mod Written  -- the output for lock files
 pub mod Subjects  -- the input that an error is about

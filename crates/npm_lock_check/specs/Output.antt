@@ -15,7 +15,7 @@ use Rattle.npm_advisories.specs.Faults.{fault_at}
 use Rattle.npm_advisories.specs.Ids.{IdValue}
 use Rattle.npm_advisories.specs.LockFaults.{IsFileFaultBeside}
 use Rattle.npm_advisories.specs.declared.fault.FaultKind.{FaultKind}
-use Rattle.npm_lock_check.specs.Linked.{LinkedValue, LoadedValue}
+use Rattle.npm_manifest_files.specs.Linked.{LinkedValue, LoadedValue}
 use Rattle.command_lines.specs.Inputs as Inputs
 use Rattle.command_lines.specs.Inputs.{IsInput, IsInputText, IsWholeInput}
 use Rattle.command_lines.specs.WatchedValue.{WatchedValue}
@@ -24,11 +24,11 @@ use Rattle.npm_lock_check.specs.Report.{checked_lock, placed}
 use Rattle.npm_lock_reports.specs.declared.folder_name.FolderName.{FolderName}
 use Rattle.npm_lock_check.specs.Subjects.{id_text}
 use Rattle.npm_lock_check.specs.Written.{IsOutput}
-use Rattle.npm_lock_check.specs.declared.linked.Loaded.{Loaded}
+use Rattle.npm_manifest_files.specs.declared.linked.Loaded.{Loaded}
 use Rattle.npm_lock_check.specs.declared.list_name.ListName.{ListName}
 use Rattle.npm_lock_check.specs.declared.outputs.Output.{Output}
 use Rattle.npm_lock_reports.specs.declared.report.Report.{Report}
-use Rattle.npm_lock_check.specs.declared.run_error.LoadError.{LoadError}
+use Rattle.npm_manifest_files.specs.declared.load_error.LoadError.{LoadError}
 use Rattle.npm_lock_check.specs.declared.run_error.RunError.{RunError}
 use Rattle.npm_lock_check.specs.declared.run_error.RunError.TheVariants.{Input, Memory, NoAdvisories}
 use Rattle.npm_lock_check.specs.declared.run_error.RunError.TheVariants.{NoLinked, NoLockFile, NoManifest}

@@ -26,11 +26,11 @@ use Rattle.npm_advisories.specs.declared.severity.Severity.{Severity}
 use Rattle.npm_lock_reports.specs.Report.{folder_text}
 use Rattle.npm_lock_reports.specs.declared.report.Report.{Report}
 use Rattle.npm_lock_check.specs.Kinds.{has}
-use Rattle.npm_lock_check.specs.Linked.{LinkedValue, LoadedValue, WorkspaceValue, loaded_value, nothing_loaded}
+use Rattle.npm_manifest_files.specs.Linked.{LinkedValue, LoadedValue, WorkspaceValue, loaded_value, nothing_loaded}
 use Rattle.npm_lock_check.specs.declared.format.Format.{Format}
 use Rattle.npm_lock_check.specs.declared.kinds.Kinds.{Kinds}
-use Rattle.npm_lock_check.specs.declared.linked.Loaded.{Loaded}
-use Rattle.npm_lock_check.specs.declared.run_error.LoadError.{LoadError}
+use Rattle.npm_manifest_files.specs.declared.linked.Loaded.{Loaded}
+use Rattle.npm_manifest_files.specs.declared.load_error.LoadError.{LoadError}
 use Rattle.npm_lock_check.specs.declared.wanted.Wanted.{Wanted}
 
 -- The settings of a check: the manifest of the root, whether mismatches count for the status, the advisories, and the least

@@ -26,7 +26,6 @@ checked_input (Errors.Input Inputs.Memory) = None
 checked_input (Errors.Input error) = Some Sources.Lock
 checked_input (Errors.NoLockFile fault) = Some Sources.Lock
 checked_input (Errors.NoManifest fault) = Some Sources.Manifest
-checked_input (Errors.FaultyManifest found) = Some Sources.Manifest
 checked_input (Errors.NoLinked name fault) = None
 checked_input (Errors.NoAdvisories kind name place) = Some Sources.Advisories
 

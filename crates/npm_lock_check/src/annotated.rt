@@ -4,12 +4,13 @@ ghost use Rattle.npm_lock_check.specs.Spots as Spots;
 
 use crate::arguments::Arguments;
 use crate::format::Format;
-use crate::manifest_file::{folder_of, path_of};
-use crate::run_error::{LoadError, RunError, StopError};
+use crate::run_error::{RunError, StopError};
 use crate::subject::{Source, input_of};
 use annotations::{Finding, Level, push_annotation};
 use command_lines::InputError;
 use npm_lock_annotations::AnnotationFormat;
+use npm_lock_faults::FaultPlace;
+use npm_manifest_files::{LoadError, ManifestError, folder_of, path_of};
 use std::alloc::AllocError;
 use std::io::Write;
 
@@ -95,10 +96,10 @@ fn spot_of(error: &StopError) -> Spot
     ensures { result ≡ Spots.spot_of error.now }
 {
     match error {
-        StopError::Check(error) | StopError::Manifest(error) | StopError::Advisories(error) => {
-            run_spot(error)
+        StopError::Check(error) | StopError::Advisories(error) => run_spot(error),
+        StopError::Manifest(error) | StopError::Load(LoadError::Read(_, error)) => {
+            manifest_spot(error)
         }
-        StopError::Load(LoadError::Read(_, error)) => run_spot(error),
         StopError::Load(_) => Spot { line: 1, column: 1 },
     }
 }
@@ -108,14 +109,42 @@ fn run_spot(error: &RunError) -> Spot
     ensures { result ≡ Spots.run_spot error.now }
 {
     match error {
-        RunError::Input(InputError::NoJson(line, column)) => Spot {
+        RunError::Input(error) => input_spot(error),
+        RunError::NoLockFile(found) => spot_at(found),
+        _ => Spot { line: 1, column: 1 },
+    }
+}
+
+/// The same of an error of a manifest.
+fn manifest_spot(error: &ManifestError) -> Spot
+    ensures { result ≡ Spots.manifest_spot error.now }
+{
+    match error {
+        ManifestError::Input(error) => input_spot(error),
+        ManifestError::Faulty(found) => spot_at(found),
+        ManifestError::Memory => Spot { line: 1, column: 1 },
+    }
+}
+
+/// The same of an input that was not read.
+fn input_spot(error: &InputError) -> Spot
+    ensures { result ≡ Spots.input_spot error.now }
+{
+    match error {
+        InputError::NoJson(line, column) => Spot {
             line: *line,
             column: (*column).max(1),
         },
-        RunError::NoLockFile(found) | RunError::FaultyManifest(found) => Spot {
-            line: found.line,
-            column: found.column,
-        },
         _ => Spot { line: 1, column: 1 },
+    }
+}
+
+/// The place of a fault.
+fn spot_at(found: &FaultPlace) -> Spot
+    ensures { result ≡ Spots.spot_at found.now }
+{
+    Spot {
+        line: found.line,
+        column: found.column,
     }
 }

@@ -14,10 +14,8 @@ mod format;
 mod help;
 mod hits;
 mod kinds;
-mod linked;
 mod list_name;
 mod lock_files;
-mod manifest_file;
 mod node;
 mod output;
 mod outputs;
@@ -26,10 +24,8 @@ mod run_error;
 mod status;
 mod subject;
 mod sync;
-mod walk;
 mod wanted;
-mod workspace_name;
-mod workspaces;
+mod workspace_problems;
 mod written;
 
 use annotated::annotate;
@@ -39,12 +35,13 @@ use command_lines::{Quoted, Watched, open_error, read_json, words_of};
 use files::files_of;
 use format::Format;
 use help::{HELP, VERSION};
-use linked::manifests_of;
 use lock_files::run;
-use manifest_file::{folder_of, manifest_in, read_faultless};
 use node::node_of;
 use node_semver::Version;
 use npm_lock_reports::{Report, ReportFormat};
+use npm_manifest_files::{
+    ManifestError, folder_of, manifest_in, manifests_of, read_faultless, with_workspaces,
+};
 use output::checked_in;
 use outputs::Output;
 use program_error::ProgramError;
@@ -56,7 +53,6 @@ use std::io::{IsTerminal, Read};
 use std::process::ExitCode;
 use subject::{lock_subject, subject_of};
 use wanted::Wanted;
-use workspaces::with_workspaces;
 
 /// The arguments, the version of Node that they name, and the format.
 #[derive(Clone, Copy, Drop)]
@@ -242,11 +238,11 @@ fn checked_beside<'f, R: Read + Drop>(
 }
 
 /// Reads the manifest of the root, if there is one.
-fn manifest_at(rt: &HostRuntime, path: Option<&str>) -> Result<Option<Value>, RunError> {
+fn manifest_at(rt: &HostRuntime, path: Option<&str>) -> Result<Option<Value>, ManifestError> {
     let Some(path) = path else {
         return Ok(None);
     };
-    let file = File::open(rt, path).map_err(|error| RunError::Input(open_error(error)))?;
+    let file = File::open(rt, path).map_err(|error| ManifestError::Input(open_error(error)))?;
     read_faultless(rt.alloc(), &mut Watched::new(file)).map(Some)
 }
 

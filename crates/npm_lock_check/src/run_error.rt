@@ -5,6 +5,7 @@ use npm_advisories::FaultKind;
 use npm_lock::Fault;
 use npm_lock_faults::FaultPlace;
 use npm_lock_reports::FolderName;
+use npm_manifest_files::{LoadError, ManifestError};
 use thiserror::Error;
 
 /// Why a lock file was not checked.
@@ -22,9 +23,6 @@ pub enum RunError {
     /// What was read is no lock file.
     #[error("the input is no lock file that is read here: {0}")]
     NoLockFile(FaultPlace),
-    /// The manifest has a fault at this place.
-    #[error("the manifest is not read: {0}")]
-    FaultyManifest(FaultPlace),
     /// The manifest has a fault.
     #[error("the manifest is not read: {0}")]
     NoManifest(Fault),
@@ -36,20 +34,6 @@ pub enum RunError {
     NoAdvisories(FaultKind, ListName, usize),
 }
 
-/// Why the manifest of a workspace, or of another package that a link names, was not read.
-#[derive(Debug, PartialEq, Eq, Drop, Error)]
-pub enum LoadError {
-    /// The manifest in this folder cannot be opened.
-    #[error("{0}/package.json cannot be opened")]
-    Open(FolderName),
-    /// The manifest in this folder was not read.
-    #[error("{0}/package.json: {1}")]
-    Read(FolderName, RunError),
-    /// An allocation failed.
-    #[error("out of memory")]
-    Memory,
-}
-
 /// Why the program stopped.
 #[derive(Debug, PartialEq, Eq, Drop, Error)]
 pub enum StopError {
@@ -58,7 +42,7 @@ pub enum StopError {
     Check(RunError),
     /// The file after `--manifest` was not read.
     #[error("{0}")]
-    Manifest(RunError),
+    Manifest(ManifestError),
     /// The file after `--advisories` was not read.
     #[error("{0}")]
     Advisories(RunError),

@@ -93,7 +93,7 @@ fn checked_input(error: &RunError) -> Option<Source>
     match error {
         RunError::Write | RunError::Memory | RunError::NoLinked(_, _) => None,
         RunError::Input(InputError::Memory) => None,
-        RunError::NoManifest(_) | RunError::FaultyManifest(_) => Some(Source::Manifest),
+        RunError::NoManifest(_) => Some(Source::Manifest),
         RunError::NoAdvisories(_, _, _) => Some(Source::Advisories),
         _ => Some(Source::Lock),
     }

@@ -1,17 +1,18 @@
 //! The manifests of the root and of linked folders, beside a lock file.
 ghost use Rattle.std.specs.Prelude.{◌≡◌, ◌++◌, [], List, None, IfErr, IfOk, OnOk, Some, map, option_map};
+ghost use Rattle.std.specs.Fn.{FnOnceReturnsAt};
 ghost use Rattle.serde_json.specs.View.{view};
 ghost use Rattle.npm_manifests.specs.Mismatches.{AreMismatches, manifest_fault};
-ghost use Rattle.npm_lock_check.specs.Linked.{linked_value};
+ghost use Rattle.npm_manifest_files.specs.Linked.{linked_value, loaded_value};
 ghost use Rattle.npm_lock_check.specs.Private.Refusals.{AreLinkedRefused, IsCompareRefused, IsManifestRefused, IsOneRefused};
-ghost use Rattle.npm_lock_check.specs.Report.{AreAllMismatches, AreLeftMismatches, has_packages, is_compared, manifests_of};
-ghost use Rattle.npm_lock_check.specs.Report.{placed, wanted_value};
+ghost use Rattle.npm_lock_check.specs.Report.{AreAllMismatches, AreLeftMismatches, AreLoaded, IsNotLoaded, has_packages};
+ghost use Rattle.npm_lock_check.specs.Report.{is_compared, manifests_of, placed, wanted_value};
 
-use crate::linked::Linked;
 use crate::run_error::RunError;
 use crate::wanted::Wanted;
 use npm_lock::{CheckError, Fault};
 use npm_lock_reports::FolderName;
+use npm_manifest_files::{Linked, LoadError, Loaded};
 use npm_manifests::{Mismatch, mismatches_of, put_manifest};
 use serde_json::Value;
 use std::alloc::Global;
@@ -28,6 +29,26 @@ pub fn is_compared(lock: &Value, manifest: Option<&Value>) -> bool
     ensures { result ≡ is_compared (view lock.now) (option_map (λ manifest. view manifest.now) manifest.entry) }
 {
     manifest.is_some() && has_packages(lock)
+}
+
+/// Returns what `load` returns for a lock file that is compared with a manifest, and nothing for any other.
+pub fn load_compared<F: FnOnce(&Value) -> Result<Loaded, LoadError>>(
+    alloc: Global,
+    lock: &Value,
+    manifest: Option<&Value>,
+    load: F,
+) -> Result<Loaded, LoadError>
+    requires { F.IsAlwaysCallable load }
+    ensures found { IfOk result (λ made. AreLoaded (FnOnceReturnsAt F.FnOnce load) lock.now
+        (option_map (λ manifest. view manifest.now) manifest.entry) (loaded_value made)) }
+    ensures failed { IfErr result (λ error. IsNotLoaded (FnOnceReturnsAt F.FnOnce load) lock.now
+        (option_map (λ manifest. view manifest.now) manifest.entry) error) }
+{
+    if is_compared(lock, manifest) {
+        load(lock)
+    } else {
+        Ok(Loaded::nothing(alloc))
+    }
 }
 
 /// Compares the manifests and the lock file, and puts each manifest in the place of its package. Returns the mismatches, but not

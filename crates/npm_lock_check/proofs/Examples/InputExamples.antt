@@ -8,8 +8,8 @@ use Rattle.command_lines.specs.Inputs.{IsInput, IsUnread, has_mark}
 use Rattle.command_lines.specs.declared.input_error.InputError.TheVariants.{NoJson, NoUtf8, Read}
 use Rattle.npm_lock_check.specs.Output.{IsStopped}
 use Rattle.npm_lock_check.specs.Report.{WantedValue}
-use Rattle.npm_lock_check.specs.declared.linked.Loaded.{Loaded}
-use Rattle.npm_lock_check.specs.declared.run_error.LoadError.{LoadError}
+use Rattle.npm_manifest_files.specs.declared.linked.Loaded.{Loaded}
+use Rattle.npm_manifest_files.specs.declared.load_error.LoadError.{LoadError}
 use Rattle.npm_lock_check.specs.declared.run_error.RunError.TheVariants.{Input}
 use Rattle.npm_lock_check.specs.declared.run_error.StopError.TheVariants.{Check, Load}
 

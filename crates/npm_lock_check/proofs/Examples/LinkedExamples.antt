@@ -1,18 +1,11 @@
 -- What the definitions say of the manifests of linked folders.
-use Rattle.std.proofs.Common.{◌≡◌, ◌∷◌, ℕ, List, [], None, Result, Ok, Some, codes, refl}
+use Rattle.std.proofs.Common.{◌≡◌, ◌∷◌, ℕ, List, [], None, Some, codes, refl}
 use Rattle.serde_json.specs.Data.{Data, member, no_members, object, string}
-use Rattle.serde_json.specs.View.{view}
-use Rattle.serde_json.specs.declared.value.Value.{Value}
 use Rattle.npm_manifests.specs.ManifestPlace.{as_package}
 use Rattle.npm_packages.specs.declared.fault.Fault.TheVariants as Faults
-use Rattle.npm_lock_check.specs.Linked.{AreRead, LinkedValue, no_folder, one_more}
-use Rattle.npm_lock_check.specs.ManifestFile.{HasNoSlash, IsFolderOf, above, current, path_of}
+use Rattle.npm_manifest_files.specs.Linked.{LinkedValue}
 use Rattle.npm_lock_check.specs.Output.{linked_fault}
 use Rattle.npm_lock_check.specs.Report.{manifests_of, placed}
-use Rattle.npm_lock_check.specs.WorkspaceName.{folder_name, workspace_name}
-use Rattle.npm_lock_check.specs.declared.linked.Found.{Found}
-use Rattle.npm_lock_check.specs.declared.linked.Found.TheVariants.{Manifest, Nothing, Unread}
-use Rattle.npm_lock_check.specs.declared.run_error.LoadError.{LoadError}
 
 abbrev one : (key : List ℕ) → Data → Data
 one key value = object (member key value no_members)
@@ -52,45 +45,3 @@ the_first_fault = refl
 
 pub no_fault : linked_fault (at_w (asks (codes "^1")) ∷ []) ≡ None
 no_fault = refl
-
--- ---- manifests that are read
-
-abbrev v_then_w : List (List ℕ)
-v_then_w = codes "v" ∷ codes "w" ∷ []
-
-module _ (Gives : (folder : List ℕ) → Result Found LoadError → Type 0) (manifest : Value) where
-  -- a manifest that was read counts, and the folder of one that was not read is kept
-  pub all_that_is_found : Gives (codes "v") (Ok Unread) → Gives (codes "w") (Ok (Manifest manifest))
-      → AreRead Gives v_then_w (record { linked = at_w (view manifest) ∷ []; unread = codes "v" ∷ []; workspaces = [] })
-  all_that_is_found v w = one_more _ _ _ _ _ v (one_more _ _ _ _ _ w (no_folder _))
-
-  pub what_is_not_there_is_left_out : Gives (codes "v") (Ok Nothing) → Gives (codes "w") (Ok (Manifest manifest))
-      → AreRead Gives v_then_w (record { linked = at_w (view manifest) ∷ []; unread = []; workspaces = [] })
-  what_is_not_there_is_left_out v w = one_more _ _ _ _ _ v (one_more _ _ _ _ _ w (no_folder _))
-
--- ---- workspaces
-
-pub the_name_of_the_manifest : workspace_name (one (codes "name") (string (codes "renamed"))) (codes "/p/w")
-    ≡ codes "renamed"
-the_name_of_the_manifest = refl
-
-pub an_empty_name_is_that_of_the_folder : workspace_name (one (codes "name") (string [])) (codes "/p/w") ≡ codes "w"
-an_empty_name_is_that_of_the_folder = refl
-
-pub a_scope_is_in_the_name : folder_name (codes "/p/@s/w") ≡ codes "@s/w"
-a_scope_is_in_the_name = refl
-
--- ---- files
-
-pub beside_the_root : path_of (codes "..") (codes "w") ≡ codes "../w/package.json"
-beside_the_root = refl
-
-no_slash : HasNoSlash []
-no_slash [] back is = cc is
-no_slash (x ∷ front) back is = cc is
-
-pub the_folder_of_a_path : IsFolderOf (codes "a/") (codes "a")
-the_folder_of_a_path = above (codes "a") [] refl no_slash
-
-pub the_folder_of_a_name : IsFolderOf [] (codes ".")
-the_folder_of_a_name = current no_slash

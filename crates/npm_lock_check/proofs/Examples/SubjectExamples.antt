@@ -7,7 +7,8 @@ use Rattle.npm_lock_check.specs.Arguments.{ArgumentsValue, nothing_asked}
 use Rattle.command_lines.specs.Shown.{quoted}
 use Rattle.command_lines.specs.declared.input_error.InputError.TheVariants as Inputs
 use Rattle.npm_lock_check.specs.Subjects.{list_words, place_words, subject_of}
-use Rattle.npm_lock_check.specs.declared.run_error.LoadError.TheVariants as Loads
+use Rattle.npm_manifest_files.specs.declared.load_error.LoadError.TheVariants as Loads
+use Rattle.npm_manifest_files.specs.declared.load_error.ManifestError.TheVariants as Manifests
 use Rattle.npm_lock_check.specs.declared.run_error.RunError.TheVariants.{Input, Memory, Write}
 use Rattle.npm_lock_check.specs.declared.run_error.StopError.TheVariants.{Advisories, Check, Load, Manifest}
 
@@ -23,7 +24,7 @@ a_file = refl
 pub standard_input : subject_of asked (codes "-") (Check (Input Inputs.NoUtf8)) ≡ codes "standard input: "
 standard_input = refl
 
-pub a_manifest : subject_of asked (codes "a.json") (Manifest (Input Inputs.NoFile)) ≡ codes "--manifest \"m.json\": "
+pub a_manifest : subject_of asked (codes "a.json") (Manifest (Manifests.Input Inputs.NoFile)) ≡ codes "--manifest \"m.json\": "
 a_manifest = refl
 
 pub advisories : subject_of asked (codes "a.json") (Advisories (Input Inputs.Read)) ≡ codes "--advisories \"v.json\": "

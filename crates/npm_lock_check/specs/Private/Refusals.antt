@@ -9,7 +9,7 @@ use Rattle.npm_packages.specs.declared.fault.Fault.{Fault}
 use Rattle.npm_lock_faults.specs.declared.fault_place.FaultPlace.{FaultPlace}
 use Rattle.npm_advisories.specs.Faults.{FaultValue}
 use Rattle.npm_advisories.specs.declared.fault.FaultKind.{FaultKind}
-use Rattle.npm_lock_check.specs.Linked.{LinkedValue}
+use Rattle.npm_manifest_files.specs.Linked.{LinkedValue}
 use Rattle.npm_lock_check.specs.Output.{AreNoAdvisories, IsNoLinked, IsNoLockFile, IsNoManifest}
 use Rattle.npm_lock_check.specs.Report.{WantedValue}
 use Rattle.npm_lock_check.specs.Subjects.{id_text}

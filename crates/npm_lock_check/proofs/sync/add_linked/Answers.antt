@@ -2,7 +2,7 @@
 use Rattle.std.proofs.Common.{◌≡◌, ◌∙◌, ◌++◌, [], append-nil, drop, map, refl, rules, sym}
 use Rattle.std.proofs.lemmas.List.{drop_all}
 use Rattle.serde_json.specs.View.{view}
-use Rattle.npm_lock_check.specs.Linked.{linked_value}
+use Rattle.npm_manifest_files.specs.Linked.{linked_value}
 use Rattle.npm_lock_check.specs.Report.{AreAllMismatches}
 use Rattle.npm_lock_check.proofs.LinkedManifests.{fault_passed, first_refused, mismatches_more}
 use Rattle.npm_lock_check.proofs.sync.add_linked.Goals as goal

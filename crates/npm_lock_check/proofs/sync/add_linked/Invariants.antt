@@ -2,7 +2,7 @@
 use Rattle.std.proofs.Common.{◌≡◌, ◌++◌, List, drop, map}
 use Rattle.serde_json.specs.View.{view}
 use Rattle.npm_manifests.specs.declared.mismatch.Mismatch.{Mismatch}
-use Rattle.npm_lock_check.specs.Linked.{linked_value}
+use Rattle.npm_manifest_files.specs.Linked.{linked_value}
 use Rattle.npm_lock_check.specs.Output.{linked_fault}
 use Rattle.npm_lock_check.specs.Report.{AreAllMismatches}
 use Rattle.npm_lock_check.proofs.sync.add_linked.Given as goal

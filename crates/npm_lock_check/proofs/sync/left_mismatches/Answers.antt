@@ -1,7 +1,7 @@
 -- The mismatches of the root, and then those of linked folders.
 use Rattle.std.proofs.Common.{◌≡◌, ◌∙◌, [], Some, if◌then◌else◌, map, refl, sym, true}
 use Rattle.serde_json.specs.View.{view}
-use Rattle.npm_lock_check.specs.Linked.{linked_value}
+use Rattle.npm_manifest_files.specs.Linked.{linked_value}
 use Rattle.npm_lock_check.specs.Report.{has_packages, manifests_of}
 use Rattle.npm_lock_check.proofs.LinkedManifests.{left_of}
 use Rattle.npm_lock_check.proofs.sync.left_mismatches.Goals as goal

@@ -1,7 +1,7 @@
 -- The manifests that are left make of the lock file what all make of the first one.
 use Rattle.std.proofs.Common.{◌≡◌, map}
 use Rattle.serde_json.specs.View.{view}
-use Rattle.npm_lock_check.specs.Linked.{linked_value}
+use Rattle.npm_manifest_files.specs.Linked.{linked_value}
 use Rattle.npm_lock_check.specs.Report.{placed}
 use Rattle.npm_lock_check.proofs.sync.place.Given as goal
 

@@ -1,0 +1,4 @@
+pub mod Examples
+pub mod FileFolders
+pub mod PathParts
+pub mod ReadManifests

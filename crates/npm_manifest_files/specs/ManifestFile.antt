@@ -1,0 +1,51 @@
+-- Where the manifest of a workspace is, beside that of the root, and why it was not read.
+use Rattle.std.specs.Prelude.{◌≡◌, ◌≢◌, ◌⊎◌, ◌++◌, ℕ, List, Option, Result, Ok, Err, codes, string_bytes}
+use Rattle.std.specs.declared.io.ErrorKind.{ErrorKind}
+use Rattle.std.specs.declared.io.ErrorKind.TheVariants.{NotFound}
+use Rattle.serde_json.specs.Data.{Data}
+use Rattle.command_lines.specs.Inputs.{IsInputText}
+use Rattle.command_lines.specs.WatchedValue.{WatchedValue}
+use Rattle.npm_lock_faults.specs.FaultPlaces.{IsManifestFaultPlace, fault_place_value}
+use Rattle.npm_lock_faults.specs.declared.fault_place.FaultPlace.{FaultPlace}
+use Rattle.npm_lock_reports.specs.declared.folder_name.FolderName.{FolderName}
+use Rattle.npm_manifest_files.specs.declared.linked.Found.{Found}
+use Rattle.npm_manifest_files.specs.declared.linked.Found.TheVariants.{Nothing}
+use Rattle.npm_manifest_files.specs.declared.load_error.LoadError.{LoadError}
+use Rattle.npm_manifest_files.specs.declared.load_error.LoadError.TheVariants.{Memory, Open, Read}
+use Rattle.npm_manifest_files.specs.declared.load_error.ManifestError.{ManifestError}
+
+-- a name, and no path
+abbrev pub HasNoSlash : (name : List ℕ) → Type 0
+HasNoSlash name = (front back : List ℕ) → name ≢ front ++ (codes "/" ++ back)
+
+-- the folder of a file: `a` of `a/package.json`, the empty one of `/package.json`, and `.` of `package.json`
+pub data IsFolderOf (path : List ℕ) : (folder : List ℕ) → Type 0 where
+  above : (folder name : List ℕ) → path ≡ folder ++ (codes "/" ++ name) → HasNoSlash name → IsFolderOf path folder
+  current : HasNoSlash path → IsFolderOf path (codes ".")
+
+-- the manifest of the package in a folder, which is inside another
+abbrev pub path_of : (outer folder : List ℕ) → List ℕ
+path_of outer folder = outer ++ (codes "/" ++ (folder ++ codes "/package.json"))
+
+-- a manifest was read, and it has a fault at this place of its text
+pub record IsFaultyInput {R : Type 0} (remaining : R → Option (List ℕ)) (old new : WatchedValue R) (found : FaultPlace)
+    : Type 0 where
+  pub manifest : Data
+  pub text : List ℕ
+  pub input : IsInputText remaining old new text manifest
+  pub place : IsManifestFaultPlace text manifest (fault_place_value found)
+
+-- the error of a file in this folder that was not opened
+abbrev pub IsNotOpened : (folder : List ℕ) → LoadError → Type 0
+IsNotOpened folder result =
+    ((name : FolderName) × (string_bytes name.text ≡ folder) × (result ≡ Open name)) ⊎ (result ≡ Memory)
+
+-- the result for a file that was not opened for this reason: nothing if it is not there
+abbrev pub IsNoFile : (folder : List ℕ) → ErrorKind → Result Found LoadError → Type 0
+IsNoFile folder kind result = ((kind ≡ NotFound) × (result ≡ Ok Nothing))
+    ⊎ ((kind ≢ NotFound) × (error : LoadError) × IsNotOpened folder error × (result ≡ Err error))
+
+-- the error of a file in this folder that was not read
+abbrev pub IsNotRead : (folder : List ℕ) → ManifestError → LoadError → Type 0
+IsNotRead folder error result =
+    ((name : FolderName) × (string_bytes name.text ≡ folder) × (result ≡ Read name error)) ⊎ (result ≡ Memory)

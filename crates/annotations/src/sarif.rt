@@ -7,7 +7,8 @@ use crate::escapes::{push_json, push_number, push_uri};
 use crate::finding::{Finding, Rule, Tool};
 use std::alloc::AllocError;
 
-/// Adds the log of a checker and its findings: one JSON text, and a newline byte.
+/// Adds the log of a checker and its findings: one JSON text, and a newline byte. The log says whether the run was successful. It was
+/// if everything was checked, also if something was found.
 ///
 /// # Errors
 ///
@@ -16,9 +17,10 @@ pub fn push_log(
     out: &mut Vec<u8>,
     tool: Tool<'_>,
     findings: &[Finding<'_>],
+    is_successful: bool,
 ) -> Result<(), AllocError>
     ensures { OnOk result (out.new.items
-        ≡ out.old.items ++ Sarif.log (tool_value tool.entry) (map finding_value findings.now)) }
+        ≡ out.old.items ++ Sarif.log (tool_value tool.entry) (map finding_value findings.now) is_successful) }
 {
     out.extend_from_slice(
         b"{\"$schema\":\"https://json.schemastore.org/sarif-2.1.0.json\",\"version\":\"2.1.0\",",
@@ -29,9 +31,18 @@ pub fn push_log(
     push_json(out, tool.version.as_bytes())?;
     out.extend_from_slice(b",\"rules\":[")?;
     push_rules(out, tool.rules)?;
-    out.extend_from_slice(b"]}},\"columnKind\":\"unicodeCodePoints\",\"results\":[")?;
+    out.extend_from_slice(b"]}},\"invocations\":[{\"executionSuccessful\":")?;
+    out.extend_from_slice(word_of(is_successful).as_bytes())?;
+    out.extend_from_slice(b"}],\"columnKind\":\"unicodeCodePoints\",\"results\":[")?;
     push_results(out, findings)?;
     out.extend_from_slice(b"]}]}\n")
+}
+
+/// Returns JSON's word for a truth value.
+fn word_of(value: bool) -> &'static str
+    ensures { result.now ≡ Sarif.word_of value }
+{
+    if value { "true" } else { "false" }
 }
 
 /// Adds the rules, with a comma between two.

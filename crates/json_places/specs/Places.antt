@@ -44,10 +44,13 @@ pub record IsNameAt (text : List ℕ) (offset : ℕ) (name : List ℕ) : Type 0 
 abbrev pub is_white_space : (byte : ℕ) → Bool
 is_white_space byte = (byte == 32) || (byte == 9) || (byte == 10) || (byte == 13)
 
+-- the byte is `[` or a comma
+abbrev pub is_mark : (byte : ℕ) → Bool
+is_mark byte = (byte == 91) || (byte == 44)
+
 -- before this offset stand `[` or a comma, and white space after it or none
 pub data IsAfterMark (text : List ℕ) : (offset : ℕ) → Type 0 where
-  bracket : (offset : ℕ) → slice_get text offset ≡ Some 91 → IsAfterMark text (offset + 1)
-  comma : (offset : ℕ) → slice_get text offset ≡ Some 44 → IsAfterMark text (offset + 1)
+  marked : (offset byte : ℕ) → slice_get text offset ≡ Some byte → is_mark byte ≡ true → IsAfterMark text (offset + 1)
   spaced : (offset byte : ℕ) → slice_get text offset ≡ Some byte → is_white_space byte ≡ true → IsAfterMark text offset
       → IsAfterMark text (offset + 1)
 
@@ -67,7 +70,7 @@ pub record IsItemAt (text : List ℕ) (offset : ℕ) : Type 0 where
   pub byte : ℕ
   pub there : slice_get text offset ≡ Some byte
   pub solid : is_white_space byte ≡ false
-  pub marked : IsAfterMark text offset
+  pub listed : IsAfterMark text offset
   pub first : Tokens.Token
   pub rest : List Tokens.Token
   pub reads : tokens (drop offset text) ≡ first ∷ rest

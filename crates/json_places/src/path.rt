@@ -72,7 +72,7 @@ pub(crate) fn compared(path: &Path<'_>, depth: usize, step: Step<'_>) -> Orderin
 
 /// Whether this is the same step. It is never so of a member and an item.
 pub(crate) fn is_same_step(one: Step<'_>, other: Step<'_>) -> bool
-    ensures { result ≡ true → step_value one ≡ step_value other }
+    ensures { result ≡ true → step_value one.entry ≡ step_value other.entry }
 {
     match (one, other) {
         (Step::Member(one), Step::Member(other)) => one == other,

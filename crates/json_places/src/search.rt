@@ -243,7 +243,7 @@ fn nothing_found(alloc: Global, paths: &[Path<'_>]) -> Result<Vec<Option<Place>>
 
 /// Whether the path at this index has so many steps, and this one last.
 fn ends_with(paths: &[Path<'_>], index: usize, depth: usize, step: Step<'_>) -> bool
-    ensures { result ≡ true → IsLastStep paths.now index (step_value step) }
+    ensures { result ≡ true → IsLastStep paths.now index (step_value step.entry) }
 {
     match paths.get(index) {
         Some(path) => path.steps.len() == depth && is_last(path, step),
@@ -253,7 +253,7 @@ fn ends_with(paths: &[Path<'_>], index: usize, depth: usize, step: Step<'_>) -> 
 
 /// Whether this is the last step of a path.
 fn is_last(path: &Path<'_>, step: Step<'_>) -> bool
-    ensures { result ≡ true → last_step (steps_seen path.now.steps.items) ≡ Some (step_value step) }
+    ensures { result ≡ true → last_step (steps_seen path.now.steps.items) ≡ Some (step_value step.entry) }
 {
     match path.steps.last() {
         Some(last) => is_same_step(*last, step),

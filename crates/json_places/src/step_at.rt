@@ -1,7 +1,8 @@
 //! What a step leads to, at an offset.
 ghost use Rattle.std.specs.Prelude.{◌≡◌, ◌≤◌, IfOk, length, true};
 ghost use Rattle.json.specs.Reads.{token_of};
-ghost use Rattle.json_places.specs.Places.{IsAfterMark, IsItemAt, IsNameAt, IsStepAt, begins_value, is_white_space};
+ghost use Rattle.json_places.specs.Places.{IsAfterMark, IsItemAt, IsNameAt, IsStepAt, begins_value, is_mark};
+ghost use Rattle.json_places.specs.Places.{is_white_space};
 ghost use Rattle.json_places.specs.Steps.{step_value};
 
 use crate::path::Step;
@@ -15,7 +16,7 @@ pub fn is_step_at(
     offset: usize,
     step: Step<'_>,
 ) -> Result<bool, AllocError>
-    ensures { IfOk result (λ is. is ≡ true → IsStepAt text.now offset (step_value step)) }
+    ensures { IfOk result (λ is. is ≡ true → IsStepAt text.now offset (step_value step.entry)) }
 {
     match step {
         Step::Member(name) => is_name_at(scratch, text, offset, name),
@@ -64,7 +65,7 @@ fn is_item_at(scratch: &mut Scratch, text: &str, offset: usize) -> Result<bool, 
 
 /// Returns whether a value begins with this token.
 fn begins_value(token: Token<'_>) -> bool
-    ensures { result ≡ begins_value (token_of token) }
+    ensures { result ≡ begins_value (token_of token.entry) }
 {
     match token {
         Token::BeginObject
@@ -85,7 +86,7 @@ fn is_after_mark(text: &[u8], offset: usize) -> bool
     let mut at = offset;
     while 0 < at {
         let byte = text[at - 1];
-        if byte == b'[' || byte == b',' {
+        if is_mark(byte) {
             return true;
         }
         if !is_white_space(byte) {
@@ -94,6 +95,13 @@ fn is_after_mark(text: &[u8], offset: usize) -> bool
         at -= 1;
     }
     false
+}
+
+/// Returns whether a byte is `[` or a comma.
+fn is_mark(byte: u8) -> bool
+    ensures { result ≡ is_mark byte }
+{
+    byte == b'[' || byte == b','
 }
 
 /// Returns whether a byte is JSON's white space.

@@ -4,8 +4,7 @@ use Rattle.std.specs.Prelude.{codes, is_some, option_and_then}
 use Rattle.std.specs.Option.{option_map_or}
 use Rattle.serde_json.specs.Data.{Data, Items, item, no_items}
 use Rattle.serde_json.specs.Find.{as_array, at, get}
-use Rattle.json_places.specs.Steps.{StepValue, steps_seen, to_item, to_member}
-use Rattle.json_places.specs.declared.path.Step.{Step}
+use Rattle.json_places.specs.Steps.{StepValue, to_item, to_member}
 use Rattle.npm_advisories.specs.Audit.{InstalledValue, names_of}
 use Rattle.npm_advisories.specs.Faults.{FaultValue}
 use Rattle.npm_advisories.specs.Files.{is_among, is_osv}
@@ -92,6 +91,6 @@ AreFaultSteps names file fault steps = (is_version : List ℕ → Bool) → IsVe
     → steps ≡ fault_steps is_version (is_among names) file fault
 
 -- the same, where the packages of this lock file are installed
-abbrev pub AreFaultStepsBeside : (lock file : Data) → FaultValue → List Step → Type 0
+abbrev pub AreFaultStepsBeside : (lock file : Data) → FaultValue → List StepValue → Type 0
 AreFaultStepsBeside lock file fault steps = (installed : List InstalledValue) × AreInstalledOf lock installed
-    × AreFaultSteps (names_of installed) file fault (steps_seen steps)
+    × AreFaultSteps (names_of installed) file fault steps

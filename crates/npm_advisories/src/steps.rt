@@ -41,7 +41,7 @@ pub fn fault_steps<'f>(
     fault: Fault<'f>,
 ) -> Result<Vec<Step<'f>>, LockError<'f>>
     ensures found { IfOk result (λ steps. AreFaultStepsBeside (view lock.now) (view file.now) (fault_value fault.entry)
-        steps.items) }
+        (steps_seen steps.items)) }
     ensures refused { IfErr result (IsLockError (view lock.now) (view file.now)) }
 {
     let installed = match installed_in(alloc, lock) {

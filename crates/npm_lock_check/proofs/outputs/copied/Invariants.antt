@@ -1,7 +1,7 @@
 -- The lines and the findings so far, and those that are left, are all.
 use Rattle.std.proofs.Common.{◌≡◌, ◌++◌}
 use Rattle.std.specs.List.{flat_map}
-use Rattle.npm_lock_check.proofs.outputs.joined.Given as goal
+use Rattle.npm_lock_check.proofs.outputs.copied.Given as goal
 
 abbrev pub invariant-loop-output : goal.invariant-loop-output
 invariant-loop-output l = record {

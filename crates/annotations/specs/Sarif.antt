@@ -35,12 +35,15 @@ listed text (one ∷ others) = text one ++ after_comma text others
 abbrev pub word_of : Bool → List ℕ
 word_of value = if value then codes "true" else codes "false"
 
--- The log: section 3.13, "sarifLog object", with one run, section 3.14. It says whether the run was successful, section 3.20.14,
--- and that columns count characters, section 3.14.17.
+-- what stands between the rules and the results of a run: whether it was successful, section 3.20.14, "executionSuccessful
+-- property", and that columns count characters, section 3.14.17
+abbrev pub run_text : (is_successful : Bool) → List ℕ
+run_text is_successful = codes "]}},\"invocations\":[{\"executionSuccessful\":" ++ (word_of is_successful
+    ++ codes "}],\"columnKind\":\"unicodeCodePoints\",\"results\":[")
+
+-- the log: section 3.13, "sarifLog object", with one run, section 3.14
 abbrev pub log : ToolValue → List FindingValue → (is_successful : Bool) → List ℕ
 log tool findings is_successful = codes "{\"$schema\":\"https://json.schemastore.org/sarif-2.1.0.json\",\"version\":\"2.1.0\","
     ++ (codes "\"runs\":[{\"tool\":{\"driver\":{\"name\":" ++ (json_string tool.name ++ (codes ",\"version\":"
     ++ (json_string tool.version ++ (codes ",\"rules\":[" ++ (listed rule_text tool.rules
-    ++ (codes "]}},\"invocations\":[{\"executionSuccessful\":" ++ (word_of is_successful
-    ++ (codes "}],\"columnKind\":\"unicodeCodePoints\",\"results\":[" ++ (listed result_text findings
-    ++ codes "]}]}\n"))))))))))
+    ++ (run_text is_successful ++ (listed result_text findings ++ codes "]}]}\n"))))))))

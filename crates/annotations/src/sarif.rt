@@ -31,18 +31,20 @@ pub fn push_log(
     push_json(out, tool.version.as_bytes())?;
     out.extend_from_slice(b",\"rules\":[")?;
     push_rules(out, tool.rules)?;
-    out.extend_from_slice(b"]}},\"invocations\":[{\"executionSuccessful\":")?;
-    out.extend_from_slice(word_of(is_successful).as_bytes())?;
-    out.extend_from_slice(b"}],\"columnKind\":\"unicodeCodePoints\",\"results\":[")?;
+    out.extend_from_slice(run_text(is_successful).as_bytes())?;
     push_results(out, findings)?;
     out.extend_from_slice(b"]}]}\n")
 }
 
-/// Returns JSON's word for a truth value.
-fn word_of(value: bool) -> &'static str
-    ensures { result.now ≡ Sarif.word_of value }
+/// Returns what stands between the rules and the results of a run.
+fn run_text(is_successful: bool) -> &'static str
+    ensures { result.now ≡ Sarif.run_text is_successful }
 {
-    if value { "true" } else { "false" }
+    if is_successful {
+        "]}},\"invocations\":[{\"executionSuccessful\":true}],\"columnKind\":\"unicodeCodePoints\",\"results\":["
+    } else {
+        "]}},\"invocations\":[{\"executionSuccessful\":false}],\"columnKind\":\"unicodeCodePoints\",\"results\":["
+    }
 }
 
 /// Adds the rules, with a comma between two.

@@ -64,7 +64,6 @@ THROUGH = {
     "Problem::to_json": "npm_lock::check",
     "Unchecked::to_json": "npm_lock::check",
     "npm_advisories::audit": "npm_advisories::audit_lock",
-    "npm_advisories::fault_steps": "npm_lock_check on refused advisories",
     "Found::to_json": "npm_advisories::audit_lock",
 }
 

@@ -48,5 +48,6 @@ fn path_of<'n>(
     ensures { IfOk result (IsPathOf drafts.now) }
 {
     let draft = &drafts[subject];
-    Path::of_members(alloc, &draft.paths[rank], subject, rank)
+    let path = Path::of_members(alloc, &draft.paths[rank], subject, rank)?;
+    Ok(path)
 }

@@ -84,18 +84,18 @@ pub record FileSpot : Type 0 where
 abbrev pub place_of : RefusalValue → FileSpot
 place_of refusal = record { file = refusal.file; spot = refusal.spot }
 
+-- an input, as the command line names it
+abbrev pub file_of : ArgumentsValue → (lock_file : List ℕ) → Source → Option (List ℕ)
+file_of asked lock_file Sources.Lock = Some lock_file
+file_of asked lock_file Sources.Manifest = asked.manifest
+file_of asked lock_file Sources.Advisories = asked.advisories
+
 -- `outer` is the folder of the root's manifest
 module _ (asked : ArgumentsValue) (outer : List ℕ) where
-  -- an input, as the command line names it
-  abbrev pub file_of : (lock_file : List ℕ) → Source → Option (List ℕ)
-  file_of lock_file Sources.Lock = Some lock_file
-  file_of lock_file Sources.Manifest = asked.manifest
-  file_of lock_file Sources.Advisories = asked.advisories
-
   -- the file that an error of the check of a lock file is about: a manifest in a folder inside that of the root's, or an input
   abbrev pub refused_file : (lock_file : List ℕ) → StopError → Option (List ℕ)
   refused_file lock_file error = option_map_or (λ folder. Some (path_of outer folder))
-      (folder_in error) (option_and_then (file_of lock_file) (input_of error))
+      (folder_in error) (option_and_then (file_of asked lock_file) (input_of error))
 
   -- the place in it, if there is such a file
   abbrev pub refused_by : (lock_file : List ℕ) → StopError → List FileSpot

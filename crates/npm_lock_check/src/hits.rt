@@ -36,7 +36,13 @@ pub fn hits_of<'f, 'v>(
     match audit_lock(alloc, file, wanted.level, lock) {
         Ok(found) => Ok(found),
         Err(LockError::Lock(fault)) => Err(RunError::NoLockFile(FaultPlace::of_file(alloc, fault))),
-        Err(LockError::Advisories(fault)) => Err(no_advisories(alloc, file, wanted.advisories_text, lock, fault)),
+        Err(LockError::Advisories(fault)) => Err(no_advisories(
+            alloc,
+            file,
+            wanted.advisories_text,
+            lock,
+            fault,
+        )),
         Err(LockError::Memory) => Err(RunError::Memory),
     }
 }

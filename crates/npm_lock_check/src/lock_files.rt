@@ -90,8 +90,16 @@ pub fn stop_text(
         writing.entry.outer.now error.now text.items) }
 {
     let mut refusals = Vec::new(alloc);
-    push_refusal(alloc, &mut refusals, writing.asked, writing.outer, "-", error)?;
-    text_of(alloc, writing.format, Vec::new(alloc), &refusals, false)
+    push_refusal(
+        alloc,
+        &mut refusals,
+        writing.asked,
+        writing.outer,
+        "-",
+        error,
+    )?;
+    let text = text_of(alloc, writing.format, Vec::new(alloc), &refusals, false)?;
+    Ok(text)
 }
 
 /// Returns the text that is written for lock files with these outcomes and outputs.
@@ -106,7 +114,9 @@ fn run_text(
         writing.entry.outer.now (map (λ file. file.now) files.now) outcomes.now outputs.entry.items text.items) }
 {
     let refusals = refusals_of(alloc, writing.asked, writing.outer, files, outcomes)?;
-    text_of(alloc, writing.format, outputs, &refusals, is_complete(outcomes))
+    let is_complete = is_complete(outcomes);
+    let text = text_of(alloc, writing.format, outputs, &refusals, is_complete)?;
+    Ok(text)
 }
 
 /// Returns `true` if every lock file was checked.

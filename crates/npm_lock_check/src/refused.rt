@@ -1,5 +1,5 @@
 //! The files that were refused: which file each is, the message, and where in the file it belongs.
-ghost use Rattle.std.specs.Prelude.{◌≡◌, ◌++◌, ℕ, IfOk, List, OnOk, map, option_and_then, option_map, string_bytes};
+ghost use Rattle.std.specs.Prelude.{◌≡◌, ◌++◌, IfOk, OnOk, map, option_and_then, option_map, string_bytes};
 ghost use Rattle.annotations.specs.Findings.{finding_value};
 ghost use Rattle.npm_lock_check.specs.Arguments.{arguments_value};
 ghost use Rattle.npm_lock_check.specs.Refused as Refused;
@@ -148,12 +148,7 @@ fn finding_of<'f>(alloc: Global, refusal: &'f Refusal) -> Result<Finding<'f>, Al
 {
     let message = Vec::from_slice(alloc, &refusal.message)?;
     let spot = refusal.spot;
-    Ok(refused_finding(
-        message,
-        refusal.file.as_str(),
-        spot.line,
-        spot.column,
-    ))
+    Ok(refused_finding(message, refusal.file.as_str(), spot.line, spot.column))
 }
 
 /// The path of the file that an error is about, if it is about one.
@@ -168,12 +163,14 @@ fn refused_file(
         ≡ Refused.refused_file (arguments_value asked.entry) outer.now file.now error.now) }
 {
     if let Some(folder) = folder_in(error) {
-        return path_of(alloc, outer, folder.text.as_str()).map(Some);
+        let path = path_of(alloc, outer, folder.text.as_str())?;
+        return Ok(Some(path));
     }
-    match file_of(asked, file, error) {
-        Some(file) => String::from_str(alloc, file).map(Some),
-        None => Ok(None),
-    }
+    let Some(file) = file_of(asked, file, error) else {
+        return Ok(None);
+    };
+    let path = String::from_str(alloc, file)?;
+    Ok(Some(path))
 }
 
 /// The folder of the manifest that an error is about, if it is about one that a link names.
@@ -188,8 +185,8 @@ fn folder_in(error: &StopError) -> Option<&FolderName>
 
 /// The file that the error is about, as the command line names it: `-` is standard input.
 fn file_of<'a>(asked: Arguments<'a>, lock_file: &'a str, error: &StopError) -> Option<&'a str>
-    ensures { (outer : List ℕ) → option_map (λ file. file.now) result
-        ≡ option_and_then (Refused.file_of (arguments_value asked.entry) outer lock_file.now) (input_of error.now) }
+    ensures { option_map (λ file. file.now) result
+        ≡ option_and_then (Refused.file_of (arguments_value asked.entry) lock_file.now) (input_of error.now) }
 {
     match input_of(error)? {
         Source::Lock => Some(lock_file),

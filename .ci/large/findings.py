@@ -9,6 +9,7 @@ RULES = {
     "mismatch": ("warning", "A manifest and the lock file do not ask for the same."),
     "advisory": ("error", "A security advisory hits an installed package."),
     "unchecked": ("note", "A dependency is not checked, or a manifest was not read."),
+    "refused": ("error", "A file is not read, or has a fault."),
 }
 COMMANDS = {"error": "error", "warning": "warning", "note": "notice"}
 
@@ -85,6 +86,6 @@ def sarif(lock, findings):
         "locations": [{"physicalLocation": {"artifactLocation": {"uri": "-"}, "region": {"startLine": 1, "startColumn": one.column(known)}}}],
     } for one in findings]
     driver = {"name": "npm_lock_check", "version": "1.0.0", "rules": rules}
-    run = {"tool": {"driver": driver}, "columnKind": "unicodeCodePoints", "results": results}
+    run = {"tool": {"driver": driver}, "invocations": [{"executionSuccessful": True}], "columnKind": "unicodeCodePoints", "results": results}
     log = {"$schema": "https://json.schemastore.org/sarif-2.1.0.json", "version": "2.1.0", "runs": [run]}
     return json.dumps(log, separators=(",", ":"))

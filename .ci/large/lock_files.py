@@ -272,9 +272,24 @@ def osv_audits():
     yield others, one, "info", hit([osv_told(MANY)], f"{MANY + 1}.0.0")
 
 
+def refused_advisories():
+    """Advisories of which the last has a fault, and the steps to it."""
+    sound = [advisory(number, "<2.0.0") for number in range(MANY)]
+    yield {"d": [*sound, advisory(MANY, "?")]}, ["d", MANY, "vulnerable_versions"]
+    events = [{"introduced": f"{number}.0.0"} for number in range(MANY)]
+    ranges = [semver(events)] * 4 + [semver([*events, {"fixed": "1"}])]
+    elements = [{"package": {"ecosystem": "npm", "name": name}} for name in NAMES]
+    elements.append({"package": {"ecosystem": "npm", "name": "d"}, "ranges": ranges})
+    others = [osv(number, "e") for number in range(MANY)]
+    yield [*others, {**osv(1, "d"), "affected": elements}], [MANY, "affected", len(NAMES), "ranges", 4, "events", MANY]
+
+
 def audit_rows():
     for advisories, lock, level, hits in [*audits(), *osv_audits()]:
         yield "npm_advisories::audit_lock", [text_of(advisories), text_of(lock), level], listed(hits)
+    one = lock_of({"dependencies": {"d": "*"}}, {"node_modules/d": {"version": "1.0.0"}})
+    for advisories, steps in refused_advisories():
+        yield "npm_advisories::fault_steps", [text_of(advisories), text_of(one)], "".join(f"{step}\t" for step in steps)
     packages = at_root("1.0.0", dependencies={"d": "^1"})
     lock = lock_of({}, {**packages, "node_modules/d": {"version": "1.0.0"}})
     yield "Dependents::of_lock", [text_of(lock), "", "node_modules/d"], "^1\t" * MANY

@@ -13,7 +13,7 @@ from crates import CRATES, is_program, listed
 # Libraries that no user calls, and those of which runs of npm_lock_check and npm_pick_command make each call.
 SCRIPTS = {"memory_trials": "makes the calls", "node_semver_callers": "examples",
            "json_places": "runs with --format github and sarif", "annotations": "runs with --format github and sarif",
-           "json_findings": "runs with --format github and sarif",
+           "json_findings": "runs with --format github and sarif", "shown_places": "runs on files that are refused",
            "npm_lock_annotations": "runs with --format github and sarif, with each kind of finding",
            "command_lines": "all runs", "npm_lock_sentences": "runs with --format text",
            "npm_lock_faults": "runs on lock files and manifests with faults", "npm_lock_reports": "all runs",

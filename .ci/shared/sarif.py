@@ -26,6 +26,7 @@ SCHEMA = os.path.join(os.path.dirname(os.path.abspath(__file__)), "sarif.schema.
 INSIDE = {
     ("SarifLog", "runs"): "Run",
     ("Run", "tool"): "Tool",
+    ("Run", "invocations"): "Invocation",
     ("Run", "results"): "Result",
     ("Tool", "driver"): "ToolComponent",
     ("ToolComponent", "rules"): "ReportingDescriptor",
@@ -121,6 +122,7 @@ MADE_UP = {
     "runs": [{
         "tool": {"driver": {"name": "checker", "version": "1.0.0", "rules": [
             {"id": "invalid", "shortDescription": {"text": "a version outside"}, "defaultConfiguration": {"level": "error"}}]}},
+        "invocations": [{"executionSuccessful": False}],
         "columnKind": "unicodeCodePoints",
         "results": [{
             "ruleId": "invalid", "ruleIndex": 0, "level": "error", "message": {"text": "b 1.0.0 is outside"},
@@ -142,6 +144,10 @@ CHANGES = [
     (("runs", 0, "tool", "driver", "rules", 0, "id"), None),
     (("runs", 0, "tool", "driver", "rules", 0, "level"), "error"),
     (("runs", 0, "tool", "driver", "rules", 0, "defaultConfiguration", "level"), "fatal"),
+    (("runs", 0, "invocations"), {"executionSuccessful": False}),
+    (("runs", 0, "invocations", 0, "executionSuccessful"), None),
+    (("runs", 0, "invocations", 0, "executionSuccessful"), "false"),
+    (("runs", 0, "invocations", 0, "successful"), True),
     (("runs", 0, "columnKind"), "bytes"),
     ((*RESULT, "message"), "text"),
     ((*RESULT, "message"), None),

@@ -1,5 +1,5 @@
 -- A log in the Static Analysis Results Interchange Format (SARIF), version 2.1.0.
-use Rattle.std.specs.Prelude.{ℕ, List, [], ◌∷◌, ◌++◌, codes, decimal}
+use Rattle.std.specs.Prelude.{ℕ, List, [], ◌∷◌, ◌++◌, Bool, codes, decimal, if◌then◌else◌}
 use Rattle.annotations.specs.Escapes.{json_string, uri}
 use Rattle.annotations.specs.Findings.{FindingValue, RuleValue, ToolValue, level_word}
 
@@ -31,10 +31,19 @@ abbrev pub listed : {V : Type 0} → (text : V → List ℕ) → List V → List
 listed text [] = []
 listed text (one ∷ others) = text one ++ after_comma text others
 
--- the log: section 3.13, "sarifLog object", with one run, section 3.14; columns count characters, section 3.14.17
-abbrev pub log : ToolValue → List FindingValue → List ℕ
-log tool findings = codes "{\"$schema\":\"https://json.schemastore.org/sarif-2.1.0.json\",\"version\":\"2.1.0\","
+-- a truth value
+abbrev pub word_of : Bool → List ℕ
+word_of value = if value then codes "true" else codes "false"
+
+-- what stands between the rules and the results of a run: whether it was successful, section 3.20.14, "executionSuccessful
+-- property", and that columns count characters, section 3.14.17
+abbrev pub run_text : (is_successful : Bool) → List ℕ
+run_text is_successful = codes "]}},\"invocations\":[{\"executionSuccessful\":" ++ (word_of is_successful
+    ++ codes "}],\"columnKind\":\"unicodeCodePoints\",\"results\":[")
+
+-- the log: section 3.13, "sarifLog object", with one run, section 3.14
+abbrev pub log : ToolValue → List FindingValue → (is_successful : Bool) → List ℕ
+log tool findings is_successful = codes "{\"$schema\":\"https://json.schemastore.org/sarif-2.1.0.json\",\"version\":\"2.1.0\","
     ++ (codes "\"runs\":[{\"tool\":{\"driver\":{\"name\":" ++ (json_string tool.name ++ (codes ",\"version\":"
     ++ (json_string tool.version ++ (codes ",\"rules\":[" ++ (listed rule_text tool.rules
-    ++ (codes "]}},\"columnKind\":\"unicodeCodePoints\",\"results\":[" ++ (listed result_text findings
-    ++ codes "]}]}\n"))))))))
+    ++ (run_text is_successful ++ (listed result_text findings ++ codes "]}]}\n"))))))))

@@ -7,7 +7,8 @@ use crate::escapes::{push_json, push_number, push_uri};
 use crate::finding::{Finding, Rule, Tool};
 use std::alloc::AllocError;
 
-/// Adds the log of a checker and its findings: one JSON text, and a newline byte.
+/// Adds the log of a checker and its findings: one JSON text, and a newline byte. The log says whether the run was successful. It was
+/// if everything was checked, also if something was found.
 ///
 /// # Errors
 ///
@@ -16,9 +17,10 @@ pub fn push_log(
     out: &mut Vec<u8>,
     tool: Tool<'_>,
     findings: &[Finding<'_>],
+    is_successful: bool,
 ) -> Result<(), AllocError>
     ensures { OnOk result (out.new.items
-        ≡ out.old.items ++ Sarif.log (tool_value tool.entry) (map finding_value findings.now)) }
+        ≡ out.old.items ++ Sarif.log (tool_value tool.entry) (map finding_value findings.now) is_successful) }
 {
     out.extend_from_slice(
         b"{\"$schema\":\"https://json.schemastore.org/sarif-2.1.0.json\",\"version\":\"2.1.0\",",
@@ -29,9 +31,20 @@ pub fn push_log(
     push_json(out, tool.version.as_bytes())?;
     out.extend_from_slice(b",\"rules\":[")?;
     push_rules(out, tool.rules)?;
-    out.extend_from_slice(b"]}},\"columnKind\":\"unicodeCodePoints\",\"results\":[")?;
+    out.extend_from_slice(run_text(is_successful).as_bytes())?;
     push_results(out, findings)?;
     out.extend_from_slice(b"]}]}\n")
+}
+
+/// Returns what stands between the rules and the results of a run.
+fn run_text(is_successful: bool) -> &'static str
+    ensures { result.now ≡ Sarif.run_text is_successful }
+{
+    if is_successful {
+        "]}},\"invocations\":[{\"executionSuccessful\":true}],\"columnKind\":\"unicodeCodePoints\",\"results\":["
+    } else {
+        "]}},\"invocations\":[{\"executionSuccessful\":false}],\"columnKind\":\"unicodeCodePoints\",\"results\":["
+    }
 }
 
 /// Adds the rules, with a comma between two.

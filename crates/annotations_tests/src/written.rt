@@ -49,10 +49,10 @@ fn writes_a_log(rt: HostRuntime) -> Result<(), Fail> {
         rules: &rules,
     };
     let mut log = Vec::new(rt.alloc());
-    push_log(&mut log, tool, &[finding(rt.alloc())?])?;
+    push_log(&mut log, tool, &[finding(rt.alloc())?], false)?;
     assert_eq!(rt;
         log.as_slice(),
-        b"{\"$schema\":\"https://json.schemastore.org/sarif-2.1.0.json\",\"version\":\"2.1.0\",\"runs\":[{\"tool\":{\"driver\":{\"name\":\"t\",\"version\":\"1.0.0\",\"rules\":[{\"id\":\"missing\",\"shortDescription\":{\"text\":\"m\"},\"defaultConfiguration\":{\"level\":\"error\"}},{\"id\":\"invalid\",\"shortDescription\":{\"text\":\"i\"},\"defaultConfiguration\":{\"level\":\"warning\"}}]}},\"columnKind\":\"unicodeCodePoints\",\"results\":[{\"ruleId\":\"invalid\",\"ruleIndex\":1,\"level\":\"error\",\"message\":{\"text\":\"100% \\\"a\\\\b\\\"\\u000D\\u000A\"},\"locations\":[{\"physicalLocation\":{\"artifactLocation\":{\"uri\":\"a%20b%2Cc%3A%25/package-lock.json\"},\"region\":{\"startLine\":12,\"startColumn\":7}}}]}]}]}\n".as_slice()
+        b"{\"$schema\":\"https://json.schemastore.org/sarif-2.1.0.json\",\"version\":\"2.1.0\",\"runs\":[{\"tool\":{\"driver\":{\"name\":\"t\",\"version\":\"1.0.0\",\"rules\":[{\"id\":\"missing\",\"shortDescription\":{\"text\":\"m\"},\"defaultConfiguration\":{\"level\":\"error\"}},{\"id\":\"invalid\",\"shortDescription\":{\"text\":\"i\"},\"defaultConfiguration\":{\"level\":\"warning\"}}]}},\"invocations\":[{\"executionSuccessful\":false}],\"columnKind\":\"unicodeCodePoints\",\"results\":[{\"ruleId\":\"invalid\",\"ruleIndex\":1,\"level\":\"error\",\"message\":{\"text\":\"100% \\\"a\\\\b\\\"\\u000D\\u000A\"},\"locations\":[{\"physicalLocation\":{\"artifactLocation\":{\"uri\":\"a%20b%2Cc%3A%25/package-lock.json\"},\"region\":{\"startLine\":12,\"startColumn\":7}}}]}]}]}\n".as_slice()
     );
     Ok(())
 }
@@ -66,10 +66,10 @@ fn writes_a_log_of_nothing(rt: HostRuntime) -> Result<(), Fail> {
         rules: &[],
     };
     let mut log = Vec::new(rt.alloc());
-    push_log(&mut log, tool, &[])?;
+    push_log(&mut log, tool, &[], true)?;
     assert_eq!(rt;
         log.as_slice(),
-        b"{\"$schema\":\"https://json.schemastore.org/sarif-2.1.0.json\",\"version\":\"2.1.0\",\"runs\":[{\"tool\":{\"driver\":{\"name\":\"t\",\"version\":\"1\",\"rules\":[]}},\"columnKind\":\"unicodeCodePoints\",\"results\":[]}]}\n".as_slice()
+        b"{\"$schema\":\"https://json.schemastore.org/sarif-2.1.0.json\",\"version\":\"2.1.0\",\"runs\":[{\"tool\":{\"driver\":{\"name\":\"t\",\"version\":\"1\",\"rules\":[]}},\"invocations\":[{\"executionSuccessful\":true}],\"columnKind\":\"unicodeCodePoints\",\"results\":[]}]}\n".as_slice()
     );
     Ok(())
 }

@@ -6,10 +6,11 @@ use Rattle.std.proofs.lemmas.Option.{get_or_from_slice_get, slice_get-map, slice
 use Rattle.std.proofs.lemmas.List.{length-map, length_push}
 use denote.Ref.{Bor}
 use Rattle.annotations.specs.declared.finding.Finding.{Finding}
-use Rattle.json_places.specs.Places.{IsChoice, none, of_path}
+use Rattle.json_places.specs.Places.{IsChoice, IsPlaceOf, IsShownAt, at_start, at_step, none, of_path}
+use Rattle.json_places.specs.Steps.{member_steps}
 use Rattle.json_places.specs.declared.path.Path.{Path}
 use Rattle.json_places.specs.declared.place.Place.{Place}
-use Rattle.json_findings.specs.Drafts.{AreFindingsOf, IsFindingAt, IsShownAt, at_member, at_start, draft_value, last_name}
+use Rattle.json_findings.specs.Drafts.{AreFindingsOf, IsFindingAt, draft_value}
 use Rattle.json_findings.specs.Private.DraftPaths.{IsPathOf}
 use Rattle.json_findings.specs.declared.draft.Draft.{Draft}
 
@@ -20,16 +21,9 @@ same_in x y is = cc is
 pub all_at : {X : Type 0} (P : X → Type 0) (xs : List X) (k : ℕ) (x : X) → All P xs → slice_get xs k ≡ Some x → P x
 all_at P xs k x all is = subst P (get_or_from_slice_get xs k x x is) (all k x (slice_get_within xs k x is))
 
--- the last of the names that are seen
-last_seen : (names : List (Bor (List ℕ)))
-    → last_name (map (λ (name : Bor (List ℕ)). name.now) names)
-    ≡ option_map (λ (name : Bor (List ℕ)). name.now) (slice_get names (length names - 1))
-last_seen names = rw (length-map names (λ (name : Bor (List ℕ)). name.now))
-    (slice_get-map (λ (name : Bor (List ℕ)). name.now) names (length names - 1))
-
 module _ (text : List ℕ) (drafts : List Draft) (paths : List Path) (index : ℕ) (draft : Draft)
     (is : slice_get drafts index ≡ Some draft) (all : All (IsPathOf drafts) paths) where
-  pub shown : (place : Place) → IsChoice text paths index place → IsShownAt text (draft_value draft).paths place
+  pub shown : (place : Place) → IsChoice text paths index place → IsShownAt text (map member_steps (draft_value draft).paths) place
   shown _ none = at_start
   shown _ (of_path k path place there own placed) =
       let one = all_at (IsPathOf drafts) paths k path all there in
@@ -37,12 +31,14 @@ module _ (text : List ℕ) (drafts : List Draft) (paths : List Path) (index : �
       let same : one.draft ≡ draft = same_in _ _ (sym here ∙ is) in
       let named : slice_get draft.paths.items path.rank ≡ Some one.names =
       ap (λ (d : Draft). slice_get d.paths.items path.rank) (sym same) ∙ one.named in
-      let ranked : slice_get (draft_value draft).paths path.rank ≡ Some (map (λ name. name.now) one.names.items) =
+      let seen : slice_get (draft_value draft).paths path.rank ≡ Some (map (λ name. name.now) one.names.items) =
       slice_get-map (λ names. map (λ name. name.now) names.items) draft.paths.items path.rank
       ∙ ap (option_map (λ names. map (λ name. name.now) names.items)) named in
-      let last : last_name (map (λ name. name.now) one.names.items) ≡ Some placed.name =
-      last_seen one.names.items ∙ rw one.same at placed.last in
-      at_member path.rank (map (λ name. name.now) one.names.items) placed.name place ranked last placed.named placed.at
+      let ranked : slice_get (map member_steps (draft_value draft).paths) path.rank
+      ≡ Some (member_steps (map (λ name. name.now) one.names.items)) =
+      slice_get-map member_steps (draft_value draft).paths path.rank ∙ ap (option_map member_steps) seen in
+      at_step path.rank (member_steps (map (λ name. name.now) one.names.items)) place ranked
+      (subst (λ steps. IsPlaceOf text steps place) one.same placed)
 
 -- an element of a list with one more
 push_cases : {X : Type 0} (xs : List X) (x f : X) (k : ℕ) → slice_get (xs ++ (x ∷ [])) k ≡ Some f

@@ -1,9 +1,10 @@
 -- Findings about members of a JSON text.
-use Rattle.std.specs.Prelude.{◌≡◌, ◌-◌, ℕ, List, Option, Some, length, map, slice_get}
+use Rattle.std.specs.Prelude.{◌≡◌, ℕ, List, Some, length, map, slice_get}
 use Rattle.annotations.specs.Findings.{FindingValue, finding_value}
 use Rattle.annotations.specs.declared.finding.Finding.{Finding}
 use Rattle.annotations.specs.declared.finding.Level.{Level}
-use Rattle.json_places.specs.Places.{IsNameAt, IsPlace, start}
+use Rattle.json_places.specs.Places.{IsShownAt}
+use Rattle.json_places.specs.Steps.{member_steps}
 use Rattle.json_places.specs.declared.place.Place.{Place}
 use Rattle.json_findings.specs.declared.draft.Draft.{Draft}
 
@@ -26,21 +27,10 @@ draft_value draft = record {
   paths = map (λ names. map (λ name. name.now) names.items) draft.paths.items;
 }
 
--- ---- where a finding is
-
--- the last name of a path
-abbrev pub last_name : (path : List (List ℕ)) → Option (List ℕ)
-last_name path = slice_get path (length path - 1)
-
--- where the text begins, or where the name of a member begins that is the last name of one of these paths
-pub data IsShownAt (text : List ℕ) (paths : List (List (List ℕ))) : Place → Type 0 where
-  at_start : IsShownAt text paths start
-  at_member : (rank : ℕ) (path : List (List ℕ)) (name : List ℕ) (place : Place) → slice_get paths rank ≡ Some path
-      → last_name path ≡ Some name → IsNameAt text place.offset name → IsPlace text place → IsShownAt text paths place
-
 -- ---- findings
 
--- the finding of a draft, in the file at this path with this text
+-- The finding of a draft, in the file at this path with this text: at the name of the last member of one of the draft's paths,
+-- or where the text begins.
 pub record IsFindingOf (text path : List ℕ) (draft : DraftValue) (finding : FindingValue) : Type 0 where
   pub rule : finding.rule ≡ draft.rule
   pub rule_index : finding.rule_index ≡ draft.rule_index
@@ -48,7 +38,7 @@ pub record IsFindingOf (text path : List ℕ) (draft : DraftValue) (finding : Fi
   pub message : finding.message ≡ draft.message
   pub in_file : finding.file ≡ path
   pub place : Place
-  pub shown : IsShownAt text draft.paths place
+  pub shown : IsShownAt text (map member_steps draft.paths) place
   pub line : finding.line ≡ place.line
   pub column : finding.column ≡ place.column
 

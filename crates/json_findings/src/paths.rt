@@ -48,10 +48,6 @@ fn path_of<'n>(
     ensures { IfOk result (IsPathOf drafts.now) }
 {
     let draft = &drafts[subject];
-    let names = Vec::from_slice(alloc, &draft.paths[rank])?;
-    Ok(Path {
-        names,
-        subject,
-        rank,
-    })
+    let path = Path::of_members(alloc, &draft.paths[rank], subject, rank)?;
+    Ok(path)
 }

@@ -1,2 +1,3 @@
+mod AfterMarks
 mod Found
 mod PlaceSteps

@@ -1,8 +1,9 @@
--- Places in a JSON text: lines and columns as editors count them, and the name of a member at an offset.
-use Rattle.std.specs.Prelude.{◌≡◌, ◌≢◌, ◌⊎◌, ◌||◌, ◌==◌, ◌+◌, ◌-◌, ◌≤◌, ℕ, List, [], ◌∷◌, ◌++◌, Bool, Option, Some}
-use Rattle.std.specs.Prelude.{All, option_map, count_by, length, nat_le, nat_lt, slice_get, take, drop}
+-- Places in a JSON text: lines and columns as editors count them, the name of a member at an offset, and an item of a list.
+use Rattle.std.specs.Prelude.{◌≡◌, ◌≢◌, ◌⊎◌, ◌||◌, ◌==◌, ◌+◌, ◌≤◌, ℕ, List, [], ◌∷◌, ◌++◌, Bool, false, true, Option, Some}
+use Rattle.std.specs.Prelude.{All, count_by, length, nat_le, nat_lt, slice_get, take, drop}
 use Rattle.json.specs.Token as Tokens
 use Rattle.json.specs.Lex.{tokens}
+use Rattle.json_places.specs.Steps.{StepValue, last_step, steps_seen, to_item, to_member}
 use Rattle.json_places.specs.declared.path.Path.{Path}
 use Rattle.json_places.specs.declared.place.Place.{Place}
 
@@ -37,24 +38,63 @@ pub record IsNameAt (text : List ℕ) (offset : ℕ) (name : List ℕ) : Type 0 
   pub rest : List Tokens.Token
   pub reads : tokens (drop offset text) ≡ Tokens.key name ∷ rest
 
+-- ---- items
+
+-- JSON's white space: a blank, a tab, a newline and a carriage return
+abbrev pub is_white_space : (byte : ℕ) → Bool
+is_white_space byte = (byte == 32) || (byte == 9) || (byte == 10) || (byte == 13)
+
+-- the byte is `[` or a comma
+abbrev pub is_mark : (byte : ℕ) → Bool
+is_mark byte = (byte == 91) || (byte == 44)
+
+-- before this offset stand `[` or a comma, and white space after it or none
+pub data IsAfterMark (text : List ℕ) : (offset : ℕ) → Type 0 where
+  marked : (offset byte : ℕ) → slice_get text offset ≡ Some byte → is_mark byte ≡ true → IsAfterMark text (offset + 1)
+  spaced : (offset byte : ℕ) → slice_get text offset ≡ Some byte → is_white_space byte ≡ true → IsAfterMark text offset
+      → IsAfterMark text (offset + 1)
+
+-- a value begins with this token: an object, a list, a string that is no name, a number, or a word such as `null`
+abbrev pub begins_value : Tokens.Token → Bool
+begins_value Tokens.begin_object = true
+begins_value Tokens.begin_array = true
+begins_value (Tokens.string text) = true
+begins_value (Tokens.number text) = true
+begins_value (Tokens.boolean value) = true
+begins_value Tokens.null = true
+begins_value _ = false
+
+-- An item of a list begins at this offset: there is no white space, the text from there on reads as a value, and before it
+-- is `[` or a comma. A comma in an object has a name after it, and no value
+pub record IsItemAt (text : List ℕ) (offset : ℕ) : Type 0 where
+  pub byte : ℕ
+  pub there : slice_get text offset ≡ Some byte
+  pub solid : is_white_space byte ≡ false
+  pub listed : IsAfterMark text offset
+  pub first : Tokens.Token
+  pub rest : List Tokens.Token
+  pub reads : tokens (drop offset text) ≡ first ∷ rest
+  pub begins : begins_value first ≡ true
+
 -- ---- the places of paths
 
--- the last name of a path, if it has one
-abbrev pub last_name : Path → Option (List ℕ)
-last_name path = option_map (λ name. name.now) (slice_get path.names.items (length path.names.items - 1))
+-- the name of this member begins at the offset, or an item does
+abbrev pub IsStepAt : (text : List ℕ) → (offset : ℕ) → StepValue → Type 0
+IsStepAt text offset (to_member name) = IsNameAt text offset name
+IsStepAt text offset (to_item position) = IsItemAt text offset
 
--- the last name of the path is the name of a member at this place
-pub record IsPlaceOf (text : List ℕ) (path : Path) (place : Place) : Type 0 where
-  pub name : List ℕ
-  pub last : last_name path ≡ Some name
-  pub named : IsNameAt text place.offset name
+-- what the last step of a path leads to is at this place
+pub record IsPlaceOf (text : List ℕ) (steps : List StepValue) (place : Place) : Type 0 where
+  pub step : StepValue
+  pub last : last_step steps ≡ Some step
+  pub there : IsStepAt text place.offset step
   pub at : IsPlace text place
 
 -- a place for each path, or that none was found
 pub record ArePlacesOf (text : List ℕ) (paths : List Path) (found : List (Option Place)) : Type 0 where
   pub one_for_each : length found ≡ length paths
   pub each : (k : ℕ) (path : Path) (place : Place) → slice_get paths k ≡ Some path
-      → slice_get found k ≡ Some (Some place) → IsPlaceOf text path place
+      → slice_get found k ≡ Some (Some place) → IsPlaceOf text (steps_seen path.steps.items) place
 
 -- ---- the places of subjects
 
@@ -66,9 +106,15 @@ start = record { offset = 0; line = 1; column = 1 }
 pub data IsChoice (text : List ℕ) (paths : List Path) (subject : ℕ) : Place → Type 0 where
   none : IsChoice text paths subject start
   of_path : (k : ℕ) (path : Path) (place : Place) → slice_get paths k ≡ Some path → path.subject ≡ subject
-      → IsPlaceOf text path place → IsChoice text paths subject place
+      → IsPlaceOf text (steps_seen path.steps.items) place → IsChoice text paths subject place
 
 -- a place for each subject
 pub record AreChoices (text : List ℕ) (paths : List Path) (count : ℕ) (places : List Place) : Type 0 where
   pub one_for_each : length places ≡ count
   pub each : (k : ℕ) (place : Place) → slice_get places k ≡ Some place → IsChoice text paths k place
+
+-- the place of one of these paths, or where the text begins
+pub data IsShownAt (text : List ℕ) (paths : List (List StepValue)) : Place → Type 0 where
+  at_start : IsShownAt text paths start
+  at_step : (rank : ℕ) (steps : List StepValue) (place : Place) → slice_get paths rank ≡ Some steps
+      → IsPlaceOf text steps place → IsShownAt text paths place

@@ -7,7 +7,7 @@ use crate::place::Place;
 use crate::search::places_of;
 use std::alloc::{AllocError, Global};
 
-/// Returns the place of each subject from 0 up to `count`: that of the path with the lowest rank that names a member, of those for
+/// Returns the place of each subject from 0 up to `count`: that of the path with the lowest rank that leads to a value, of those for
 /// the subject, or else the beginning of the text. The paths have to be sorted. The text is read once.
 ///
 /// # Errors

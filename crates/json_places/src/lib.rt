@@ -1,17 +1,17 @@
-//! Places of members in a JSON text: the byte offset of a member's name, its line and its column.
+//! Places of members and items in a JSON text: the byte offset of a member's name or of an item, its line and its column.
 //!
-//! [`places_of`] finds the members of many paths in one pass, and [`chosen_places`] takes for each subject the place of the path that
+//! [`places_of`] finds what many paths lead to in one pass, and [`chosen_places`] takes for each subject the place of the path that
 //! it prefers. See the crate's `README.md`.
 #![tactic(auto)]
 
 mod choice;
-mod name;
 mod part;
 mod path;
 mod place;
 mod search;
+mod step_at;
 
 pub use choice::chosen_places;
-pub use path::Path;
+pub use path::{Path, Step};
 pub use place::Place;
 pub use search::places_of;

@@ -1,5 +1,5 @@
-//! Neighbours in a sorted list of paths: those that begin with the same names.
-use crate::path::{Path, compared};
+//! Neighbours in a sorted list of paths: those that begin with the same steps.
+use crate::path::{Path, Step, compared};
 use std::cmp::Ordering;
 
 /// The paths from one index up to another.
@@ -14,12 +14,12 @@ impl Part {
     pub const NONE: Part = Part { start: 0, end: 0 };
 }
 
-/// Those of a part whose name at this depth is this one.
-pub fn narrowed(paths: &[Path<'_>], part: Part, depth: usize, name: &str) -> Part {
+/// Those of a part whose step at this depth is this one.
+pub fn narrowed(paths: &[Path<'_>], part: Part, depth: usize, step: Step<'_>) -> Part {
     let start = first_index(
         paths,
         part,
-        |path| compared(path, depth, name) == Ordering::Less,
+        |path| compared(path, depth, step) == Ordering::Less,
     );
     let end = first_index(
         paths,
@@ -27,7 +27,7 @@ pub fn narrowed(paths: &[Path<'_>], part: Part, depth: usize, name: &str) -> Par
             start,
             end: part.end,
         },
-        |path| compared(path, depth, name) != Ordering::Greater,
+        |path| compared(path, depth, step) != Ordering::Greater,
     );
     Part { start, end }
 }

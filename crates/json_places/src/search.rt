@@ -1,20 +1,21 @@
-//! One pass over a JSON text, in search of the members of many paths.
+//! One pass over a JSON text, in search of what many paths lead to.
 ghost use Rattle.std.specs.Prelude.{◌≡◌, IfOk, None, OnOk, Some, map, slice_set, true};
-ghost use Rattle.json_places.specs.Places.{ArePlacesOf, last_name};
-ghost use Rattle.json_places.specs.Private.LastNames.{IsLastName};
+ghost use Rattle.json_places.specs.Places.{ArePlacesOf};
+ghost use Rattle.json_places.specs.Private.LastSteps.{IsLastStep};
+ghost use Rattle.json_places.specs.Steps.{last_step, step_value, steps_seen};
 
-use crate::name::is_name_at;
 use crate::part::{Part, narrowed};
-use crate::path::Path;
+use crate::path::{Path, Step, is_same_step};
 use crate::place::{Place, moved};
+use crate::step_at::is_step_at;
 use json::{Reader, Scratch, Token};
 use std::alloc::{AllocError, Global};
 
-/// Returns the places of the members of paths, in the order of the paths, which have to be sorted. If a member stands several
+/// Returns the places of what paths lead to, in the order of the paths, which have to be sorted. If a member stands several
 /// times in its object, the last one counts, as when the text is read.
 ///
-/// The result has `None` for a path that names no member, and for one that is out of order. The place is that of the name's
-/// quotation mark. The text is read once.
+/// The result has `None` for a path that leads to no value, and for one that is out of order. The place of a member is that of its
+/// name's quotation mark, and the place of an item that of its first byte. The text is read once.
 ///
 /// # Errors
 ///
@@ -37,15 +38,24 @@ pub fn places_of(
     Ok(search.found)
 }
 
+/// An object or a list that is open.
+#[derive(Clone, Copy, Debug, Drop)]
+struct Open {
+    /// The paths that lead to it or through it.
+    paths: Part,
+    /// The position of a list's next item; `None` for an object.
+    next: Option<usize>,
+}
+
 /// What is found so far.
 #[derive(Drop)]
 struct Search {
     found: Vec<Option<Place>>,
-    /// The paths of the objects that are open, and of the array or object after them.
-    open: Vec<Part>,
+    /// The objects and lists that are open, the innermost one last.
+    open: Vec<Open>,
     /// The paths that lead to the value that comes next, or through it.
     here: Part,
-    /// The place of the last name that was found.
+    /// The place that was found last.
     last: Place,
     scratch: Scratch,
 }
@@ -80,41 +90,101 @@ impl Search {
         ensures { OnOk result (IsSearch text.now paths.now self.new) }
     {
         match token {
-            Token::BeginObject => self.open.push(self.here)?,
+            Token::Key(name) => self.enter(text, paths, Step::Member(name), offset),
+            Token::BeginObject => {
+                self.enter_item(text, paths, offset)?;
+                self.begin(None)
+            }
             Token::BeginArray => {
-                self.open.push(self.here)?;
-                self.here = Part::NONE;
+                self.enter_item(text, paths, offset)?;
+                self.begin(Some(0))
             }
             Token::EndObject | Token::EndArray => {
-                self.here = self.open.pop().unwrap_or(Part::NONE);
+                self.end();
+                Ok(())
             }
-            Token::Key(name) => self.enter(text, paths, name, offset)?,
-            _ => {}
+            _ => self.enter_item(text, paths, offset),
         }
+    }
+
+    /// Begins an object, or a list if its next item has a position.
+    fn begin(&mut self, next: Option<usize>) -> Result<(), AllocError>
+        ensures found { OnOk result (self.new.found ≡ self.old.found) }
+        ensures last { OnOk result (self.new.last ≡ self.old.last) }
+    {
+        self.open.push(Open {
+            paths: self.here,
+            next,
+        })?;
         Ok(())
     }
 
-    /// Comes to the member with this name of the innermost object.
+    /// Ends the innermost object or list. No path goes through what comes next, until a step is entered.
+    fn end(&mut self)
+        ensures found { self.new.found ≡ self.old.found }
+        ensures last { self.new.last ≡ self.old.last }
+    {
+        self.open.truncate(self.open.len().saturating_sub(1));
+        self.here = Part::NONE;
+    }
+
+    /// Comes to a value, which may be an item of the innermost list.
+    fn enter_item(
+        &mut self,
+        text: &str,
+        paths: &[Path<'_>],
+        offset: usize,
+    ) -> Result<(), AllocError>
+        requires { IsSearch text.now paths.now self.old }
+        ensures { OnOk result (IsSearch text.now paths.now self.new) }
+    {
+        match self.next_position() {
+            Some(position) => self.enter(text, paths, Step::Item(position), offset),
+            None => Ok(()),
+        }
+    }
+
+    /// The position of the next item, if the innermost of what is open is a list.
+    fn next_position(&mut self) -> Option<usize>
+        ensures found { self.new.found ≡ self.old.found }
+        ensures last { self.new.last ≡ self.old.last }
+    {
+        match self.open.last_mut() {
+            Some(
+                Open {
+                    next: Some(next),
+                    ..
+                },
+            ) => {
+                let position = *next;
+                *next = position.saturating_add(1);
+                Some(position)
+            }
+            _ => None,
+        }
+    }
+
+    /// Comes to a member or to an item of what is innermost.
     fn enter(
         &mut self,
         text: &str,
         paths: &[Path<'_>],
-        name: &str,
+        step: Step<'_>,
         offset: usize,
     ) -> Result<(), AllocError>
         requires { IsSearch text.now paths.now self.old }
         ensures { OnOk result (IsSearch text.now paths.now self.new) }
     {
         let depth = self.open.len();
-        let Some(object) = self.open.last() else {
+        let Some(open) = self.open.last() else {
             return Ok(());
         };
-        self.here = narrowed(paths, *object, depth - 1, name);
+        self.here = narrowed(paths, open.paths, depth - 1, step);
         for index in self.here.start..self.here.end {
             // What was found in an earlier member of this name does not count.
             self.forget(text, paths, index);
-            if ends_with(paths, index, depth, name) {
-                self.find(text, paths, index, name, offset)?;
+            if ends_with(paths, index, depth, step) {
+                self.find(text, paths, index, step, offset)?;
             }
         }
         Ok(())
@@ -132,21 +202,21 @@ impl Search {
         }
     }
 
-    /// Comes to a member with the last name of the path at this index. A later member with the same path is the one that counts.
+    /// Comes to the last step of the path at this index. A later member with the same path is the one that counts.
     fn find(
         &mut self,
         text: &str,
         paths: &[Path<'_>],
         index: usize,
-        name: &str,
+        step: Step<'_>,
         offset: usize,
     ) -> Result<(), AllocError>
         requires search { IsSearch text.now paths.now self.old }
-        requires named { IsLastName paths.now index name.now }
+        requires last { IsLastStep paths.now index (step_value step) }
         ensures search { OnOk result (IsSearch text.now paths.now self.new) }
         ensures here { self.new.here ≡ self.old.here }
     {
-        if offset < self.last.offset || !is_name_at(&mut self.scratch, text, offset, name)? {
+        if offset < self.last.offset || !is_step_at(&mut self.scratch, text, offset, step)? {
             return Ok(());
         }
         self.last = moved(text.as_bytes(), self.last, offset);
@@ -155,7 +225,7 @@ impl Search {
     }
 }
 
-/// Takes the place of the member that was read last, in place of that of an earlier one.
+/// Takes the place that was found last, in place of that of an earlier member.
 fn put(found: &mut Vec<Option<Place>>, index: usize, place: Place)
     ensures { found.new.items ≡ slice_set found.old.items index (Some place) }
 {
@@ -171,22 +241,22 @@ fn nothing_found(alloc: Global, paths: &[Path<'_>]) -> Result<Vec<Option<Place>>
     paths.iter().map(|_| None).collect(alloc)
 }
 
-/// Whether the path at this index has so many names, and this one last.
-fn ends_with(paths: &[Path<'_>], index: usize, depth: usize, name: &str) -> bool
-    ensures { result ≡ true → IsLastName paths.now index name.now }
+/// Whether the path at this index has so many steps, and this one last.
+fn ends_with(paths: &[Path<'_>], index: usize, depth: usize, step: Step<'_>) -> bool
+    ensures { result ≡ true → IsLastStep paths.now index (step_value step.entry) }
 {
     match paths.get(index) {
-        Some(path) => path.names.len() == depth && is_last(path, name),
+        Some(path) => path.steps.len() == depth && is_last(path, step),
         None => false,
     }
 }
 
-/// Whether this is the last name of a path.
-fn is_last(path: &Path<'_>, name: &str) -> bool
-    ensures { result ≡ true → last_name path.now ≡ Some name.now }
+/// Whether this is the last step of a path.
+fn is_last(path: &Path<'_>, step: Step<'_>) -> bool
+    ensures { result ≡ true → last_step (steps_seen path.now.steps.items) ≡ Some (step_value step.entry) }
 {
-    match path.names.last() {
-        Some(last) => *last == name,
+    match path.steps.last() {
+        Some(last) => is_same_step(*last, step),
         None => false,
     }
 }

@@ -1,11 +1,11 @@
-//! Finds the places of members in a JSON text, for `.ci/json_places`, which compares them with those of another reader.
+//! Finds the places of members and of items in a JSON text, for `.ci/json_places`, which compares them with those of another reader.
 //!
-//! The words are the paths, each a JSON array of names in one word, sorted. The text is standard input. The program writes a
-//! line for each path: the byte offset, the line and the column of the member, or `none`. It exits with status 2 if it cannot
-//! answer.
+//! The words are the paths, each a JSON array of names and of positions in one word, sorted. The text is standard input. The program
+//! writes a line for each path: the byte offset, the line and the column of what it leads to, or `none`. It exits with status 2 if it
+//! cannot answer.
 #![tactic(auto)]
 
-use json_places::{Path, Place, places_of};
+use json_places::{Path, Place, Step, places_of};
 use serde_json::Value;
 use std::alloc::{AllocError, AllocGlobal, Global};
 use std::env;
@@ -41,12 +41,12 @@ fn write_answers<R: Read + Drop>(
     Ok(())
 }
 
-/// The paths that these lists of names are.
+/// The paths that these lists of names and positions are.
 fn paths_of(alloc: Global, lists: &[Value]) -> Result<Vec<Path<'_>>, AllocError> {
     let mut paths = Vec::new(alloc);
     for list in lists {
         paths.push(Path {
-            names: names_of(alloc, list)?,
+            steps: steps_of(alloc, list)?,
             subject: 0,
             rank: 0,
         })?;
@@ -54,17 +54,25 @@ fn paths_of(alloc: Global, lists: &[Value]) -> Result<Vec<Path<'_>>, AllocError>
     Ok(paths)
 }
 
-/// The names of a list.
-fn names_of(alloc: Global, list: &Value) -> Result<Vec<&str>, AllocError> {
-    let mut names = Vec::new(alloc);
+/// The steps of a list.
+fn steps_of(alloc: Global, list: &Value) -> Result<Vec<Step<'_>>, AllocError> {
+    let mut steps = Vec::new(alloc);
     if let Some(items) = list.as_array() {
         for item in items {
-            if let Some(name) = item.as_str() {
-                names.push(name)?;
+            if let Some(step) = step_of(item) {
+                steps.push(step)?;
             }
         }
     }
-    Ok(names)
+    Ok(steps)
+}
+
+/// The step that a name or a position is.
+fn step_of(item: &Value) -> Option<Step<'_>> {
+    match item.as_str() {
+        Some(name) => Some(Step::Member(name)),
+        None => Some(Step::Item(usize::try_from(item.as_u64()?).ok()?)),
+    }
 }
 
 /// Writes the line of a place.

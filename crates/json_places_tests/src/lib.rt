@@ -1,7 +1,9 @@
-//! Tests of the public calls of json_places and json_findings.
+//! Tests of the public calls of json_places, json_findings and shown_places.
 #![tactic(auto)]
 
 #[cfg(test)]
 mod findings;
 #[cfg(test)]
 mod places;
+#[cfg(test)]
+mod shown;

@@ -14,6 +14,7 @@ pub mod Auditing
 pub mod Listing
 pub mod VersionTests
 pub mod Walking
+pub mod Stepping
 pub mod OsvSpans
 pub mod OsvMarks
 pub mod OsvEnds

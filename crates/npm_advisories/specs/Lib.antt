@@ -21,5 +21,6 @@ pub mod FoundJson  -- a package that is hit as a JSON object
 pub mod FolderNames  -- the names of packages by their folders
 pub mod LockFile  -- its installed packages
 pub mod LockFaults  -- why there is no audit of it
+pub mod FaultSteps  -- where in a file of advisories a fault is
 -- ---- not part of any public contract: what private functions compute
 pub mod Private

@@ -1,8 +1,11 @@
 //! Why advisories are not read, and which one is at fault.
-ghost use Rattle.std.specs.Prelude.{◌≡◌};
+ghost use Rattle.std.specs.Prelude.{◌≡◌, IfOk, Option, is_some};
+ghost use Rattle.npm_advisories.specs.Private.Reading.{IsUnreadAs};
 ghost use Rattle.npm_advisories.specs.declared.fault.AuditError.TheVariants as Errors;
+ghost use Rattle.npm_advisories.specs.declared.fault.FaultKind.{FaultKind};
 ghost use Rattle.npm_advisories.specs.declared.fault.Unread.TheVariants as Unreads;
 
+use crate::Result;
 use crate::id::AdvisoryId;
 use std::alloc::AllocError;
 use thiserror::Error;
@@ -117,5 +120,19 @@ impl From<FaultKind> for Unread {
 
     fn from(kind: FaultKind) -> Unread {
         Unread::Refused(kind)
+    }
+}
+
+/// Returns `true` if the advisory has a fault, whichever it is.
+///
+/// # Errors
+///
+/// An allocation failed.
+pub(crate) fn is_refused(unread: Unread) -> Result<bool>
+    ensures { (fault : Option FaultKind) → IsUnreadAs fault unread → IfOk result (λ is. is ≡ is_some fault) }
+{
+    match unread {
+        Unread::Refused(_) => Ok(true),
+        Unread::Memory => Err(AllocError),
     }
 }

@@ -20,6 +20,7 @@ mod read;
 mod release;
 mod severity;
 mod spans;
+mod steps;
 mod unions;
 
 pub use advisory::About;
@@ -28,6 +29,7 @@ pub use found::{Found, Installed, audit};
 pub use id::AdvisoryId;
 pub use lock::{LockError, audit_lock};
 pub use severity::Severity;
+pub use steps::fault_steps;
 
 /// The result of what fails by memory alone, if no other error is named.
 type Result<T, E = std::alloc::AllocError> = std::result::Result<T, E>;

@@ -68,7 +68,10 @@ pub fn audit_lock<'f, 'v>(
 }
 
 /// The installed packages of a lock file.
-fn installed_in<'f, 'v>(alloc: Global, lock: &'v Value) -> Result<Vec<Installed<'v>>, LockError<'f>>
+pub(crate) fn installed_in<'f, 'v>(
+    alloc: Global,
+    lock: &'v Value,
+) -> Result<Vec<Installed<'v>>, LockError<'f>>
     ensures found { IfOk result (λ installed. AreInstalledOf (view lock.now) (map installed_value installed.items)) }
     ensures sound { OnOk result (lock_fault (view lock.now) ≡ None) }
     ensures refused { IfErr result (λ error. (file : Data) → IsLockError (view lock.now) file error) }

@@ -37,3 +37,13 @@ pub(crate) fn items_at<'v>(
         None => Err(kind),
     }
 }
+
+/// The items of a member, none if it is no list.
+pub(crate) fn listed_at<'v>(entry: &'v Value, key: &str) -> &'v [Value]
+    ensures { items_view result.now ≡ Form.items_at key.now (view entry.now) }
+{
+    match entry.get(key).and_then(Value::as_array) {
+        Some(items) => items.as_slice(),
+        None => &[],
+    }
+}

@@ -19,6 +19,7 @@ mod between;
 mod events;
 mod marks;
 pub(crate) mod packages;
+pub(crate) mod steps;
 
 use crate::Result;
 use crate::advisory::{About, Advisory, severity_of, text_of};

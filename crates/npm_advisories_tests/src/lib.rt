@@ -15,3 +15,5 @@ mod many;
 mod npm_form;
 #[cfg(test)]
 mod osv;
+#[cfg(test)]
+mod places;

@@ -19,8 +19,8 @@ use Rattle.npm_lock_reports.specs.Unread.{unread_sentence}
 use Rattle.npm_lock_reports.specs.declared.report.Report.{Report}
 use Rattle.npm_lock_sentences.specs.Sentence.{mismatch_sentence, sentence, unchecked_sentence}
 use Rattle.npm_lock_annotations.specs.Members.{dependency_paths, mismatch_paths, package_paths, problem_paths}
-use Rattle.npm_lock_annotations.specs.Rules.{advisory_place, mismatch_level, mismatch_place, rule_place, rule_word}
-use Rattle.npm_lock_annotations.specs.Rules.{rule_words, unchecked_place}
+use Rattle.npm_lock_annotations.specs.Rules.{advisory_place, mismatch_level, mismatch_place, refused_place, rule_place}
+use Rattle.npm_lock_annotations.specs.Rules.{rule_word, rule_words, unchecked_place}
 use Rattle.npm_lock_annotations.specs.declared.format.AnnotationFormat.{AnnotationFormat}
 use Rattle.npm_lock_annotations.specs.declared.format.AnnotationFormat.TheVariants.{Github, Sarif}
 
@@ -93,6 +93,18 @@ pub record AreFindings (text file : List ℕ) (report : Report) (found : List Fo
   pub such : map draft_value drafts ≡ all_drafts report found
   pub placed : AreFindingsOf text file drafts (length drafts) findings
 
+-- a file that was refused, with a message, at this line and column
+abbrev pub refused_finding : (message file : List ℕ) → (line column : ℕ) → FindingValue
+refused_finding message file line column = record {
+  rule = codes "refused";
+  rule_index = refused_place;
+  level = Error;
+  message = message;
+  file = file;
+  line = line;
+  column = column;
+}
+
 -- ---- how findings are written
 
 -- the tool that a log names: this version of the program, with all rules
@@ -101,11 +113,12 @@ pub record IsTool (version : List ℕ) (tool : ToolValue) : Type 0 where
   pub of_version : tool.version ≡ version
   pub ruled : map (λ rule. rule.id) tool.rules ≡ rule_words
 
--- a line for each, for GitHub Actions; or one log
-abbrev pub IsFindingsText : AnnotationFormat → (version : List ℕ) → List FindingValue → (text : List ℕ) → Type 0
-IsFindingsText Github version findings text = text ≡ flat_map annotation findings
-IsFindingsText Sarif version findings text =
-    (tool : ToolValue) × IsTool version tool × (text ≡ log tool findings)
+-- a line for each, for GitHub Actions; or one log, which also says whether the run was successful
+abbrev pub IsFindingsText : AnnotationFormat → (version : List ℕ) → List FindingValue → (is_successful : Bool)
+    → (text : List ℕ) → Type 0
+IsFindingsText Github version findings is_successful text = text ≡ flat_map annotation findings
+IsFindingsText Sarif version findings is_successful text =
+    (tool : ToolValue) × IsTool version tool × (text ≡ log tool findings is_successful)
 
 -- ---- what contracts see
 

@@ -29,10 +29,13 @@ advisory_place = 5
 abbrev pub unchecked_place : ℕ
 unchecked_place = 6
 
+abbrev pub refused_place : ℕ
+refused_place = 7
+
 -- all rules, each at its place
 abbrev pub rule_words : List (List ℕ)
 rule_words = rule_word Missing ∷ rule_word Invalid ∷ rule_word PeerLocal ∷ rule_word Engine ∷ codes "mismatch"
-    ∷ codes "advisory" ∷ codes "unchecked" ∷ []
+    ∷ codes "advisory" ∷ codes "unchecked" ∷ codes "refused" ∷ []
 
 -- mismatches are errors if they count for the status, and else warnings
 abbrev pub mismatch_level : (exact : Bool) → Level

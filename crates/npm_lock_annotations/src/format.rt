@@ -19,7 +19,8 @@ pub enum AnnotationFormat {
     Sarif,
 }
 
-/// Adds the text of findings in a format, as this version of the program `npm_lock_check` writes it.
+/// Adds the text of findings in a format, as this version of the program `npm_lock_check` writes it. A log also says whether the run
+/// was successful, which it was if every lock file was checked.
 ///
 /// # Errors
 ///
@@ -33,13 +34,15 @@ pub fn push_findings(
     format: AnnotationFormat,
     version: &str,
     findings: &[Finding<'_>],
+    is_successful: bool,
 ) -> Result<(), AllocError>
-    ensures { OnOk result ((text : List ℕ) × IsFindingsText format version.now (map finding_value findings.now) text
+    ensures { OnOk result ((text : List ℕ)
+        × IsFindingsText format version.now (map finding_value findings.now) is_successful text
         × (out.new.items ≡ out.old.items ++ text)) }
 {
     match format {
         AnnotationFormat::Github => push_annotations(out, findings),
-        AnnotationFormat::Sarif => push_own_log(out, version, findings),
+        AnnotationFormat::Sarif => push_own_log(out, version, findings, is_successful),
     }
 }
 
@@ -48,9 +51,10 @@ fn push_own_log(
     out: &mut Vec<u8>,
     version: &str,
     findings: &[Finding<'_>],
+    is_successful: bool,
 ) -> Result<(), AllocError>
     ensures { OnOk result ((tool : ToolValue) × IsTool version.now tool
-        × (out.new.items ≡ out.old.items ++ log tool (map finding_value findings.now))) }
+        × (out.new.items ≡ out.old.items ++ log tool (map finding_value findings.now) is_successful)) }
 {
     let rules = rules();
     let tool = Tool {
@@ -58,7 +62,7 @@ fn push_own_log(
         version,
         rules: &rules,
     };
-    push_log(out, tool, findings)
+    push_log(out, tool, findings, is_successful)
 }
 
 /// Adds a line for each finding.

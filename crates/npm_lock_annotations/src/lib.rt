@@ -8,7 +8,9 @@ mod findings;
 mod format;
 mod nested;
 mod paths;
+mod refused;
 mod rules;
 
 pub use findings::findings_of;
 pub use format::{AnnotationFormat, push_findings};
+pub use refused::refused_finding;

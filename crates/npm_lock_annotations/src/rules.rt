@@ -14,8 +14,11 @@ pub const ADVISORY_PLACE: usize = 5;
 /// The place of the rule of dependencies that are not checked.
 pub const UNCHECKED_PLACE: usize = 6;
 
+/// The place of the rule of files that are refused.
+pub const REFUSED_PLACE: usize = 7;
+
 /// Returns the rules, each at its place.
-pub fn rules() -> [Rule<'static>; 7]
+pub fn rules() -> [Rule<'static>; 8]
     ensures { map (λ rule. rule.id.now) result ≡ Rules.rule_words }
 {
     [
@@ -43,6 +46,7 @@ pub fn rules() -> [Rule<'static>; 7]
             description: "A dependency is not checked, or a manifest was not read.",
             level: Level::Note,
         },
+        error("refused", "A file is not read, or has a fault."),
     ]
 }
 

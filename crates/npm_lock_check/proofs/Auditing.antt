@@ -13,12 +13,12 @@ use Rattle.npm_lock_check.specs.Report.{WantedValue}
 use Rattle.npm_lock_check.specs.declared.run_error.RunError.{RunError}
 
 -- the advisories have this fault
-pub refused_as : (checked file : Data) (advisories : Option Data) (fault : FaultValue) (error : RunError)
-    → advisories ≡ Some file → IsFileFaultBeside checked file (Some fault) → AreRefusedAs fault error
-    → IsAuditRefused checked advisories error
-refused_as checked file advisories fault error is told (inl (name, same, (text, id))) =
-    inl (fault.kind, name, fault.place, same, (file, is, fault.id, id, rw text told))
-refused_as checked file advisories fault error is told (inr memory) = inr (λ none. memory)
+pub refused_as : (checked file : Data) (advisories : Option Data) (whole : List ℕ) (fault : FaultValue) (error : RunError)
+    → advisories ≡ Some file → IsFileFaultBeside checked file (Some fault) → AreRefusedAs checked file whole fault error
+    → IsAuditRefused checked advisories whole error
+refused_as checked file advisories whole fault error is told (inl (name, shown, same, (text, id), at)) =
+    inl (fault.kind, name, fault.place, shown, same, (file, is, fault.id, id, rw text told, rw text at))
+refused_as checked file advisories whole fault error is told (inr memory) = inr (λ none. memory)
 
 -- what is checked has no fault, so memory ran out
 module _ (text : List ℕ) (lock placed checked : Data) (linked : List LinkedValue) (wanted : WantedValue)
@@ -28,7 +28,7 @@ module _ (text : List ℕ) (lock placed checked : Data) (linked : List LinkedVal
   pub refused_check : IsCheckRefused checked error → IsRefused text lock placed linked wanted error
   refused_check told = inr (inr (inr (told (ap lock_fault is ∙ sound ∙ none))))
 
-  pub refused_audit : IsAuditRefused checked wanted.advisories error → IsRefused text lock placed linked wanted error
+  pub refused_audit : IsAuditRefused checked wanted.advisories wanted.advisories_text error → IsRefused text lock placed linked wanted error
   refused_audit (inl told) = inr (inl (rw is at told))
   refused_audit (inr told) = refused_check told
 

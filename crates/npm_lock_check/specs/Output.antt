@@ -11,7 +11,11 @@ use Rattle.npm_lock_faults.specs.FaultPlaces.{IsLockFaultPlace, fault_place_valu
 use Rattle.npm_lock_faults.specs.declared.fault_place.FaultPlace.{FaultPlace}
 use Rattle.npm_packages.specs.declared.fault.Fault.{Fault}
 use Rattle.npm_advisories.specs.Audit.{FoundValue}
-use Rattle.npm_advisories.specs.Faults.{fault_at}
+use Rattle.json_places.specs.Steps.{StepValue}
+use Rattle.shown_places.specs.ShownPlaces.{IsPlaceIn, shown_place_value}
+use Rattle.shown_places.specs.declared.place.ShownPlace.{ShownPlace}
+use Rattle.npm_advisories.specs.Faults.{FaultValue, fault_at}
+use Rattle.npm_advisories.specs.FaultSteps.{AreFaultStepsBeside}
 use Rattle.npm_advisories.specs.Ids.{IdValue}
 use Rattle.npm_advisories.specs.LockFaults.{IsFileFaultBeside}
 use Rattle.npm_advisories.specs.declared.fault.FaultKind.{FaultKind}
@@ -75,12 +79,19 @@ abbrev pub IsNoLockFile : (text : List ℕ) → (placed : Data) → (manifest : 
 IsNoLockFile text placed manifest found =
     (any_fault placed manifest ≡ Some found.fault) × IsLockFaultPlace text placed (fault_place_value found)
 
+-- the fault of advisories with this text is shown at the member or at the item that has to be mended
+abbrev pub IsFaultShown : (checked file : Data) → (text : List ℕ) → FaultValue → ShownPlace → Type 0
+IsFaultShown checked file text fault shown = (steps : List StepValue) × AreFaultStepsBeside checked file fault steps
+    × IsPlaceIn text steps (shown_place_value shown)
+
 -- the value of the advisories has a fault where the packages of this lock file are installed, at this place in the list
--- under this name, of an advisory with this id
-abbrev pub AreNoAdvisories : (checked : Data) → (advisories : Option Data) → FaultKind → ListName → (place : ℕ) → Type 0
-AreNoAdvisories checked advisories kind name place = (file : Data) × (advisories ≡ Some file)
+-- under this name, of an advisory with this id, and it is shown in their text
+abbrev pub AreNoAdvisories : (checked : Data) → (advisories : Option Data) → (text : List ℕ) → FaultKind → ListName
+    → (place : ℕ) → ShownPlace → Type 0
+AreNoAdvisories checked advisories text kind name place shown = (file : Data) × (advisories ≡ Some file)
     × (id : Option IdValue) × (option_map string_bytes name.id ≡ option_map id_text id)
     × IsFileFaultBeside checked file (Some (fault_at (string_bytes name.text) place id kind))
+    × IsFaultShown checked file text (fault_at (string_bytes name.text) place id kind) shown
 
 -- Why no value was read, or memory ran out later: then all was read, and it is in UTF-8 and not empty.
 abbrev pub IsUnread : {R : Type 0} → (remaining : R → Option (List ℕ)) → (old new : WatchedValue R) → RunError → Type 0
@@ -95,8 +106,8 @@ IsRefusedAs text lock linked wanted (NoLockFile found) =
     IsNoLockFile text (placed lock (manifests_of wanted.manifest linked)) wanted.manifest found
 IsRefusedAs text lock linked wanted (NoManifest fault) = IsNoManifest lock wanted.manifest fault
 IsRefusedAs text lock linked wanted (NoLinked name fault) = IsNoLinked linked name fault
-IsRefusedAs text lock linked wanted (NoAdvisories kind name place) =
-    AreNoAdvisories (checked_lock lock wanted.manifest linked) wanted.advisories kind name place
+IsRefusedAs text lock linked wanted (NoAdvisories kind name place shown) = AreNoAdvisories
+    (checked_lock lock wanted.manifest linked) wanted.advisories wanted.advisories_text kind name place shown
 IsRefusedAs text lock linked wanted _ = ⊥
 
 -- a lock file was read, and the manifests of linked folders were loaded, and one of these values has a fault

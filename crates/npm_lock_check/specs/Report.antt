@@ -41,6 +41,7 @@ pub record WantedValue : Type 0 where
   pub manifest : Option Data
   pub exact : Bool
   pub advisories : Option Data
+  pub advisories_text : List ℕ
   pub level : Severity
   pub node : Option VersionValue
   pub ignored : Kinds
@@ -55,6 +56,7 @@ wanted_value wanted = record {
   manifest = option_map (λ manifest. view manifest.now) wanted.manifest;
   exact = wanted.exact;
   advisories = option_map (λ file. view file.now) wanted.advisories;
+  advisories_text = wanted.advisories_text.now;
   level = wanted.level;
   node = option_map (λ version. version.now) wanted.node;
   ignored = wanted.ignored;

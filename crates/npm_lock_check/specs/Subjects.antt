@@ -27,7 +27,7 @@ checked_input (Errors.Input error) = Some Sources.Lock
 checked_input (Errors.NoLockFile fault) = Some Sources.Lock
 checked_input (Errors.NoManifest fault) = Some Sources.Manifest
 checked_input (Errors.NoLinked name fault) = None
-checked_input (Errors.NoAdvisories kind name place) = Some Sources.Advisories
+checked_input (Errors.NoAdvisories kind name place shown) = Some Sources.Advisories
 
 -- the input that an error is about; `Load` names its folder
 abbrev pub input_of : StopError → Option Source

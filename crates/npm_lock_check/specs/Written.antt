@@ -1,14 +1,14 @@
 -- The output for lock files.
-use Rattle.std.specs.Prelude.{◌≡◌, ℕ, List, [], ◌∷◌, Bool, true, false, if◌then◌else◌, Some, None, codes, map}
+use Rattle.std.specs.Prelude.{◌≡◌, ◌++◌, ℕ, List, [], Bool, if◌then◌else◌, Some, None, codes, map}
 use Rattle.std.specs.List.{flat_map}
-use Rattle.annotations.specs.Findings.{finding_value}
-use Rattle.annotations.specs.declared.finding.Finding.{Finding}
+use Rattle.annotations.specs.Findings.{FindingValue, finding_value}
 use Rattle.npm_advisories.specs.Audit.{FoundValue}
 use Rattle.npm_lock_reports.specs.Report.{IsReportText}
 use Rattle.npm_lock_reports.specs.Style.{StyleValue}
 use Rattle.npm_lock_reports.specs.declared.format.ReportFormat.{ReportFormat}
 use Rattle.npm_lock_reports.specs.declared.report.Report.{Report}
 use Rattle.npm_lock_annotations.specs.Findings.{AreFindings, IsFindingsText}
+use Rattle.npm_lock_check.specs.Refused.{RefusalValue, refusal_finding}
 use Rattle.npm_lock_check.specs.Report.{WantedValue}
 use Rattle.npm_lock_check.specs.declared.format.Format.{Format}
 use Rattle.npm_lock_check.specs.declared.format.Format.TheVariants as Formats
@@ -33,18 +33,15 @@ IsOutput wanted lock_text report found output = IsOutputAs wanted.format wanted 
 
 -- ---- all lock files
 
--- these lines, or these findings in this format
-abbrev pub IsTextOf : Format → (lines : List ℕ) → List Finding → (text : List ℕ) → Type 0
-IsTextOf (Formats.Report format) lines findings text = text ≡ lines
-IsTextOf (Formats.Annotations format) lines findings text =
-    IsFindingsText format (codes "1.0.0") (map finding_value findings) text
+-- the findings of all lock files, and then those of the files that were refused
+abbrev pub all_findings : List Output → List RefusalValue → List FindingValue
+all_findings outputs refusals =
+    map finding_value (flat_map (λ output. output.findings.items) outputs) ++ map refusal_finding refusals
 
--- the lines of each lock file, one file after the other; or the findings of all, as GitHub's lines or in one log
-abbrev pub IsAllText : Format → List Output → (text : List ℕ) → Type 0
-IsAllText format outputs text = IsTextOf format (flat_map (λ output. output.lines.items) outputs)
-    (flat_map (λ output. output.findings.items) outputs) text
-
--- nothing if no lock file was checked
-abbrev pub IsWritten : Format → List Output → (text : List ℕ) → Type 0
-IsWritten format [] text = text ≡ []
-IsWritten format (first ∷ others) text = IsAllText format (first ∷ others) text
+-- The lines of each lock file, one file after the other; or all findings, as GitHub's lines or in one log. The log says that the
+-- run was successful if it is complete: every lock file was checked.
+abbrev pub IsWritten : Format → List Output → List RefusalValue → (is_complete : Bool) → (text : List ℕ) → Type 0
+IsWritten (Formats.Report format) outputs refusals is_complete text =
+    text ≡ flat_map (λ output. output.lines.items) outputs
+IsWritten (Formats.Annotations format) outputs refusals is_complete text =
+    IsFindingsText format (codes "1.0.0") (all_findings outputs refusals) is_complete text

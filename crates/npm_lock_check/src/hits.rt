@@ -4,6 +4,7 @@ ghost use Rattle.serde_json.specs.View.{view};
 ghost use Rattle.npm_advisories.specs.Audit.{found_value};
 ghost use Rattle.npm_advisories.specs.Faults.{fault_value};
 ghost use Rattle.npm_advisories.specs.Ids.{id_value};
+ghost use Rattle.npm_lock_check.specs.Output.{IsFaultShown};
 ghost use Rattle.npm_lock_check.specs.Subjects.{id_text};
 ghost use Rattle.npm_lock_check.specs.Private.Refusals.{AreRefusedAs, IsAuditRefused, IsNameOf};
 ghost use Rattle.npm_lock_check.specs.Report.{AreHit, wanted_value};
@@ -11,9 +12,11 @@ ghost use Rattle.npm_lock_check.specs.Report.{AreHit, wanted_value};
 use crate::list_name::ListName;
 use crate::run_error::RunError;
 use crate::wanted::Wanted;
-use npm_advisories::{AdvisoryId, Fault, Found, LockError, audit_lock};
+use json_places::Path;
+use npm_advisories::{AdvisoryId, Fault, Found, LockError, audit_lock, fault_steps};
 use npm_lock_faults::FaultPlace;
 use serde_json::Value;
+use shown_places::ShownPlace;
 use std::alloc::{AllocError, Global};
 
 /// Returns the installed packages that an advisory hits which is not less severe than the level.
@@ -24,7 +27,8 @@ pub fn hits_of<'f, 'v>(
 ) -> Result<Vec<Found<'f, 'v>>, RunError>
     ensures found { IfOk result (λ found. AreHit (view lock.now) (wanted_value wanted.entry).advisories
         wanted.entry.level (map found_value found.items)) }
-    ensures refused { IfErr result (IsAuditRefused (view lock.now) (wanted_value wanted.entry).advisories) }
+    ensures refused { IfErr result (IsAuditRefused (view lock.now) (wanted_value wanted.entry).advisories
+        (wanted_value wanted.entry).advisories_text) }
 {
     let Some(file) = wanted.advisories else {
         return Ok(Vec::new(alloc));
@@ -32,19 +36,55 @@ pub fn hits_of<'f, 'v>(
     match audit_lock(alloc, file, wanted.level, lock) {
         Ok(found) => Ok(found),
         Err(LockError::Lock(fault)) => Err(RunError::NoLockFile(FaultPlace::of_file(alloc, fault))),
-        Err(LockError::Advisories(fault)) => Err(no_advisories(alloc, fault)),
+        Err(LockError::Advisories(fault)) => Err(no_advisories(
+            alloc,
+            file,
+            wanted.advisories_text,
+            lock,
+            fault,
+        )),
         Err(LockError::Memory) => Err(RunError::Memory),
     }
 }
 
-/// The error of advisories with a fault.
-fn no_advisories(alloc: Global, fault: Fault<'_>) -> RunError
-    ensures { AreRefusedAs (fault_value fault.entry) result }
+/// The error of advisories with this value and this text, which have a fault beside a lock file.
+fn no_advisories(
+    alloc: Global,
+    file: &Value,
+    text: &str,
+    lock: &Value,
+    fault: Fault<'_>,
+) -> RunError
+    ensures { AreRefusedAs (view lock.now) (view file.now) text.now (fault_value fault.entry) result }
 {
-    match list_name(alloc, fault) {
-        Ok(name) => RunError::NoAdvisories(fault.kind, name, fault.place),
+    let Ok(name) = list_name(alloc, fault) else {
+        return RunError::Memory;
+    };
+    match shown_fault(alloc, file, text, lock, fault) {
+        Ok(shown) => RunError::NoAdvisories(fault.kind, name, fault.place, shown),
         Err(_) => RunError::Memory,
     }
+}
+
+/// Where in the text of the advisories the fault is.
+fn shown_fault(
+    alloc: Global,
+    file: &Value,
+    text: &str,
+    lock: &Value,
+    fault: Fault<'_>,
+) -> Result<ShownPlace, AllocError>
+    ensures { IfOk result (IsFaultShown (view lock.now) (view file.now) text.now (fault_value fault.entry)) }
+{
+    let Ok(steps) = fault_steps(alloc, file, lock, fault) else {
+        return Err(AllocError);
+    };
+    let path = Path {
+        steps,
+        subject: 0,
+        rank: 0,
+    };
+    ShownPlace::of_path(alloc, text, path)
 }
 
 /// The name and the id of the advisory with a fault.

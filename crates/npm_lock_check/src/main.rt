@@ -6,7 +6,6 @@
 //! why. It is also 2 if that line, or the one that counts, is not written.
 #![tactic(auto)]
 
-mod annotated;
 mod argument_error;
 mod arguments;
 mod files;
@@ -20,6 +19,7 @@ mod node;
 mod output;
 mod outputs;
 mod program_error;
+mod refused;
 mod run_error;
 mod status;
 mod subject;
@@ -28,14 +28,13 @@ mod wanted;
 mod workspace_problems;
 mod written;
 
-use annotated::annotate;
 use argument_error::ArgumentError;
 use arguments::{Arguments, Shown, read_arguments};
-use command_lines::{Quoted, Watched, open_error, read_json, words_of};
+use command_lines::{Quoted, Watched, open_error, read_json_with_text, words_of};
 use files::files_of;
 use format::Format;
 use help::{HELP, VERSION};
-use lock_files::run;
+use lock_files::{Writing, run, stop_text};
 use node::node_of;
 use node_semver::Version;
 use npm_lock_reports::{Report, ReportFormat};
@@ -49,17 +48,32 @@ use run_error::{RunError, StopError};
 use serde_json::Value;
 use status::status_of;
 use std::fs::File;
-use std::io::{IsTerminal, Read};
+use std::io::{IsTerminal, Read, Write};
 use std::process::ExitCode;
 use subject::{lock_subject, subject_of};
 use wanted::Wanted;
 
-/// The arguments, the version of Node that they name, and the format.
+/// A file of advisories.
+#[derive(Drop)]
+struct Advisories {
+    value: Value,
+    text: String,
+}
+
+/// The files that are read once, before the lock files.
+#[derive(Drop)]
+struct Inputs {
+    manifest: Option<Value>,
+    advisories: Option<Advisories>,
+}
+
+/// What a lock file is checked with.
 #[derive(Clone, Copy, Drop)]
 struct Beside<'a> {
-    asked: Arguments<'a>,
+    writing: Writing<'a>,
     node: Option<&'a Version>,
-    format: Format,
+    manifest: Option<&'a Value>,
+    advisories: Option<&'a Advisories>,
 }
 
 /// Ends with the status of the run, or with 2 if it did not begin.
@@ -89,28 +103,57 @@ fn answered<'a>(rt: &HostRuntime, words: &'a [String]) -> Result<u8, ProgramErro
     }
     let node = node_asked(rt, asked)?;
     let files = files_of(rt.alloc(), words).map_err(|_| stopped(asked, RunError::Memory))?;
-    let format = match asked.format {
+    let writing = Writing {
+        format: format_of(rt, asked),
+        asked,
+        outer: asked.manifest.map_or(".", folder_of),
+    };
+    let inputs = match inputs_of(rt, asked) {
+        Ok(inputs) => inputs,
+        Err(error) => {
+            write_stop(rt, writing, &error);
+            return Err(ProgramError::Stopped(subject_of(asked, "-", &error), error));
+        }
+    };
+    let beside = Beside {
+        writing,
+        node: node.as_ref(),
+        manifest: inputs.manifest.as_ref(),
+        advisories: inputs.advisories.as_ref(),
+    };
+    checked_all(rt, beside, &files).map_err(|error| stopped(asked, error))
+}
+
+/// The format that is asked for, or else lines: text for a terminal, and JSON for anything else.
+fn format_of(rt: &HostRuntime, asked: Arguments<'_>) -> Format {
+    match asked.format {
         Some(format) => format,
         None if rt.stdout().is_terminal() => Format::Report(ReportFormat::Text),
         None => Format::Report(ReportFormat::Json),
-    };
-    let beside = Beside {
-        asked,
-        node: node.as_ref(),
-        format,
-    };
+    }
+}
+
+/// Writes what a format with places says of an error that stops the run. The error has its line on standard error as well, so
+/// nothing more is done if this fails.
+fn write_stop(rt: &HostRuntime, writing: Writing<'_>, error: &StopError) {
+    if let Ok(text) = stop_text(rt.alloc(), writing, error) {
+        match rt.stdout().write_all(text.as_slice()) {
+            Ok(()) | Err(_) => {}
+        }
+    }
+}
+
+/// Checks the lock files, and writes the output and the lines. Returns the exit status.
+fn checked_all(rt: &HostRuntime, beside: Beside<'_>, files: &[&str]) -> Result<u8, RunError> {
     let mut writer = Watched::new(rt.stdout());
-    let outcomes = match run(
+    let outcomes = run(
         rt.alloc(),
         &mut writer,
-        &files,
-        format,
+        files,
+        beside.writing,
         |file| opened(rt, beside, file),
-    ) {
-        Ok(outcomes) => outcomes,
-        Err(error) => return Err(stopped(asked, error)),
-    };
-    let is_said = said(rt, asked, &files, &outcomes);
+    )?;
+    let is_said = said(rt, beside.writing.asked, files, &outcomes);
     Ok(status_of(&outcomes, is_said))
 }
 
@@ -126,13 +169,10 @@ fn said(
         let line = match outcome {
             Ok(report) if asked.other.is_some() => eprintln!(rt; "{}{report}", lock_subject(*file)),
             Ok(report) => eprintln!(rt; "{report}"),
-            Err(error) => {
-                annotate(rt, asked, *file, error);
-                eprintln!(rt;
-                    "npm_lock_check: {}{error}",
-                    subject_of(asked, *file, error)
-                )
-            }
+            Err(error) => eprintln!(rt;
+                "npm_lock_check: {}{error}",
+                subject_of(asked, *file, error)
+            ),
         };
         if line.is_err() {
             is_said = false;
@@ -186,54 +226,47 @@ fn opened<'f>(
     }
 }
 
-/// Reads the files that the arguments name beside the lock files, and checks a lock file.
+/// Checks a lock file.
 fn checked<'f, R: Read + Drop>(
     rt: &HostRuntime,
     reader: R,
     beside: Beside<'_>,
     file: &'f str,
 ) -> Result<(Report, Output<'f>), StopError> {
-    let asked = beside.asked;
-    let manifest = manifest_at(rt, asked.manifest).map_err(StopError::Manifest)?;
-    let advisories = value_at(rt, asked.advisories).map_err(StopError::Advisories)?;
-    checked_beside(
-        rt,
-        reader,
-        beside,
-        file,
-        manifest.as_ref(),
-        advisories.as_ref(),
-    )
-}
-
-/// Checks a lock file, beside a manifest and advisories.
-fn checked_beside<'f, R: Read + Drop>(
-    rt: &HostRuntime,
-    reader: R,
-    beside: Beside<'_>,
-    file: &'f str,
-    manifest: Option<&Value>,
-    advisories: Option<&Value>,
-) -> Result<(Report, Output<'f>), StopError> {
-    let asked = beside.asked;
+    let Writing {
+        format,
+        asked,
+        outer,
+    } = beside.writing;
+    let manifest = beside.manifest;
     let wanted = Wanted {
         manifest,
         exact: asked.exact,
-        advisories,
+        advisories: beside.advisories.map(|file| &file.value),
+        advisories_text: beside.advisories.map_or("", |file| file.text.as_str()),
         level: asked.level,
         node: beside.node,
         ignored: asked.ignored,
         unchecked: asked.unchecked,
-        format: beside.format,
+        format,
         file,
         named: asked.other.is_some(),
     };
-    let folder = asked.manifest.map_or(".", folder_of);
     checked_in(rt.alloc(), &mut Watched::new(reader), wanted, |lock| {
         let loaded = manifests_of(rt.alloc(), lock, |linked| {
-            manifest_in(rt, folder, linked, asked.outside, true)
+            manifest_in(rt, outer, linked, asked.outside, true)
         })?;
-        with_workspaces(rt, folder, manifest, asked.outside, loaded)
+        with_workspaces(rt, outer, manifest, asked.outside, loaded)
+    })
+}
+
+/// Reads the files that the arguments name beside the lock files.
+fn inputs_of(rt: &HostRuntime, asked: Arguments<'_>) -> Result<Inputs, StopError> {
+    let manifest = manifest_at(rt, asked.manifest).map_err(StopError::Manifest)?;
+    let advisories = advisories_at(rt, asked.advisories).map_err(StopError::Advisories)?;
+    Ok(Inputs {
+        manifest,
+        advisories,
     })
 }
 
@@ -246,14 +279,14 @@ fn manifest_at(rt: &HostRuntime, path: Option<&str>) -> Result<Option<Value>, Ma
     read_faultless(rt.alloc(), &mut Watched::new(file)).map(Some)
 }
 
-/// Reads the JSON value of a file, if there is one.
-fn value_at(rt: &HostRuntime, path: Option<&str>) -> Result<Option<Value>, RunError> {
+/// Reads the file of advisories, if there is one.
+fn advisories_at(rt: &HostRuntime, path: Option<&str>) -> Result<Option<Advisories>, RunError> {
     let Some(path) = path else {
         return Ok(None);
     };
     let file = File::open(rt, path).map_err(|error| RunError::Input(open_error(error)))?;
-    match read_json(rt.alloc(), &mut Watched::new(file)) {
-        Ok(value) => Ok(Some(value)),
+    match read_json_with_text(rt.alloc(), &mut Watched::new(file)) {
+        Ok((value, text)) => Ok(Some(Advisories { value, text })),
         Err(error) => Err(RunError::Input(error)),
     }
 }

@@ -1,10 +1,12 @@
 //! The output for lock files, before it is written.
 ghost use Rattle.std.specs.Prelude.{◌≡◌, ◌++◌, [], IfOk, OnOk, map};
 ghost use Rattle.std.specs.List.{flat_map};
-ghost use Rattle.npm_lock_check.specs.Written.{IsTextOf, IsWritten};
+ghost use Rattle.npm_lock_check.specs.Refused.{refusal_value};
+ghost use Rattle.npm_lock_check.specs.Written.{IsWritten};
 
 use crate::format::Format;
 use crate::help::NUMBER;
+use crate::refused::{Refusal, push_findings_of};
 use annotations::Finding;
 use npm_lock_annotations::push_findings;
 use std::alloc::{AllocError, Global};
@@ -16,40 +18,53 @@ pub struct Output<'f> {
     pub findings: Vec<Finding<'f>>,
 }
 
-/// Returns the text that is written for lock files: their lines, or all their findings. It is empty if there is no lock file.
+/// Returns the text that is written for lock files: their lines, or all their findings and then those of the files that were refused. A
+/// log also says whether every lock file was checked.
 ///
 /// # Memory
 ///
 /// Allocates the text, and a list of all findings.
-pub fn text_of(
+pub fn text_of<'f>(
     alloc: Global,
     format: Format,
-    outputs: Vec<Output<'_>>,
+    outputs: Vec<Output<'f>>,
+    refusals: &'f [Refusal],
+    is_complete: bool,
 ) -> Result<Vec<u8>, AllocError>
-    ensures { IfOk result (λ text. IsWritten format outputs.entry.items text.items) }
+    ensures { IfOk result (λ text. IsWritten format outputs.entry.items (map refusal_value refusals.now) is_complete
+        text.items) }
 {
-    if outputs.is_empty() {
-        return Ok(Vec::new(alloc));
-    }
-    all_text(alloc, format, joined(alloc, outputs)?)
-}
-
-/// Returns the text of these lines, or of these findings.
-fn all_text(alloc: Global, format: Format, all: Output<'_>) -> Result<Vec<u8>, AllocError>
-    ensures { IfOk result (λ text. IsTextOf format all.entry.lines.items all.entry.findings.items text.items) }
-{
+    let Output { lines, findings } = joined(alloc, outputs)?;
     match format {
-        Format::Report(_) => Ok(all.lines),
+        Format::Report(_) => Ok(lines),
         Format::Annotations(format) => {
+            let mut findings = findings;
+            push_findings_of(alloc, &mut findings, refusals)?;
             let mut text = Vec::new(alloc);
-            push_findings(&mut text, format, NUMBER, &all.findings)?;
+            push_findings(&mut text, format, NUMBER, &findings, is_complete)?;
             Ok(text)
         }
     }
 }
 
-/// Returns the lines of all and the findings of all.
+/// Returns the lines of all and the findings of all. Those of a single lock file are not copied.
 fn joined<'f>(alloc: Global, outputs: Vec<Output<'f>>) -> Result<Output<'f>, AllocError>
+    ensures lines { IfOk result (λ all. all.lines.items ≡ flat_map (λ output. output.lines.items) outputs.entry.items) }
+    ensures findings { IfOk result (λ all. all.findings.items
+        ≡ flat_map (λ output. output.findings.items) outputs.entry.items) }
+{
+    let mut outputs = outputs;
+    if outputs.len() != 1 {
+        return copied(alloc, outputs);
+    }
+    match outputs.pop() {
+        Some(only) => Ok(only),
+        None => copied(alloc, outputs),
+    }
+}
+
+/// Returns copies of the lines of all and of the findings of all.
+fn copied<'f>(alloc: Global, outputs: Vec<Output<'f>>) -> Result<Output<'f>, AllocError>
     ensures lines { IfOk result (λ all. all.lines.items ≡ flat_map (λ output. output.lines.items) outputs.entry.items) }
     ensures findings { IfOk result (λ all. all.findings.items
         ≡ flat_map (λ output. output.findings.items) outputs.entry.items) }

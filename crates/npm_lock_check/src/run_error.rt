@@ -6,6 +6,7 @@ use npm_lock::Fault;
 use npm_lock_faults::FaultPlace;
 use npm_lock_reports::FolderName;
 use npm_manifest_files::{LoadError, ManifestError};
+use shown_places::ShownPlace;
 use thiserror::Error;
 
 /// Why a lock file was not checked.
@@ -29,9 +30,10 @@ pub enum RunError {
     /// The manifest of the package in this folder has a fault.
     #[error("{0}/package.json: the manifest is not read: {1}")]
     NoLinked(FolderName, Fault),
-    /// The advisories have a fault: its kind, the name that the advisory stands under, and its place in the list there.
-    #[error("the advisories are not read: {}", PlacedFault {kind: *.0, name: .1, place: *.2})]
-    NoAdvisories(FaultKind, ListName, usize),
+    /// The advisories have a fault: its kind, the name that the advisory stands under, its place in the list there, and where in the text
+    /// of the file the fault is.
+    #[error("the advisories are not read: {}{}", PlacedFault {kind: *.0, name: .1, place: *.2}, .3)]
+    NoAdvisories(FaultKind, ListName, usize, ShownPlace),
 }
 
 /// Why the program stopped.

@@ -94,7 +94,7 @@ fn checked_input(error: &RunError) -> Option<Source>
         RunError::Write | RunError::Memory | RunError::NoLinked(_, _) => None,
         RunError::Input(InputError::Memory) => None,
         RunError::NoManifest(_) => Some(Source::Manifest),
-        RunError::NoAdvisories(_, _, _) => Some(Source::Advisories),
+        RunError::NoAdvisories(_, _, _, _) => Some(Source::Advisories),
         _ => Some(Source::Lock),
     }
 }

@@ -14,6 +14,8 @@ pub struct Wanted<'a, 'f> {
     pub exact: bool,
     /// Security advisories, as `npm_advisories` reads them.
     pub advisories: Option<&'a Value>,
+    /// The text of their file, or the empty one.
+    pub advisories_text: &'a str,
     /// Advisories that are less severe are left out.
     pub level: Severity,
     /// The version of Node that each package is checked with.

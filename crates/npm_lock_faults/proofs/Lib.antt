@@ -1,5 +1,4 @@
 pub mod Examples
-pub mod Placed
 pub mod Roots
 pub mod SameFaults
 pub mod Steps

@@ -1,4 +1,4 @@
 -- What the contracts of npm_lock_faults say, in reading order.
 
 pub mod FaultPaths  -- where the fault of a value is: the path of a member
-pub mod FaultPlaces  -- the line and the column of it in a text, and what is written
+pub mod FaultPlaces  -- the line and the column of it in a text

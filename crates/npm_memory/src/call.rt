@@ -2,12 +2,13 @@
 use crate::answer;
 use crate::answer::Answer;
 use crate::list::{
-    text_of_edges, text_of_found, text_of_mismatches, text_of_problems, text_of_texts,
+    text_of_edges, text_of_found, text_of_mismatches, text_of_problems, text_of_steps,
+    text_of_texts,
 };
 use crate::picked::{kept, picked};
 use memory_trials::{CallError, Trial};
 use node_semver::Version;
-use npm_advisories::{LockError, Severity, audit_lock};
+use npm_advisories::{LockError, Severity, audit_lock, fault_steps};
 use npm_lock::{CheckError, Dependents, Problems};
 use serde_json::Value;
 use std::alloc::{AllocError, Global};
@@ -44,6 +45,8 @@ enum Name {
     Edges,
     /// From the severity of the text on.
     Audit,
+    /// Of the fault that such advisories have.
+    FaultSteps,
     /// For the text, with the options of the second value.
     Pick,
     /// For the texts between commas, with the options of the second value.
@@ -83,6 +86,7 @@ impl Trial for Call {
             Name::Dependents => dependents(alloc, first, text),
             Name::Edges => edges(alloc, first),
             Name::Audit => audited(alloc, first, second, text),
+            Name::FaultSteps => steps_to_fault(alloc, first, second),
             Name::Pick => picked(alloc, first, second, text),
             Name::Keep => kept(alloc, first, second, text),
         }
@@ -116,6 +120,7 @@ fn name_of(name: &str) -> Option<Name> {
         "Dependents::of_lock" => Name::Dependents,
         "npm_packages::edges_of" => Name::Edges,
         "npm_advisories::audit_lock" => Name::Audit,
+        "npm_advisories::fault_steps" => Name::FaultSteps,
         "npm_pick::pick" => Name::Pick,
         "npm_pick::keep" => Name::Keep,
         _ => return None,
@@ -271,5 +276,21 @@ fn audited(alloc: Global, advisories: &Value, lock: Option<&Value>, level: &str)
         Err(LockError::Memory) => Answer::OutOfMemory,
         Err(LockError::Lock(fault)) => Answer::NoLock(fault),
         Err(LockError::Advisories(_)) => Answer::NoAdvisories,
+    }
+}
+
+fn steps_to_fault(alloc: Global, advisories: &Value, lock: Option<&Value>) -> Answer {
+    let Some(lock) = lock else {
+        return Answer::Nothing;
+    };
+    match audit_lock(alloc, advisories, Severity::Info, lock) {
+        Ok(_) => Answer::Nothing,
+        Err(LockError::Memory) => Answer::OutOfMemory,
+        Err(LockError::Lock(fault)) => Answer::NoLock(fault),
+        Err(LockError::Advisories(fault)) => match fault_steps(alloc, advisories, lock, fault) {
+            Ok(steps) => answer::list(text_of_steps(alloc, &steps)),
+            Err(LockError::Memory) => Answer::OutOfMemory,
+            Err(_) => Answer::NoAdvisories,
+        },
     }
 }

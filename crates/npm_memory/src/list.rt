@@ -1,4 +1,5 @@
 //! Texts of lists, each member with a tab after it. They are made within a call, so that no list outlives what it borrows.
+use json_places::Step;
 use npm_advisories::Found;
 use npm_lock::{Edge, Problem, Problems, Unchecked};
 use npm_manifests::Mismatch;
@@ -48,6 +49,23 @@ pub(crate) fn text_of_found(alloc: Global, list: &[Found<'_, '_>]) -> Result<Str
         push_json(alloc, &mut text, &json)?;
     }
     Ok(text)
+}
+
+/// The names of members, and the positions of items.
+pub(crate) fn text_of_steps(alloc: Global, list: &[Step<'_>]) -> Result<String, AllocError> {
+    let mut text = String::new(alloc);
+    for step in list {
+        push_step(alloc, &mut text, *step)?;
+    }
+    Ok(text)
+}
+
+fn push_step(alloc: Global, text: &mut String, step: Step<'_>) -> Result<(), AllocError> {
+    match step {
+        Step::Member(name) => text.push_str(name)?,
+        Step::Item(position) => text.push_str(position.to_string(alloc)?.as_str())?,
+    }
+    text.push_str("\t")
 }
 
 /// The folders and the versions that are found, by the names.

@@ -40,7 +40,7 @@ pub(crate) fn range_of(alloc: Global, one: &Value) -> Result<Option<Range>, Unre
 }
 
 /// The spans of all ranges that have versions.
-fn spans_of_ranges(alloc: Global, ranges: &[Value]) -> Result<Vec<Span<Version>>, Unread>
+pub(crate) fn spans_of_ranges(alloc: Global, ranges: &[Value]) -> Result<Vec<Span<Version>>, Unread>
     ensures read { IfOk result (λ spans. Have spans.items
         (λ v. AnyByRecursion (λ events. IsInEvents events v) (Form.ranges_of (items_view ranges.now)))) }
     ensures sound { OnOk result (Faults.first_fault (Faults.osv_range_fault is_version) (items_view ranges.now) ≡ None) }
@@ -56,7 +56,7 @@ fn spans_of_ranges(alloc: Global, ranges: &[Value]) -> Result<Vec<Span<Version>>
 }
 
 /// The spans of a range; none if it has no versions.
-fn spans_of_range(alloc: Global, range: &Value) -> Result<Vec<Span<Version>>, Unread>
+pub(crate) fn spans_of_range(alloc: Global, range: &Value) -> Result<Vec<Span<Version>>, Unread>
     ensures read { IfOk result (λ spans. Have spans.items (λ v. AnyByRecursion (λ events. IsInEvents events v)
         (if Form.has_versions (view range.now) then Form.events_of (Form.items_at (codes "events") (view range.now)) ∷ []
         else []))) }
@@ -72,7 +72,7 @@ fn spans_of_range(alloc: Global, range: &Value) -> Result<Vec<Span<Version>>, Un
 }
 
 /// Returns `true` if a range has versions, and not commits.
-fn has_versions(range: &Value) -> Result<bool, FaultKind>
+pub(crate) fn has_versions(range: &Value) -> Result<bool, FaultKind>
     ensures versions { IfOk result (λ has. has ≡ Form.has_versions (view range.now)) }
     ensures fault { result_err result ≡ Faults.type_fault (view range.now) }
 {

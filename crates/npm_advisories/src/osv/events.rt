@@ -1,5 +1,5 @@
 //! The events of a range, as marks at cuts.
-ghost use Rattle.std.specs.Prelude.{◌≡◌, IfErr, IfOk, None, OnOk, option_map};
+ghost use Rattle.std.specs.Prelude.{◌≡◌, IfErr, IfOk, None, OnOk, is_some, option_map};
 ghost use Rattle.serde_json.specs.View.{items_view, view};
 ghost use Rattle.node_semver.specs.Versions.{IsVersionText};
 ghost use Rattle.npm_advisories.specs.OsvFaults as Faults;
@@ -10,7 +10,7 @@ ghost use Rattle.npm_advisories.specs.Private.Reading.{IsUnreadAs};
 ghost use Rattle.npm_advisories.specs.Private.VersionTest.{is_version};
 
 use crate::Result;
-use crate::fault::{FaultKind, Unread};
+use crate::fault::{FaultKind, Unread, is_refused};
 use crate::osv::marks::{Mark, Marks};
 use node_semver::{Version, VersionRef};
 use semver_cuts::Cut;
@@ -57,6 +57,19 @@ fn event_of(value: &Value) -> Option<Event<'_>>
         (None, None, Some(text), None) => Some(Event::LastAffected(text.as_str()?)),
         (None, None, None, Some(text)) => Some(Event::Limit(text.as_str()?)),
         _ => None,
+    }
+}
+
+/// Returns whether an event has a fault.
+pub(crate) fn has_fault(alloc: Global, value: &Value) -> Result<bool>
+    ensures { IfOk result (λ has. has ≡ is_some (Faults.event_fault is_version (view value.now))) }
+{
+    let Some(event) = event_of(value) else {
+        return Ok(true);
+    };
+    match mark_of(alloc, event) {
+        Ok(_) => Ok(false),
+        Err(unread) => is_refused(unread),
     }
 }
 

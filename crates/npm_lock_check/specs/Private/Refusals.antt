@@ -10,7 +10,8 @@ use Rattle.npm_lock_faults.specs.declared.fault_place.FaultPlace.{FaultPlace}
 use Rattle.npm_advisories.specs.Faults.{FaultValue}
 use Rattle.npm_advisories.specs.declared.fault.FaultKind.{FaultKind}
 use Rattle.npm_manifest_files.specs.Linked.{LinkedValue}
-use Rattle.npm_lock_check.specs.Output.{AreNoAdvisories, IsNoLinked, IsNoLockFile, IsNoManifest}
+use Rattle.npm_lock_check.specs.Output.{AreNoAdvisories, IsFaultShown, IsNoLinked, IsNoLockFile, IsNoManifest}
+use Rattle.shown_places.specs.declared.place.ShownPlace.{ShownPlace}
 use Rattle.npm_lock_check.specs.Report.{WantedValue}
 use Rattle.npm_lock_check.specs.Subjects.{id_text}
 use Rattle.npm_lock_reports.specs.declared.folder_name.FolderName.{FolderName}
@@ -57,24 +58,26 @@ abbrev pub IsNameOf : FaultValue → ListName → Type 0
 IsNameOf fault name = (string_bytes name.text ≡ fault.name)
     × (option_map string_bytes name.id ≡ option_map id_text fault.id)
 
--- the advisories, with this fault
-abbrev pub AreRefusedAs : FaultValue → RunError → Type 0
-AreRefusedAs fault error = ((name : ListName) × (error ≡ NoAdvisories fault.kind name fault.place)
-    × IsNameOf fault name) ⊎ (error ≡ Memory)
+-- the advisories with this text, with this fault
+abbrev pub AreRefusedAs : (checked file : Data) → (text : List ℕ) → FaultValue → RunError → Type 0
+AreRefusedAs checked file text fault error = ((name : ListName) × (shown : ShownPlace)
+    × (error ≡ NoAdvisories fault.kind name fault.place shown) × IsNameOf fault name
+    × IsFaultShown checked file text fault shown) ⊎ (error ≡ Memory)
 
 -- the advisories of a check
-abbrev pub AreAdvisoriesRefused : (checked : Data) → (advisories : Option Data) → RunError → Type 0
-AreAdvisoriesRefused checked advisories error = (kind : FaultKind) × (name : ListName) × (place : ℕ)
-    × (error ≡ NoAdvisories kind name place) × AreNoAdvisories checked advisories kind name place
+abbrev pub AreAdvisoriesRefused : (checked : Data) → (advisories : Option Data) → (text : List ℕ) → RunError → Type 0
+AreAdvisoriesRefused checked advisories text error = (kind : FaultKind) × (name : ListName) × (place : ℕ)
+    × (shown : ShownPlace) × (error ≡ NoAdvisories kind name place shown)
+    × AreNoAdvisories checked advisories text kind name place shown
 
 -- the advisories, or the lock file for them
-abbrev pub IsAuditRefused : (checked : Data) → (advisories : Option Data) → RunError → Type 0
-IsAuditRefused checked advisories error =
-    AreAdvisoriesRefused checked advisories error ⊎ IsCheckRefused checked error
+abbrev pub IsAuditRefused : (checked : Data) → (advisories : Option Data) → (text : List ℕ) → RunError → Type 0
+IsAuditRefused checked advisories text error =
+    AreAdvisoriesRefused checked advisories text error ⊎ IsCheckRefused checked error
 
 -- any of them
 abbrev pub IsRefused : (text : List ℕ) → (lock placed : Data) → (linked : List LinkedValue) → WantedValue → RunError
     → Type 0
 IsRefused text lock placed linked wanted error = IsCompareRefused lock wanted.manifest linked error
-    ⊎ AreAdvisoriesRefused (converted placed wanted.manifest) wanted.advisories error
+    ⊎ AreAdvisoriesRefused (converted placed wanted.manifest) wanted.advisories wanted.advisories_text error
     ⊎ IsLockRefused text placed wanted.manifest error

@@ -2,7 +2,7 @@
 use Rattle.std.proofs.Common.{codes, map, refl}
 use Rattle.annotations.specs.Escapes.{json_string}
 use Rattle.annotations.specs.Findings.{finding_value, rule_value}
-use Rattle.annotations.specs.Sarif.{listed, result_text, rule_text}
+use Rattle.annotations.specs.Sarif.{listed, result_text, rule_text, run_text}
 use Rattle.annotations.proofs.Parts.{ten}
 use Rattle.annotations.proofs.sarif.push_log.Goals as goal
 
@@ -13,11 +13,13 @@ returns c = let tool = c.args.tool in
     (codes "{\"$schema\":\"https://json.schemastore.org/sarif-2.1.0.json\",\"version\":\"2.1.0\",")
     (codes "\"runs\":[{\"tool\":{\"driver\":{\"name\":") (json_string tool.name.now) (codes ",\"version\":")
     (json_string tool.version.now) (codes ",\"rules\":[") (listed rule_text (map rule_value tool.rules.now))
-    (codes "]}},\"columnKind\":\"unicodeCodePoints\",\"results\":[")
+    (run_text c.args.is_successful)
     (listed result_text (map finding_value c.args.findings.now)) (codes "]}]}\n")
     (rw (
       c.in_ok-push_results.ensures,
       c.in_ok-extend_from_slice-5.ensures.items,
+      c.as_bytes-3.ensures.value,
+      c.run_text.ensures,
       c.in_ok-push_rules.ensures,
       c.in_ok-extend_from_slice-4.ensures.items,
       c.in_ok-push_json-2.ensures,

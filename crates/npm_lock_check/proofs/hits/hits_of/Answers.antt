@@ -15,4 +15,4 @@ returns-in-Err-Advisories-clause-refused c =
     let there : (wanted_value c.args.wanted).advisories ≡ Some (view c.in-Some.file.now) =
     ap (option_map (λ file. view file.now)) c.in-Some.is in
     refused_as (view c.args.lock.now) (view c.in-Some.file.now) (wanted_value c.args.wanted).advisories
-    (fault_value c.in-Err-Advisories.fault) c.no_advisories.result there told c.no_advisories.ensures
+    (wanted_value c.args.wanted).advisories_text (fault_value c.in-Err-Advisories.fault) c.no_advisories.result there told c.no_advisories.ensures

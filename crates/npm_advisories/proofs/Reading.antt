@@ -3,11 +3,11 @@ use Rattle.std.proofs.Common.{◌≡◌, ◌∙◌, ◌++◌, ◌<◌, ◌+◌, 
 use Rattle.std.proofs.Common.{drop-cons, get_or, length, option_map, refl, sym}
 use Rattle.std.proofs.lemmas.List.{append_assoc, drop_all}
 use Rattle.std.specs.Option.{option_or}
-use Rattle.serde_json.specs.Data.{item, no_items}
+use Rattle.serde_json.specs.Data.{Data, item, no_items}
 use Rattle.serde_json.specs.View.{items_view, view}
 use Rattle.serde_json.specs.declared.value.Value.{Value}
 use Rattle.npm_advisories.specs.Advisories.{AdvisoryValue, npm_advisory, npm_list}
-use Rattle.npm_advisories.specs.Faults.{FaultValue, fault_at, list_fault, npm_fault}
+use Rattle.npm_advisories.specs.Faults.{FaultValue, fault_at, list_fault}
 use Rattle.npm_advisories.specs.Ids.{IdValue, id_in}
 use Rattle.npm_advisories.specs.Private.Reading.{IsErrorAt, IsErrorOf, IsUnreadAs}
 use Rattle.npm_advisories.specs.declared.fault.AuditError.{AuditError}
@@ -29,14 +29,15 @@ module _ (name : List ℕ) (entries : List Value) (i : ℕ) (one : Value) (lt : 
   left = rw (add-one, drop-cons entries i one lt, ← is) refl
 
   -- the fault of those from a place on
-  pub fault-next : list_fault name i (items_view (drop i entries))
-      ≡ option_or (option_map (fault_at name i (id_in (view one))) (npm_fault (view one)))
-      (list_fault name (i + 1) (items_view (drop (i + 1) entries)))
-  fault-next = rw left refl
+  pub fault-next : (fault_of : Data → Option FaultKind) → list_fault fault_of name i (items_view (drop i entries))
+      ≡ option_or (option_map (fault_at name i (id_in (view one))) (fault_of (view one)))
+      (list_fault fault_of name (i + 1) (items_view (drop (i + 1) entries)))
+  fault-next fault_of = rw left refl
 
-  pub fault-none : npm_fault (view one) ≡ None
-      → list_fault name i (items_view (drop i entries)) ≡ list_fault name (i + 1) (items_view (drop (i + 1) entries))
-  fault-none none = fault-next ∙ (rw none refl)
+  pub fault-none : (fault_of : Data → Option FaultKind) → fault_of (view one) ≡ None
+      → list_fault fault_of name i (items_view (drop i entries))
+      ≡ list_fault fault_of name (i + 1) (items_view (drop (i + 1) entries))
+  fault-none fault_of none = fault-next fault_of ∙ (rw none refl)
 
   pub read-next : (front : List AdvisoryValue) → front ++ npm_list name (items_view (drop i entries))
       ≡ (front ++ npm_advisory name (view one) ∷ []) ++ npm_list name (items_view (drop (i + 1) entries))

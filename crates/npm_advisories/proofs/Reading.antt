@@ -11,6 +11,7 @@ use Rattle.npm_advisories.specs.Faults.{FaultValue, fault_at, list_fault}
 use Rattle.npm_advisories.specs.Ids.{IdValue, id_in}
 use Rattle.npm_advisories.specs.Private.Reading.{IsErrorAt, IsErrorOf, IsUnreadAs}
 use Rattle.npm_advisories.specs.declared.fault.AuditError.{AuditError}
+use Rattle.npm_advisories.specs.declared.fault.AuditError.TheVariants as Errors
 use Rattle.npm_advisories.specs.declared.fault.FaultKind.{FaultKind}
 use Rattle.npm_advisories.specs.declared.fault.Unread.{Unread}
 use Rattle.npm_advisories.specs.declared.fault.Unread.TheVariants.{Memory, Refused}
@@ -21,6 +22,12 @@ pub error-of : (unread : Unread) (name : List ℕ) (place : ℕ) (id : Option Id
     → IsErrorOf (option_or (option_map (fault_at name place id) fault) rest) error
 error-of (Refused kind) name place id error fault rest is at = rw is at.0
 error-of Memory name place id error fault rest is at = rw at tt
+
+-- the error of the first of some faults is that of all
+pub error-first : (fault rest whole : Option FaultValue) (error : AuditError) → IsErrorOf fault error
+    → whole ≡ option_or fault rest → IsErrorOf whole error
+error-first fault rest whole (Errors.Refused at) is before = before ∙ (rw is refl)
+error-first fault rest whole Errors.Memory is before = tt
 
 -- the list of an advisory and others
 module _ (name : List ℕ) (entries : List Value) (i : ℕ) (one : Value) (lt : i < length entries)

@@ -3,14 +3,15 @@ use Rattle.std.proofs.Common.{◌≡◌, ◌∙◌, ◌++◌, ◌<◌, ◌+◌, 
 use Rattle.std.proofs.Common.{drop-cons, get_or, length, option_map, refl, sym}
 use Rattle.std.proofs.lemmas.List.{append_assoc, drop_all}
 use Rattle.std.specs.Option.{option_or}
-use Rattle.serde_json.specs.Data.{item, no_items}
+use Rattle.serde_json.specs.Data.{Data, item, no_items}
 use Rattle.serde_json.specs.View.{items_view, view}
 use Rattle.serde_json.specs.declared.value.Value.{Value}
 use Rattle.npm_advisories.specs.Advisories.{AdvisoryValue, npm_advisory, npm_list}
-use Rattle.npm_advisories.specs.Faults.{FaultValue, fault_at, list_fault, npm_fault}
+use Rattle.npm_advisories.specs.Faults.{FaultValue, fault_at, list_fault}
 use Rattle.npm_advisories.specs.Ids.{IdValue, id_in}
 use Rattle.npm_advisories.specs.Private.Reading.{IsErrorAt, IsErrorOf, IsUnreadAs}
 use Rattle.npm_advisories.specs.declared.fault.AuditError.{AuditError}
+use Rattle.npm_advisories.specs.declared.fault.AuditError.TheVariants as Errors
 use Rattle.npm_advisories.specs.declared.fault.FaultKind.{FaultKind}
 use Rattle.npm_advisories.specs.declared.fault.Unread.{Unread}
 use Rattle.npm_advisories.specs.declared.fault.Unread.TheVariants.{Memory, Refused}
@@ -22,6 +23,12 @@ pub error-of : (unread : Unread) (name : List ℕ) (place : ℕ) (id : Option Id
 error-of (Refused kind) name place id error fault rest is at = rw is at.0
 error-of Memory name place id error fault rest is at = rw at tt
 
+-- the error of the first of some faults is that of all
+pub error-first : (fault rest whole : Option FaultValue) (error : AuditError) → IsErrorOf fault error
+    → whole ≡ option_or fault rest → IsErrorOf whole error
+error-first fault rest whole (Errors.Refused at) is before = before ∙ (rw is refl)
+error-first fault rest whole Errors.Memory is before = tt
+
 -- the list of an advisory and others
 module _ (name : List ℕ) (entries : List Value) (i : ℕ) (one : Value) (lt : i < length entries)
     (is : one ≡ get_or entries i one) where
@@ -29,14 +36,15 @@ module _ (name : List ℕ) (entries : List Value) (i : ℕ) (one : Value) (lt : 
   left = rw (add-one, drop-cons entries i one lt, ← is) refl
 
   -- the fault of those from a place on
-  pub fault-next : list_fault name i (items_view (drop i entries))
-      ≡ option_or (option_map (fault_at name i (id_in (view one))) (npm_fault (view one)))
-      (list_fault name (i + 1) (items_view (drop (i + 1) entries)))
-  fault-next = rw left refl
+  pub fault-next : (fault_of : Data → Option FaultKind) → list_fault fault_of name i (items_view (drop i entries))
+      ≡ option_or (option_map (fault_at name i (id_in (view one))) (fault_of (view one)))
+      (list_fault fault_of name (i + 1) (items_view (drop (i + 1) entries)))
+  fault-next fault_of = rw left refl
 
-  pub fault-none : npm_fault (view one) ≡ None
-      → list_fault name i (items_view (drop i entries)) ≡ list_fault name (i + 1) (items_view (drop (i + 1) entries))
-  fault-none none = fault-next ∙ (rw none refl)
+  pub fault-none : (fault_of : Data → Option FaultKind) → fault_of (view one) ≡ None
+      → list_fault fault_of name i (items_view (drop i entries))
+      ≡ list_fault fault_of name (i + 1) (items_view (drop (i + 1) entries))
+  fault-none fault_of none = fault-next fault_of ∙ (rw none refl)
 
   pub read-next : (front : List AdvisoryValue) → front ++ npm_list name (items_view (drop i entries))
       ≡ (front ++ npm_advisory name (view one) ∷ []) ++ npm_list name (items_view (drop (i + 1) entries))

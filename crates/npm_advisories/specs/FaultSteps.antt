@@ -30,6 +30,7 @@ steps_among fault_of steps_of position (item one others) = if is_some (fault_of 
 
 -- the member of an advisory that a fault is about, if it is about one
 abbrev pub npm_member : FaultKind → Option (List ℕ)
+npm_member Faults.OsvUnderName = Some (codes "affected")
 npm_member Faults.Id = Some (codes "id")
 npm_member Faults.Severity = Some (codes "severity")
 npm_member Faults.Title = Some (codes "title")
@@ -74,6 +75,7 @@ module _ (is_version is_wanted : List ℕ → Bool) where
   osv_steps Faults.Advisory entry = []
   osv_steps Faults.OsvId entry = step_in (codes "id") entry
   osv_steps Faults.Withdrawn entry = to_member (codes "withdrawn") ∷ []
+  osv_steps Faults.Affected entry = step_in (codes "affected") entry
   osv_steps kind entry = to_member (codes "affected")
       ∷ steps_among (affected_fault is_version is_wanted) (affected_steps is_version) 0 (items_at (codes "affected") entry)
 

@@ -38,10 +38,16 @@ abbrev pub text_fault : (key : List ℕ) → FaultKind → (entry : Data) → Op
 text_fault key kind entry = option_and_then
     (λ value. if is_some (as_null value) || is_some (as_str value) then None else Some kind) (get key entry)
 
--- the fault of the members that say what the advisory is
+-- What makes an entry an advisory in npm's form: it is an object with an `id`. One that has `affected` is in OSV's form, and
+-- does not stand under a name.
+abbrev pub form_fault : (entry : Data) → Option FaultKind
+form_fault entry = if is_some (as_object entry) then option_or (id_fault entry)
+    (if is_some (get (codes "affected") entry) then Some Faults.OsvUnderName else None) else Some Faults.Advisory
+
+-- the fault of the other members that say what the advisory is
 abbrev pub about_fault : (entry : Data) → Option FaultKind
-about_fault entry = option_or (id_fault entry) (option_or (text_fault (codes "severity") Faults.Severity entry)
-    (option_or (text_fault (codes "title") Faults.Title entry) (text_fault (codes "url") Faults.Url entry)))
+about_fault entry = option_or (text_fault (codes "severity") Faults.Severity entry)
+    (option_or (text_fault (codes "title") Faults.Title entry) (text_fault (codes "url") Faults.Url entry))
 
 -- the list has nothing
 abbrev pub is_nothing : {A : Type 0} → List A → Bool
@@ -59,23 +65,27 @@ range_fault entry = option_or (text_fault (codes "vulnerable_versions") Faults.R
 
 -- the fault of an advisory, if it has one
 abbrev pub npm_fault : (entry : Data) → Option FaultKind
-npm_fault entry = if is_some (as_object entry) then option_or (about_fault entry) (range_fault entry)
-    else Some Faults.Advisory
+npm_fault entry = option_or (form_fault entry) (option_or (about_fault entry) (range_fault entry))
 
 -- ---- a file in npm's form
 
--- the first fault of a list, from this place on
-abbrev pub list_fault : (name : List ℕ) → (place : ℕ) → Items → Option FaultValue
-list_fault name place no_items = None
-list_fault name place (item entry others) = option_or
-    (option_map (fault_at name place (id_in entry)) (npm_fault entry))
-    (list_fault name (place + 1) others)
+-- the first fault of a list under a name, from this place on
+abbrev pub list_fault : (fault_of : Data → Option FaultKind) → (name : List ℕ) → (place : ℕ) → Items → Option FaultValue
+list_fault fault_of name place no_items = None
+list_fault fault_of name place (item entry others) = option_or
+    (option_map (fault_at name place (id_in entry)) (fault_of entry))
+    (list_fault fault_of name (place + 1) others)
 
 module _ (is_wanted : List ℕ → Bool) where
-  -- the first fault of the advisories under a name. Those under a name that is not wanted are not read
+  -- The fault of an advisory under a name. Where the name is not wanted, only the form is read: a file in another form is
+  -- refused, and is no file of advisories about other packages.
+  abbrev pub fault_under : (name : List ℕ) → (entry : Data) → Option FaultKind
+  fault_under name = if is_wanted name then npm_fault else form_fault
+
+  -- the first fault of the advisories under a name, which stand in a list
   abbrev pub member_fault : (name : List ℕ) → (list : Data) → Option FaultValue
-  member_fault name list = if is_wanted name then option_map_or (list_fault name 0) (as_array list)
-      (Some (fault_at name 0 None Faults.List)) else None
+  member_fault name list = option_map_or (list_fault (fault_under name) name 0) (as_array list)
+      (Some (fault_at name 0 None Faults.List))
 
   -- the first fault of an object that has a list for each name
   abbrev pub members_fault : Members → Option FaultValue

@@ -26,6 +26,11 @@ abbrev pub items_fault : (key : List ℕ) → FaultKind → (entry : Data) → O
 items_fault key kind entry = option_and_then
     (λ value. if is_some (as_null value) || is_some (as_array value) then None else Some kind) (get key entry)
 
+-- an OSV object says in `affected`, a list, which packages it is about
+abbrev pub affected_list_fault : (entry : Data) → Option FaultKind
+affected_list_fault entry =
+    if is_some (option_and_then as_array (get (codes "affected") entry)) then None else Some Faults.Affected
+
 -- the first fault of the items
 abbrev pub first_fault : (fault_of : Data → Option FaultKind) → Items → Option FaultKind
 first_fault fault_of no_items = None
@@ -88,9 +93,9 @@ module _ (is_wanted : List ℕ → Bool) where
   any_concerns no_items = false
   any_concerns (item one others) = may_concern one || any_concerns others
 
-  -- the same of an OSV object
+  -- the same of an OSV object, which may be about any package if it does not say which
   abbrev pub concerns : (entry : Data) → Bool
-  concerns entry = is_some (items_fault (codes "affected") Faults.Affected entry)
+  concerns entry = is_some (affected_list_fault entry)
       || any_concerns (items_at (codes "affected") entry)
 
   -- the first wanted package that one of the elements is about; the empty name if there is none
@@ -116,10 +121,10 @@ module _ (is_version is_wanted : List ℕ → Bool) where
   -- a withdrawn object is not read further
   abbrev pub present_fault : (entry : Data) → Option FaultKind
   present_fault entry = if is_withdrawn entry then None
-      else option_or (items_fault (codes "affected") Faults.Affected entry)
+      else option_or (affected_list_fault entry)
       (first_fault affected_fault (items_at (codes "affected") entry))
 
-  -- the fault of one that is about a wanted package
+  -- the fault of one that may be about a wanted package
   abbrev pub concerned_fault : (entry : Data) → Option FaultKind
   concerned_fault entry = option_or (osv_id_fault entry)
       (option_or (text_fault (codes "withdrawn") Faults.Withdrawn entry) (present_fault entry))

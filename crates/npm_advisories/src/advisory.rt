@@ -80,10 +80,8 @@ pub(crate) fn npm_advisory<'v>(
     ensures sound { OnOk result (Faults.npm_fault (view entry.now) ≡ None) }
     ensures refused { IfErr result (IsUnreadAs (Faults.npm_fault (view entry.now))) }
 {
-    entry
-        .as_object()
-        .ok_or(Unread::Refused(FaultKind::Advisory))?;
-    let about = npm_about(entry)?;
+    let id = formed_id(entry)?;
+    let about = npm_about(entry, id)?;
     let range = range_of(alloc, entry)?;
     Ok(Advisory {
         name,
@@ -92,12 +90,25 @@ pub(crate) fn npm_advisory<'v>(
     })
 }
 
-/// The members that say what the advisory is.
-fn npm_about(entry: &Value) -> Result<About<'_>, FaultKind>
+/// The `id` of an advisory that is in npm's form.
+pub(crate) fn formed_id(entry: &Value) -> Result<&Value, FaultKind>
+    ensures id { IfOk result (λ id. view id.now ≡ unwrap_or (get (codes "id") (view entry.now)) null) }
+    ensures fault { result_err result ≡ Faults.form_fault (view entry.now) }
+{
+    entry.as_object().ok_or(FaultKind::Advisory)?;
+    let id = id_of(entry)?;
+    match entry.get("affected") {
+        Some(_) => Err(FaultKind::OsvUnderName),
+        None => Ok(id),
+    }
+}
+
+/// The members that say what the advisory with this `id` is.
+fn npm_about<'v>(entry: &'v Value, id: &'v Value) -> Result<About<'v>, FaultKind>
+    requires { view id.now ≡ unwrap_or (get (codes "id") (view entry.now)) null }
     ensures about { IfOk result (λ about. about_value about ≡ Advisories.npm_about (view entry.now)) }
     ensures fault { result_err result ≡ Faults.about_fault (view entry.now) }
 {
-    let id = id_of(entry)?;
     let severity = text_of(entry, "severity", FaultKind::Severity)?;
     let title = text_of(entry, "title", FaultKind::Title)?;
     let url = text_of(entry, "url", FaultKind::Url)?;

@@ -22,6 +22,9 @@ pub enum FaultKind {
     /// The advisory is no object.
     #[error("it is no object")]
     Advisory,
+    /// The advisory has `affected`, so it is in OSV's form, but stands under a name.
+    #[error("it has `affected`: advisories in OSV's form stand in a list, and not under a name")]
+    OsvUnderName,
     /// `id` is missing, or neither a number nor a string.
     #[error("`id` is neither a number nor a string")]
     Id,
@@ -46,7 +49,7 @@ pub enum FaultKind {
     /// OSV: `withdrawn` is no string.
     #[error("`withdrawn` is no string")]
     Withdrawn,
-    /// OSV: `affected` is no list.
+    /// OSV: `affected` is missing, or no list.
     #[error("`affected` is no list")]
     Affected,
     /// OSV: an element of `affected` is no object, or its `package` has no `ecosystem` and `name` that are strings.

@@ -25,10 +25,10 @@ use crate::Result;
 use crate::advisory::{About, Advisory, severity_of, text_of};
 use crate::fault::{FaultKind, Unread};
 use crate::index::Index;
-use crate::member::{items_at, text_at};
+use crate::member::text_at;
 use crate::names::Names;
 use crate::osv::affected::range_of;
-use crate::osv::packages::{concerns, npm_name};
+use crate::osv::packages::{affected_of, concerns, npm_name};
 use crate::severity::Severity;
 use serde_json::Value;
 use std::alloc::Global;
@@ -54,7 +54,7 @@ pub(crate) fn add_osv<'v>(
     if is_withdrawn(entry)? {
         return Ok(());
     }
-    let affected = items_at(entry, "affected", FaultKind::Affected)?;
+    let affected = affected_of(entry)?;
     add_affected(alloc, index, names, about, affected)
 }
 

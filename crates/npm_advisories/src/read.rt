@@ -4,7 +4,7 @@ ghost use Rattle.std.specs.Option.{option_map_or};
 ghost use Rattle.serde_json.specs.Find.{as_array, as_object};
 ghost use Rattle.serde_json.specs.View.{items_view, view};
 ghost use Rattle.npm_advisories.specs.Advisories.{npm_list, npm_members};
-ghost use Rattle.npm_advisories.specs.Faults.{list_fault, member_fault, npm_file_fault};
+ghost use Rattle.npm_advisories.specs.Faults.{form_fault, list_fault, member_fault, npm_fault, npm_file_fault};
 ghost use Rattle.npm_advisories.specs.Files.{advisories_of, file_fault};
 ghost use Rattle.npm_advisories.specs.Ids.{id_in, id_value};
 ghost use Rattle.npm_advisories.specs.OsvFaults.{osv_fault, osv_list_fault, told_name};
@@ -14,7 +14,7 @@ ghost use Rattle.npm_advisories.specs.Private.Reading.{IsErrorAt, IsErrorOf, at_
 ghost use Rattle.npm_advisories.specs.Private.VersionTest.{is_version};
 
 use crate::Result;
-use crate::advisory::npm_advisory;
+use crate::advisory::{formed_id, npm_advisory};
 use crate::fault::{AuditError, Fault, FaultKind, Unread};
 use crate::id::{AdvisoryId, id_in};
 use crate::index::Index;
@@ -128,13 +128,13 @@ fn read_member<'v>(
     ensures sound { OnOk result (member_fault (has_name names.now) name.now (view list.now) ≡ None) }
     ensures refused { IfErr result (IsErrorOf (member_fault (has_name names.now) name.now (view list.now))) }
 {
+    let Some(entries) = list.as_array() else {
+        return Err(error_at(Unread::Refused(FaultKind::List), name, 0, None));
+    };
     if !names.has(name) {
-        return Ok(());
+        return pass_list(name, entries.as_slice());
     }
-    match list.as_array() {
-        Some(entries) => read_list(alloc, index, name, entries.as_slice()),
-        None => Err(error_at(Unread::Refused(FaultKind::List), name, 0, None)),
-    }
+    read_list(alloc, index, name, entries.as_slice())
 }
 
 /// Adds the advisories of a list.
@@ -145,13 +145,30 @@ fn read_list<'v>(
     entries: &'v [Value],
 ) -> Result<(), AuditError<'v>>
     ensures read { OnOk result ((is_wanted : List ℕ → Bool) → Adds is_wanted index.old index.new (npm_list name.now (items_view entries.now))) }
-    ensures sound { OnOk result (list_fault name.now 0 (items_view entries.now) ≡ None) }
-    ensures refused { IfErr result (IsErrorOf (list_fault name.now 0 (items_view entries.now))) }
+    ensures sound { OnOk result (list_fault npm_fault name.now 0 (items_view entries.now) ≡ None) }
+    ensures refused { IfErr result (IsErrorOf (list_fault npm_fault name.now 0 (items_view entries.now))) }
 {
     for place in 0..entries.len() {
         match npm_advisory(alloc, name, &entries[place]) {
             Ok(advisory) => index.add(alloc, advisory)?,
             Err(unread) => return Err(error_at(unread, name, place, id_in(&entries[place]))),
+        }
+    }
+    Ok(())
+}
+
+/// Passes over advisories about a package that is not installed. Refuses those in another form.
+fn pass_list<'v>(name: &'v str, entries: &'v [Value]) -> Result<(), AuditError<'v>>
+    ensures sound { OnOk result (list_fault form_fault name.now 0 (items_view entries.now) ≡ None) }
+    ensures refused { IfErr result (IsErrorOf (list_fault form_fault name.now 0 (items_view entries.now))) }
+{
+    for place in 0..entries.len() {
+        match formed_id(&entries[place]) {
+            Ok(_) => {}
+            Err(kind) => {
+                let id = id_in(&entries[place]);
+                return Err(error_at(Unread::Refused(kind), name, place, id));
+            }
         }
     }
     Ok(())

@@ -124,6 +124,7 @@ fn npm_member(kind: FaultKind) -> Option<&'static str>
     ensures { option_map (λ name. name.now) result ≡ FaultSteps.npm_member kind }
 {
     match kind {
+        FaultKind::OsvUnderName => Some("affected"),
         FaultKind::Id => Some("id"),
         FaultKind::Severity => Some("severity"),
         FaultKind::Title => Some("title"),

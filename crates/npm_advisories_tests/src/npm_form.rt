@@ -145,7 +145,7 @@ fn finds_nothing_where_nothing_hits(rt: HostRuntime) {
     }
 }
 
-const FAULTS: [(&str, &str); 25] = [
+const FAULTS: [(&str, &str); 37] = [
     ("{}", ""),
     ("1", "File  0"),
     ("[]", ""),
@@ -190,13 +190,45 @@ const FAULTS: [(&str, &str); 25] = [
         r#"{"a": [{"id": 1, "vulnerable_versions": "<1", "url": null}]}"#,
         "",
     ),
-    // What is about a package that is not installed is not read: `c` is not.
-    (r#"{"c": {}}"#, ""),
+    // Of what is about a package that is not installed, as `c` is not, the form alone is read.
+    (r#"{"c": [], "A": []}"#, ""),
     (
-        r#"{"c": [{"id": 1, "vulnerable_versions": "foo"}, 1], "A": 1}"#,
+        r#"{"c": [{"id": 1, "vulnerable_versions": "foo"}, {"id": "C", "title": 1}]}"#,
         "",
     ),
-    (r#"{"": 1, "b": [{"id": 1}, 1], "c": 1}"#, "Advisory b 1"),
+    (r#"{"c": {}}"#, "List c 0"),
+    (r#"{"c": [{"id": 1}, 1]}"#, "Advisory c 1"),
+    (r#"{"c": [{"vulnerable_versions": "*"}]}"#, "Id c 0"),
+    (r#"{"": 1, "b": [{"id": 1}, 1], "c": 1}"#, "List  0"),
+    (r#"{"b": [{"id": 1}, 1], "c": 1}"#, "Advisory b 1"),
+    // Files in other forms: an answer of OSV's service, and of its batch; the report of npm's command, and of GitHub's service.
+    (
+        r#"{"vulns": [{"id": "GHSA-0", "affected": []}]}"#,
+        "OsvUnderName vulns 0 GHSA-0",
+    ),
+    (
+        r#"{"a": [{"id": "GHSA-0", "affected": null}]}"#,
+        "OsvUnderName a 0 GHSA-0",
+    ),
+    (
+        r#"{"results": [{"vulns": [{"id": "GHSA-0"}]}]}"#,
+        "Id results 0",
+    ),
+    (
+        r#"{"auditReportVersion": 2, "vulnerabilities": {}}"#,
+        "List auditReportVersion 0",
+    ),
+    (r#"{"metadata": {}, "advisories": {}}"#, "List advisories 0"),
+    (
+        r#"[{"ghsa_id": "GHSA-0", "vulnerabilities": []}]"#,
+        "OsvId  0",
+    ),
+    (
+        r#"[{"id": "GHSA-0", "modified": "2022-01-01T00:00:00Z"}]"#,
+        "Affected  0 GHSA-0",
+    ),
+    // An answer of OSV's service without an advisory.
+    (r#"{"vulns": []}"#, ""),
     (r#"{"aa": 1, "a": 1}"#, "List a 0"),
     // The id is a whole number or a string. Without one the error has the address.
     (

@@ -200,9 +200,13 @@ fn hits_listed_versions(rt: HostRuntime) {
 }
 
 // A file, and whether 1.0.0 of `a` is hit.
-const FILES: [(&str, &str); 9] = [
+const FILES: [(&str, &str); 10] = [
     (r#"[]"#, "spared"),
-    (r#"{"id": "O"}"#, "spared"),
+    (r#"{"id": "O", "affected": []}"#, "spared"),
+    (
+        r#"{"id": "O", "withdrawn": "2022-01-01T00:00:00Z"}"#,
+        "spared",
+    ),
     // In npm's form a package may be called `id`.
     (r#"{"id": []}"#, "spared"),
     (r#"{"id": "O", "affected": [{}]}"#, "spared"),

@@ -166,7 +166,7 @@ an_id_is_a_number_or_a_text = refl
 
 -- neither an object without `id` about `a`, nor one that names no package
 pub about_none_has_no_fault : IsFileFault (codes "b" ∷ []) (array (item (only (codes "affected")
-    (array (item (element (codes "npm") no_items) no_items))) (item (object no_members) no_items))) None
+    (array (item (element (codes "npm") no_items) no_items))) (item (only (codes "affected") (array no_items)) no_items))) None
 about_none_has_no_fault is_version told = refl
 
 -- an object whose `affected` is no list may be about any package
@@ -174,8 +174,39 @@ pub about_any_is_a_fault : IsFileFault [] (array (item (only (codes "affected") 
     (Some (fault_at [] 0 None Faults.OsvId))
 about_any_is_a_fault is_version told = refl
 
--- of `{"a": "", "b": ""}` the fault is that of `b`, if `b` alone is installed
-pub no_list_of_an_installed_name : IsFileFault (codes "b" ∷ [])
-    (object (member (codes "a") (string []) (member (codes "b") (string []) no_members)))
-    (Some (fault_at (codes "b") 0 None Faults.List))
-no_list_of_an_installed_name is_version told = refl
+-- an object without `affected` may be about any package: `[{"id": "O"}]`
+pub affected_is_missing : IsFileFault [] (array (item (only (codes "id") (string (codes "O"))) no_items))
+    (Some (fault_at [] 0 (Some (id_text (codes "O"))) Faults.Affected))
+affected_is_missing is_version told = refl
+
+-- unless it is withdrawn
+pub a_withdrawn_advisory_needs_none : IsFileFault [] (array (item (object (member (codes "id") (string (codes "O"))
+    (member (codes "withdrawn") (string (codes "2022-01-01T00:00:00Z")) no_members))) no_items)) None
+a_withdrawn_advisory_needs_none is_version told = refl
+
+-- under each name stands a list: in `{"a": ""}`, where `a` is not installed
+pub no_list_under_any_name :
+    IsFileFault (codes "b" ∷ []) (only (codes "a") (string [])) (Some (fault_at (codes "a") 0 None Faults.List))
+no_list_under_any_name is_version told = refl
+
+-- of advisories: in `{"results": [{}]}`
+pub no_advisory_under_any_name : IsFileFault [] (only (codes "results") (array (item (object no_members) no_items)))
+    (Some (fault_at (codes "results") 0 None Faults.Id))
+no_advisory_under_any_name is_version told = refl
+
+-- in npm's form, and not in OSV's: `{"vulns": [{"affected": [], "id": "O"}]}`
+pub osvs_form_under_a_name : IsFileFault [] (only (codes "vulns") (array (item (osv_of no_items) no_items)))
+    (Some (fault_at (codes "vulns") 0 (Some (id_text (codes "O"))) Faults.OsvUnderName))
+osvs_form_under_a_name is_version told = refl
+
+-- of `[{"id": 1, "title": 1}]` under `a` the title is a fault if `a` is installed
+abbrev untitled : Data
+untitled = only (codes "a") (array (item (object (member (codes "id") (number (unsigned 1)) (member (codes "title")
+    (number (unsigned 1)) no_members))) no_items))
+
+pub a_title_of_an_installed_package :
+    IsFileFault installed untitled (Some (fault_at (codes "a") 0 (Some (id_number 1)) Faults.Title))
+a_title_of_an_installed_package is_version told = refl
+
+pub a_title_of_another_package : IsFileFault (codes "b" ∷ []) untitled None
+a_title_of_another_package is_version told = refl

@@ -1,6 +1,7 @@
 //! The packages that an OSV object is about.
-ghost use Rattle.std.specs.Prelude.{◌≡◌, IfOk, None, OnErr, option_map};
+ghost use Rattle.std.specs.Prelude.{◌≡◌, IfOk, None, OnErr, codes, option_map};
 ghost use Rattle.std.specs.Result.{result_err};
+ghost use Rattle.serde_json.specs.Data.{no_items};
 ghost use Rattle.serde_json.specs.View.{items_view, view};
 ghost use Rattle.npm_advisories.specs.OsvFaults as Faults;
 ghost use Rattle.npm_advisories.specs.OsvForm as Form;
@@ -8,15 +9,30 @@ ghost use Rattle.npm_advisories.specs.Private.Index.{has_name};
 
 use crate::Result;
 use crate::fault::FaultKind;
-use crate::member::{items_at, text_at};
+use crate::member::text_at;
 use crate::names::Names;
 use serde_json::Value;
 
-/// Returns `true` if an OSV object is about an installed package, or if its packages cannot be read.
+/// The elements of `affected`, which say which packages an OSV object is about.
+pub(crate) fn affected_of(entry: &Value) -> Result<&[Value], FaultKind>
+    ensures items { IfOk result (λ items. items_view items.now ≡ Form.items_at (codes "affected") (view entry.now)) }
+    ensures none { OnErr result (Form.items_at (codes "affected") (view entry.now) ≡ no_items) }
+    ensures fault { result_err result ≡ Faults.affected_list_fault (view entry.now) }
+{
+    match entry.get("affected") {
+        Some(value) => match value.as_array() {
+            Some(affected) => Ok(affected.as_slice()),
+            None => Err(FaultKind::Affected),
+        },
+        None => Err(FaultKind::Affected),
+    }
+}
+
+/// Returns `true` if an OSV object is about an installed package, or if it does not say about which packages it is.
 pub(crate) fn concerns(names: &Names<'_>, entry: &Value) -> bool
     ensures { result ≡ Faults.concerns (has_name names.now) (view entry.now) }
 {
-    match items_at(entry, "affected", FaultKind::Affected) {
+    match affected_of(entry) {
         Ok(affected) => any_concerns(names, affected),
         Err(_) => true,
     }
@@ -49,7 +65,7 @@ fn may_concern(names: &Names<'_>, one: &Value) -> bool
 pub(crate) fn told_name<'v>(names: &Names<'_>, entry: &'v Value) -> &'v str
     ensures { result.now ≡ Faults.told_name (has_name names.now) (view entry.now) }
 {
-    match items_at(entry, "affected", FaultKind::Affected) {
+    match affected_of(entry) {
         Ok(affected) => first_wanted(names, affected),
         Err(_) => "",
     }

@@ -36,6 +36,7 @@ pub(crate) fn push_osv<'v>(
     match kind {
         FaultKind::Advisory => Ok(()),
         FaultKind::OsvId => push_member(steps, entry, "id"),
+        FaultKind::Affected => push_member(steps, entry, "affected"),
         FaultKind::Withdrawn => {
             steps.push(Step::Member("withdrawn"))?;
             Ok(())

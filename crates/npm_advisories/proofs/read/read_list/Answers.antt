@@ -2,6 +2,7 @@
 use Rattle.std.proofs.Common.{◌∙◌, ◌++◌, ◌∷◌, []}
 use Rattle.serde_json.specs.View.{view}
 use Rattle.npm_advisories.specs.Advisories.{npm_advisory}
+use Rattle.npm_advisories.specs.Faults.{npm_fault}
 use Rattle.npm_advisories.proofs.Indexing.{adds-both, adds-one}
 use Rattle.npm_advisories.proofs.Reading.{fault-none, read-next}
 use Rattle.npm_advisories.proofs.read.read_list.Goals as goal
@@ -17,5 +18,5 @@ loop-place-preserved c =
       rest = c.loop-place.invariant.rest ∙ read-next c.args.name.now c.args.entries.now c.loop-place.place
           c.index-entries-place.result c.loop-place-test.true c.index-entries-place.is c.loop-place.invariant.front;
       fault = c.loop-place.invariant.fault ∙ fault-none c.args.name.now c.args.entries.now c.loop-place.place
-          c.index-entries-place.result c.loop-place-test.true c.index-entries-place.is c.in-Ok.ensures.sound;
+          c.index-entries-place.result c.loop-place-test.true c.index-entries-place.is npm_fault c.in-Ok.ensures.sound;
     }

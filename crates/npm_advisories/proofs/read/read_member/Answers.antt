@@ -10,11 +10,11 @@ use Rattle.npm_advisories.proofs.read.read_member.Goals as goal
 
 pub returns-then-not-has-clause-read : goal.returns-then-not-has-clause-read
 returns-then-not-has-clause-read c =
-    adds-other (has_name c.args.names.now) _ _
+    ok-at c.pass_list.result (λ sound. adds-other (has_name c.args.names.now) _ _
     (λ n is. member-other (has_name c.args.names.now) n is c.args.name.now (sym c.has.ensures ∙ c.if-not-has.true)
-    (as_array (view c.args.list.now)))
+    (as_array (view c.args.list.now)))) c.pass_list.ensures.sound
 
-pub returns-in-Some-clause-read : goal.returns-in-Some-clause-read
-returns-in-Some-clause-read c =
-    let told : as_array (view c.args.list.now) ≡ Some (items_view c.as_slice.result.now) = search rules in
+pub returns-clause-read : goal.returns-clause-read
+returns-clause-read c =
+    let told : as_array (view c.args.list.now) ≡ Some (items_view c.as_slice-2.result.now) = search rules in
     rw told (ok-at c.read_list.result (λ adds. adds (has_name c.args.names.now)) c.read_list.ensures.read)

@@ -11,7 +11,7 @@ const LOCK: &str =
     r#"{"lockfileVersion": 3, "packages": {"": {}, "node_modules/a": {"version": "1.0.0"}, "node_modules/b": {"version": "1.0.0"}}}"#;
 
 // A file in npm's form, and what is written of the place of its fault.
-const NPM: [(&str, &str); 11] = [
+const NPM: [(&str, &str); 12] = [
     ("1", " (line 1, column 1)"),
     (r#"{"c": 1, "a": {}}"#, r#": "a" (line 1, column 10)"#),
     ("{\"a\": [\n 1]}", r#": "a", [0] (line 2, column 2)"#),
@@ -41,6 +41,10 @@ const NPM: [(&str, &str); 11] = [
         "{\"b\": [{\"id\": 1}],\n \"a\": [{\"id\": 2}, {\"id\": 3,\n  \"vulnerable_versions\": \"foo\"}]}",
         r#": "a", [1], "vulnerable_versions" (line 3, column 3)"#,
     ),
+    (
+        r#"{"vulns": [{"id": "O", "affected": []}]}"#,
+        r#": "vulns", [0], "affected" (line 1, column 24)"#,
+    ),
     // Of two members with one name the last one counts.
     (
         "{\"b\": [{}],\n \"b\": [{\"id\": 1}, {}]}",
@@ -49,8 +53,10 @@ const NPM: [(&str, &str); 11] = [
 ];
 
 // The same of OSV's form.
-const OSV: [(&str, &str); 14] = [
-    (r#"[{}, 1]"#, ": [1] (line 1, column 6)"),
+const OSV: [(&str, &str); 16] = [
+    (r#"[{"affected": []}, 1]"#, ": [1] (line 1, column 20)"),
+    (r#"[{}]"#, ": [0] (line 1, column 2)"),
+    (r#"[{"id": "O"}]"#, ": [0] (line 1, column 2)"),
     (
         r#"[{"id": 1, "affected": [{"package": {"ecosystem": "npm", "name": "a"}}]}]"#,
         r#": [0], "id" (line 1, column 3)"#,

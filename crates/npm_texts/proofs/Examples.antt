@@ -1,1 +1,2 @@
 pub mod InstalledExamples
+pub mod GrammarExamples

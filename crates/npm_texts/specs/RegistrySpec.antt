@@ -1,6 +1,7 @@
 -- What a dependency asks a registry for: npm's "package.json", "dependencies", and `npm-package-arg`.
 use Rattle.std.specs.Prelude.{ℕ, List, Option, Some, None, is_some, if◌then◌else◌, option_map}
-use Rattle.npm_texts.specs.RangeText.{SpecValue, alias_of, aliased_name, in_registry, location, refused, spec_of}
+use Rattle.npm_texts.specs.RangeText.{alias_target, aliased_name, spec_of}
+use Rattle.npm_texts.specs.SpecGrammar.{SpecValue, in_registry, location, refused}
 use Rattle.npm_texts.specs.declared.registry.RegistrySpec.{RegistrySpec}
 
 -- a package of a registry, and the version, the range or the tag of it
@@ -10,7 +11,7 @@ pub record RegistrySpecValue : Type 0 where
 
 -- the package: that of the alias, if the spec is one, or else that of the dependency's name
 abbrev pub package_name : (name spec : List ℕ) → Option (List ℕ)
-package_name name spec = if is_some (alias_of spec) then aliased_name spec else Some name
+package_name name spec = if is_some (alias_target spec) then aliased_name spec else Some name
 
 -- this text of a package, if the spec has one
 abbrev pub of_package : (named : Option (List ℕ)) → SpecValue → Option RegistrySpecValue

@@ -7,6 +7,7 @@
 
 mod copy;
 mod installed;
+pub mod laws;
 mod range;
 mod registry;
 mod spec;

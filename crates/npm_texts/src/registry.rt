@@ -1,7 +1,7 @@
 //! What a dependency asks a registry for.
 ghost use Rattle.std.specs.Prelude.{◌≡◌, Some, option_map};
 ghost use Rattle.npm_texts.specs.RegistrySpec as RegistrySpecs;
-ghost use Rattle.npm_texts.specs.RangeText.{spec_value};
+ghost use Rattle.npm_texts.specs.SpecGrammar.{spec_value};
 ghost use Rattle.npm_texts.specs.RegistrySpec.{registry_spec_value};
 
 use crate::spec::{Spec, alias_of, alias_range, aliased, name_of_alias, plain_spec};

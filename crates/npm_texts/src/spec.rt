@@ -3,7 +3,7 @@ ghost use Rattle.std.specs.Prelude.{◌≡◌, ◌<◌, ◌∷◌, option_map};
 ghost use Rattle.std.specs.Char.{is_ascii_alphabetic};
 ghost use Rattle.std.specs.List.{before_first, list_all, list_any};
 ghost use Rattle.npm_texts.specs.RangeText as RangeText;
-ghost use Rattle.npm_texts.specs.RangeText.{range_of_alias, spec_value};
+ghost use Rattle.npm_texts.specs.SpecGrammar.{IsSpec, spec_value};
 
 use crate::text::{ends_with, rest_after};
 
@@ -20,7 +20,8 @@ pub enum Spec<'t> {
 
 /// Returns what npm reads a spec as. `^1` and `npm:a@^1` are the text `^1`, and the empty spec is `*`.
 pub fn spec_of(spec: &str) -> Spec<'_>
-    ensures { spec_value result ≡ RangeText.spec_of spec.now }
+    ensures value { spec_value result ≡ RangeText.spec_of spec.now }
+    ensures written { IsSpec spec.now (spec_value result) }
 {
     match alias_of(spec) {
         Some(alias) => aliased(alias_range(alias)),
@@ -30,7 +31,7 @@ pub fn spec_of(spec: &str) -> Spec<'_>
 
 /// What the text of an alias is.
 pub(crate) fn aliased(range: &str) -> Spec<'_>
-    ensures { spec_value result ≡ RangeText.aliased range.now }
+    ensures { spec_value result ≡ RangeText.alias_value range.now }
 {
     if is_location(range) {
         Spec::Refused
@@ -41,7 +42,7 @@ pub(crate) fn aliased(range: &str) -> Spec<'_>
 
 /// What a spec is that is no alias.
 pub(crate) fn plain_spec(spec: &str) -> Spec<'_>
-    ensures { spec_value result ≡ RangeText.plain_spec spec.now }
+    ensures { spec_value result ≡ RangeText.other_value spec.now }
 {
     if is_location(spec) {
         Spec::Location
@@ -59,7 +60,7 @@ pub fn filled(text: &str) -> &str
 
 /// Returns the text after `npm:`, with letters of either case.
 pub(crate) fn alias_of(spec: &str) -> Option<&str>
-    ensures { option_map (λ text. text.now) result ≡ RangeText.alias_of spec.now }
+    ensures { option_map (λ text. text.now) result ≡ RangeText.alias_target spec.now }
 {
     let text = after_either(spec, 'n', 'N')?;
     let text = after_either(text, 'p', 'P')?;
@@ -70,7 +71,7 @@ pub(crate) fn alias_of(spec: &str) -> Option<&str>
 /// Returns the text after its first character, if that is one of these two.
 fn after_either(text: &str, character: char, other: char) -> Option<&str>
     requires { (0 < character) × (character < 128) × (0 < other) × (other < 128) }
-    ensures { option_map (λ text. text.now) result ≡ RangeText.after_either character other text.now }
+    ensures { option_map (λ text. text.now) result ≡ RangeText.past_either character other text.now }
 {
     match text.strip_prefix(character) {
         Some(rest) => Some(rest),
@@ -80,7 +81,7 @@ fn after_either(text: &str, character: char, other: char) -> Option<&str>
 
 /// Returns the text of an alias. A scope's `@` comes before the name.
 pub(crate) fn alias_range(alias: &str) -> &str
-    ensures { result.now ≡ range_of_alias alias.now }
+    ensures { result.now ≡ RangeText.target_range alias.now }
 {
     match rest_after(alias, "@") {
         Some(scoped) => range_of_name(scoped, "*"),
@@ -90,7 +91,7 @@ pub(crate) fn alias_range(alias: &str) -> &str
 
 /// Returns the text of an alias whose name has no scope. A text that can be no name stands for itself.
 fn range_of_plain(alias: &str) -> &str
-    ensures { result.now ≡ RangeText.range_of_plain alias.now }
+    ensures { result.now ≡ RangeText.unscoped_range alias.now }
 {
     let other = if is_name(alias) { "*" } else { alias };
     range_of_name(alias, other)
@@ -98,7 +99,7 @@ fn range_of_plain(alias: &str) -> &str
 
 /// Returns the text after the `@` of `NAME@TEXT`, or the other text if there is none.
 fn range_of_name<'t>(name: &'t str, other: &'t str) -> &'t str
-    ensures { result.now ≡ RangeText.range_of_name name.now other.now }
+    ensures { result.now ≡ RangeText.range_after name.now other.now }
 {
     match name.split_once('@') {
         Some((_, range)) => filled(range),
@@ -119,7 +120,7 @@ pub fn aliased_name(spec: &str) -> Option<&str>
 
 /// Returns the name of an alias, with its scope.
 pub(crate) fn name_of_alias(alias: &str) -> Option<&str>
-    ensures { option_map (λ name. name.now) result ≡ RangeText.name_of_alias alias.now }
+    ensures { option_map (λ name. name.now) result ≡ RangeText.target_name alias.now }
 {
     match rest_after(alias, "@") {
         Some(scoped) => Some(scoped_name(alias, scoped)),
@@ -140,7 +141,7 @@ fn scoped_name<'t>(alias: &'t str, scoped: &str) -> &'t str
 
 /// Returns the name of an alias that has no scope.
 fn plain_name(alias: &str) -> Option<&str>
-    ensures { option_map (λ name. name.now) result ≡ RangeText.plain_name alias.now }
+    ensures { option_map (λ name. name.now) result ≡ RangeText.unscoped_name alias.now }
 {
     match alias.split_once('@') {
         Some((name, _)) => Some(name),
@@ -151,14 +152,14 @@ fn plain_name(alias: &str) -> Option<&str>
 
 /// Returns `true` if the text can be a name.
 fn is_name(text: &str) -> bool
-    ensures { result ≡ RangeText.is_name text.now }
+    ensures { result ≡ RangeText.can_be_name text.now }
 {
     !text.is_empty() && are_tag_bytes(text)
 }
 
 /// Returns `true` for a URL, a repository, a file or a folder.
 fn is_location(text: &str) -> bool
-    ensures { result ≡ RangeText.is_location text.now }
+    ensures { result ≡ RangeText.is_elsewhere text.now }
 {
     text.starts_with(".") || has_slash(text) || is_url(text) || is_archive(text)
 }
@@ -171,7 +172,7 @@ fn has_slash(text: &str) -> bool
 
 /// Returns `true` if the text begins as a URL or a repository, with a scheme and a `:`.
 fn is_url(text: &str) -> bool
-    ensures { result ≡ RangeText.is_url text.now }
+    ensures { result ≡ RangeText.has_scheme text.now }
 {
     match text.split_once(':') {
         Some((scheme, _)) => is_scheme(scheme),
@@ -180,7 +181,7 @@ fn is_url(text: &str) -> bool
 }
 
 fn is_scheme(text: &str) -> bool
-    ensures { result ≡ RangeText.is_scheme text.now }
+    ensures { result ≡ RangeText.begins_url text.now }
 {
     are_letters(rest_after(text, "git+").unwrap_or(text)) || has_at_sign(text)
 }
@@ -192,7 +193,7 @@ fn has_at_sign(text: &str) -> bool
 }
 
 fn are_letters(text: &str) -> bool
-    ensures { result ≡ RangeText.are_letters text.now }
+    ensures { result ≡ RangeText.all_letters text.now }
 {
     !text.is_empty() && has_letters_alone(text)
 }
@@ -204,7 +205,7 @@ fn has_letters_alone(text: &str) -> bool
 }
 
 fn is_archive(text: &str) -> bool
-    ensures { result ≡ RangeText.is_archive text.now }
+    ensures { result ≡ RangeText.ends_archive text.now }
 {
     ends_with(text, ".tgz") || ends_with(text, ".tar.gz") || ends_with(text, ".tar")
 }

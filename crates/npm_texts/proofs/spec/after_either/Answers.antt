@@ -4,7 +4,7 @@ use Rattle.std.proofs.Common.{ap, eq-eqb, eqb→eq, option_map, refl}
 use Rattle.std.specs.Option.{MatchOption}
 use denote.Ref.{Bor}
 use Rattle.std.proofs.lemmas.Str.Pattern.{strip_prefix_char}
-use Rattle.npm_texts.specs.RangeText.{after_either}
+use Rattle.npm_texts.specs.RangeText.{past_either}
 use Rattle.npm_texts.proofs.spec.after_either.Goals as goal
 
 -- what `strip_prefix` of a character gives
@@ -16,12 +16,12 @@ unlike b c true is differ = absurd (differ (eqb→eq b c (rw is tt)))
 unlike b c false is differ = is
 
 second : (c d : ℕ) (text rest : List ℕ) (mark : Bool) → (d == c) ≡ mark → text ≡ d ∷ rest
-    → Some rest ≡ after_either c d text
+    → Some rest ≡ past_either c d text
 second c d text rest true is here = rw (here, is) refl
 second c d text rest false is here = let same : (d == d) ≡ true = eq-eqb d d refl in rw (here, is, same) refl
 
 neither : (c d : ℕ) (text : List ℕ) → ((rest : List ℕ) → text ≢ c ∷ rest) → ((rest : List ℕ) → text ≢ d ∷ rest)
-    → None ≡ after_either c d text
+    → None ≡ past_either c d text
 neither c d [] no_c no_d = refl
 neither c d (b ∷ bs) no_c no_d =
     let one : (b == c) ≡ false = unlike b c (b == c) refl (λ e. no_c bs (ap (λ x. x ∷ bs) e)) in
@@ -29,7 +29,7 @@ neither c d (b ∷ bs) no_c no_d =
     rw (one, other) refl
 
 by_second : (c d : ℕ) (text : List ℕ) (r : Option (Bor (List ℕ))) → ((rest : List ℕ) → text ≢ c ∷ rest)
-    → Strips d text r → option_map (λ x. x.now) r ≡ after_either c d text
+    → Strips d text r → option_map (λ x. x.now) r ≡ past_either c d text
 by_second c d text None no_c strips = neither c d text no_c strips
 by_second c d text (Some x) no_c strips = second c d text x.now (d == c) refl strips
 

@@ -1,0 +1,5 @@
+pub mod Splits
+pub mod Locations
+pub mod Targets
+pub mod Aliases
+pub mod SpecReading

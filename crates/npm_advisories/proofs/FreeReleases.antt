@@ -21,7 +21,7 @@ use Rattle.npm_advisories.proofs.SpanPlaces.{all-at, any-index, apart-at, end-fr
 abbrev Span : Type 0
 Span = Ends VersionValue
 
--- ---- what is the least, and what is none
+-- ---- the least release, and the case that there is none
 
 pub is-least : (Wanted : VersionValue → Type 0) (found : VersionValue) → IsPlain found → Wanted found
     → ((v : VersionValue) → Wanted v → ¬ IsBelow v found) → IsLeastOrNone Wanted (Some found)

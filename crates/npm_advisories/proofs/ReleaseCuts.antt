@@ -46,7 +46,7 @@ reached-cut v w not = elim (at_most-or-below version_total (Before w) (Before v)
   | inr less ↦ absurd (not ((below-cut v w).1 less))
 ]
 
--- what is not below one that is not below a third is not below the third
+-- a version that is not below a second, which is not below a third, is not below the third
 pub not-below_trans : (u v w : VersionValue) → ¬ IsBelow u v → ¬ IsBelow v w → ¬ IsBelow u w
 not-below_trans u v w first second below =
     below-not-at_most version_total (Before u) (Before w) ((below-cut u w).0 below)

@@ -40,7 +40,7 @@ module _ (index : Index) where
   known-none name (Some union) none is = is
   known-none name None none is = none
 
-  -- what is known of a union that is there, and where none is
+  -- the facts of a union that is there, and the case that there is none
   pub known-union : (name : List ℕ) (at : Option Union) (union : Union) → at ≡ Some union → IsKnownAt name at
       → IsUnion (at_name index name) union
   known-union name at union is known = subst (IsKnownAt name) is known

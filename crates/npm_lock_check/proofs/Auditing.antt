@@ -20,7 +20,7 @@ refused_as checked file advisories whole fault error is told (inl (name, shown, 
     inl (fault.kind, name, fault.place, shown, same, (file, is, fault.id, id, rw text told, rw text at))
 refused_as checked file advisories whole fault error is told (inr memory) = inr (λ none. memory)
 
--- what is checked has no fault, so memory ran out
+-- a checked file has no fault, so memory ran out
 module _ (text : List ℕ) (lock placed checked : Data) (linked : List LinkedValue) (wanted : WantedValue)
     (error : RunError) (is : checked ≡ converted placed wanted.manifest)
     (sound : lock_fault (converted placed wanted.manifest) ≡ any_fault placed wanted.manifest)

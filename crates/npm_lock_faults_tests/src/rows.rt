@@ -5,7 +5,7 @@ use npm_lock_faults::{
 use serde_json::Value;
 use std::alloc::{AllocError, Global};
 
-// Each row has a text, and what is written of its fault: the path of the member, and its line and column.
+// Each row has a text, and the text that is written for its fault: the path of the member, and its line and column.
 
 // Lock files of version 2 and 3.
 const LATER: [(&str, &str); 18] = [

@@ -9,6 +9,9 @@ returns-then-is_mark c = λ always. c.loop-at.invariant.1
     (sym c.is_mark.ensures ∙ c.if-is_mark.true))
 
 pub loop-at-preserved : goal.loop-at-preserved
-loop-at-preserved c = (omega (arith, c.loop-at.invariant.0), λ before. c.loop-at.invariant.1
-    (after_space c.args.text.now c.loop-at.at c.loop-at-test.true c.loop-at.invariant.0
-    (sym c.is_white_space.ensures ∙ c.if-not-is_white_space.false) before))
+loop-at-preserved c = (
+  omega (arith, c.loop-at.invariant.0),
+  λ before. c.loop-at.invariant.1
+      (after_space c.args.text.now c.loop-at.at c.loop-at-test.true c.loop-at.invariant.0
+      (sym c.is_white_space.ensures ∙ c.if-not-is_white_space.false) before),
+)

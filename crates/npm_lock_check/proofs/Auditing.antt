@@ -16,8 +16,8 @@ use Rattle.npm_lock_check.specs.declared.run_error.RunError.{RunError}
 pub refused_as : (checked file : Data) (advisories : Option Data) (whole : List ℕ) (fault : FaultValue) (error : RunError)
     → advisories ≡ Some file → IsFileFaultBeside checked file (Some fault) → AreRefusedAs checked file whole fault error
     → IsAuditRefused checked advisories whole error
-refused_as checked file advisories whole fault error is told (inl (name, shown, same, (text, id), at)) =
-    inl (fault.kind, name, fault.place, shown, same, (file, is, fault.id, id, rw text told, rw text at))
+refused_as checked file advisories whole fault error is told (inl (name, shown, same, (text, id), placed)) =
+    inl (fault.kind, name, fault.place, shown, same, (file, is, fault.id, id, rw text told, rw text placed))
 refused_as checked file advisories whole fault error is told (inr memory) = inr (λ none. memory)
 
 -- a checked file has no fault, so memory ran out

@@ -1,4 +1,5 @@
 pub mod Examples
+pub mod Globs
 pub mod MoreFindings
 pub mod PatternLists
 pub mod StarPatterns

@@ -5,7 +5,7 @@ use Rattle.serde_json.specs.Data.{Items, item}
 use Rattle.serde_json.specs.View.{items_view, view}
 use Rattle.serde_json.specs.declared.value.Value.{Value}
 use Rattle.npm_lock.specs.Private.Patterns.{HasMatched, IsSaid, matched, unmatched, unread}
-use Rattle.npm_lock.specs.Workspaces as Workspaces
+use Rattle.npm_lock.specs.Private.PatternSteps as PatternSteps
 use Rattle.npm_lock.specs.declared.patterns.Patterns.{Patterns}
 use Rattle.npm_lock.specs.declared.workspace.Workspace.{Workspace}
 use Rattle.npm_lock.specs.declared.workspace.Workspace.TheVariants.{Is, IsNot}
@@ -52,8 +52,8 @@ module _ (patterns : Patterns) (folder : List ℕ) where
   by_none read none found (matched is has) = absurd (none has)
   by_none read none found (unmatched is not_has) = refl
 
-  by_unread : (items : Items) → Workspaces.has_unread items ≡ true → patterns.has_unread ≡ true → (found : Workspace)
-      → IsSaid patterns folder found → found ≡ Workspaces.by_patterns folder items
+  by_unread : (items : Items) → PatternSteps.has_unread items ≡ true → patterns.has_unread ≡ true → (found : Workspace)
+      → IsSaid patterns folder found → found ≡ PatternSteps.by_patterns folder items
   by_unread items any said found (unread is) = rw any refl
   by_unread items any said found (matched is has) = cc (said, is)
   by_unread items any said found (unmatched is not_has) = cc (said, is)
@@ -65,8 +65,8 @@ module _ (patterns : Patterns) (folder : List ℕ) where
   by_match true same read found (unmatched is none) = absurd (none (same.1 refl))
   by_match false same read found (unmatched is none) = refl
 
-  pub by_sets : (items : Items) → Workspaces.has_unread items ≡ false
-      → (HasMatched patterns folder ↔ IsTrue (Workspaces.has_matched folder items)) → patterns.has_unread ≡ false
-      → (found : Workspace) → IsSaid patterns folder found → found ≡ Workspaces.by_patterns folder items
+  pub by_sets : (items : Items) → PatternSteps.has_unread items ≡ false
+      → (HasMatched patterns folder ↔ IsTrue (PatternSteps.has_matched folder items)) → patterns.has_unread ≡ false
+      → (found : Workspace) → IsSaid patterns folder found → found ≡ PatternSteps.by_patterns folder items
   by_sets items read same said found is =
-      rw read (by_match (Workspaces.has_matched folder items) same said found is)
+      rw read (by_match (PatternSteps.has_matched folder items) same said found is)

@@ -15,7 +15,7 @@ use Rattle.std.specs.Option.{IsSome, option_map_or}
 use denote.Ref.{Bor}
 use Rattle.npm_texts.specs.Texts.{rest_after}
 use Rattle.npm_lock.specs.Private.Patterns.{HasStart, HasText, is_rest}
-use Rattle.npm_lock.specs.Workspaces.{has_glob_byte, is_base, is_matched, is_read, is_whole, stem_of}
+use Rattle.npm_lock.specs.Private.PatternSteps.{has_glob_byte, is_base, is_matched, is_read, is_whole, stem_of}
 
 -- ---- one more text
 

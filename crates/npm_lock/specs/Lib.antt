@@ -4,6 +4,7 @@
 -- `problem_data` of ProblemJson is the JSON object of a problem. All other words are there for these three.
 
 -- ---- one dependency
+pub mod PatternGrammar  -- which patterns of workspaces are read, and what they match
 pub mod Workspaces  -- which folders are workspaces of the root
 pub mod Verdict  -- whether a version satisfies a spec
 pub mod Outcomes  -- the problem of a dependency, and the one with the version of Node

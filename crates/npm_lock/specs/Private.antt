@@ -1,3 +1,4 @@
 pub mod Adding  -- what a call adds to the problems
 pub mod JudgementValue  -- judgements as values
+pub mod PatternSteps  -- which patterns are read and matched, step by step
 pub mod Patterns  -- what an index of the patterns of workspaces says of a folder

@@ -5,7 +5,7 @@ use Rattle.std.specs.Str.{trim}
 use Rattle.node_semver.specs.Versions.{VersionValue}
 use Rattle.npm_texts.specs.Admission.{Admits, IsNoRange, of_dependencies, of_engines}
 use Rattle.npm_texts.specs.InstalledVersions.{IsInstalledVersion}
-use Rattle.npm_texts.specs.RangeText.{in_registry, is_tag, location, refused, spec_of}
+use Rattle.npm_texts.specs.SpecGrammar.{IsSpec, in_registry, is_tag, location, refused}
 use Rattle.npm_lock.specs.declared.problem.Reason.TheVariants.{Location, Tag}
 use Rattle.npm_lock.specs.declared.verdict.Verdict.{Verdict}
 use Rattle.npm_lock.specs.declared.verdict.Verdict.TheVariants.{Invalid, Unchecked, Valid}
@@ -36,9 +36,9 @@ pub data IsVerdictOfText (version : Option (List ℕ)) (text : List ℕ) : Verdi
 
 -- the verdict on a spec alone: a location is not checked, and what npm refuses no version satisfies
 pub data IsVerdict (version : Option (List ℕ)) (spec : List ℕ) : Verdict → Type 0 where
-  elsewhere : spec_of spec ≡ location → IsVerdict version spec (Unchecked Location)
-  never : spec_of spec ≡ refused → IsVerdict version spec Invalid
-  of_text : (range : List ℕ) (verdict : Verdict) → spec_of spec ≡ in_registry range → IsVerdictOfText version range
+  elsewhere : IsSpec spec location → IsVerdict version spec (Unchecked Location)
+  never : IsSpec spec refused → IsVerdict version spec Invalid
+  of_text : (range : List ℕ) (verdict : Verdict) → IsSpec spec (in_registry range) → IsVerdictOfText version range
       verdict
       → IsVerdict version spec verdict
 

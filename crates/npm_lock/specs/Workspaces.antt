@@ -1,13 +1,12 @@
 -- Which folders are workspaces of the root: npm's "package.json", "workspaces".
-use Rattle.std.specs.Prelude.{◌≡◌, ◌≢◌, ◌==◌, ◌||◌, ◌&&◌, ℕ, List, [], ◌∷◌, Bool, false, true, not, if◌then◌else◌}
-use Rattle.std.specs.Prelude.{Option, Some, None, option_and_then, bytes_eq, codes, length, nat_eq}
-use Rattle.std.specs.List.{ends_with, list_any}
+use Rattle.std.specs.Prelude.{◌≡◌, ◌≢◌, ◌==◌, ◌⊎◌, ℕ, List, [], ◌∷◌, if◌then◌else◌}
+use Rattle.std.specs.Prelude.{IsSomeAnd, Option, Some, None, codes, option_and_then, option_map}
 use Rattle.std.specs.Option.{option_map_or, option_or}
 use Rattle.serde_json.specs.Data.{Data, Items, item, no_items}
 use Rattle.serde_json.specs.Find.{as_array, as_str, get}
 use Rattle.npm_packages.specs.Folders.{IsInstalled}
 use Rattle.npm_packages.specs.Packages.{linked_folder}
-use Rattle.npm_texts.specs.Texts.{rest_after, without_end}
+use Rattle.npm_lock.specs.PatternGrammar.{IsRead, Matches, parts_of}
 use Rattle.npm_lock.specs.declared.workspace.Workspace.{Workspace}
 use Rattle.npm_lock.specs.declared.workspace.Workspace.TheVariants.{Is, IsNot, Unread}
 
@@ -16,8 +15,6 @@ abbrev pub patterns_of : (root : Data) → Option Items
 patterns_of root = option_and_then
     (λ said. option_or (option_and_then as_array (get (codes "packages") said)) (as_array said))
     (get (codes "workspaces") root)
-
--- ---- one pattern
 
 -- a text without each `/` at its start
 abbrev pub without_slashes : List ℕ → List ℕ
@@ -28,87 +25,26 @@ without_slashes (b ∷ text) = if b == 47 then without_slashes text else b ∷ t
 abbrev pub pattern_of : (text : List ℕ) → List ℕ
 pattern_of text = without_slashes (linked_folder text)
 
--- the pattern without `*` or `**` at its end: `packages/` of `packages/*`
-abbrev pub stem_of : (pattern : List ℕ) → List ℕ
-stem_of pattern = without_end (codes "*") (without_end (codes "*") pattern)
+-- the parts of the pattern that a value of the list is, if it is a text
+abbrev pub pattern_in : (value : Data) → Option (List (List ℕ))
+pattern_in value = option_map (λ text. parts_of (pattern_of text)) (as_str value)
 
--- a byte that means something else in a pattern than in a folder
-abbrev pub is_glob_byte : ℕ → Bool
-is_glob_byte b = list_any (λ c. b == c) (codes "!#*?[]{}()\\")
+-- each value of the list is a pattern that is read
+abbrev pub AreRead : Items → Type 0
+AreRead no_items = Unit {0}
+AreRead (item value others) = IsSomeAnd (pattern_in value) IsRead × AreRead others
 
-abbrev pub has_glob_byte : (stem : List ℕ) → Bool
-has_glob_byte stem = list_any is_glob_byte stem
-
--- the star matches folders in this one: the root, or a folder with `/` at its end
-abbrev pub is_whole : (stem : List ℕ) → Bool
-is_whole stem = (length stem == 0) || ends_with nat_eq stem (codes "/")
-
--- A pattern that is read: `w`, `packages/*` and `packages/**`. `!w`, `w-*`, `{v,w}` and `w/` are not read.
-abbrev pub is_read : (pattern : List ℕ) → Bool
-is_read pattern = not (has_glob_byte (stem_of pattern))
-    && (if ends_with nat_eq pattern (codes "*") then is_whole (stem_of pattern) else not (is_whole (stem_of pattern)))
-
--- A part begins with a dot: `.git` in `a/.git`. `is_start` says that a part begins at the first byte.
-abbrev pub has_dot_part : (is_start : Bool) → (path : List ℕ) → Bool
-has_dot_part is_start [] = false
-has_dot_part is_start (b ∷ path) = (is_start && (b == 46)) || has_dot_part (b == 47) path
-
--- a text that `**` matches: some parts of a folder, of which none begins with a dot
-abbrev pub are_parts : (rest : List ℕ) → Bool
-are_parts rest = not (length rest == 0) && not (has_dot_part true rest)
-
-abbrev pub has_slash : (rest : List ℕ) → Bool
-has_slash rest = list_any (λ b. b == 47) rest
-
--- a text that `*` matches: one such part
-abbrev pub is_part : (rest : List ℕ) → Bool
-is_part rest = are_parts rest && not (has_slash rest)
-
--- the folder in which the stars match: `packages` of `packages/*`
-abbrev pub is_base : (folder stem : List ℕ) → Bool
-is_base folder stem = not (length stem == 0) && bytes_eq folder (without_end (codes "/") stem)
-
--- The pattern is that of this folder: `packages/*` of `packages/a`, and `packages/**` of `packages/a/b` and of
--- `packages`.
-abbrev pub is_matched : (folder pattern : List ℕ) → Bool
-is_matched folder pattern = if ends_with nat_eq pattern (codes "**")
-    then is_base folder (stem_of pattern) || option_map_or are_parts (rest_after (stem_of pattern) folder) false
-    else (if ends_with nat_eq pattern (codes "*")
-    then option_map_or is_part (rest_after (stem_of pattern) folder) false
-    else bytes_eq pattern folder)
-
--- ---- all patterns
-
--- a value that is a text, whose pattern is such
-abbrev pub is_such : (such : List ℕ → Bool) → Data → Bool
-is_such such value = option_map_or (λ text. such (pattern_of text)) (as_str value) false
-
--- one of them is such
-abbrev pub any_item : (such : Data → Bool) → Items → Bool
-any_item such no_items = false
-any_item such (item pattern others) = such pattern || any_item such others
-
-abbrev pub has_unread : Items → Bool
-has_unread patterns = any_item (λ pattern. not (is_such is_read pattern)) patterns
-
-abbrev pub has_matched : (folder : List ℕ) → Items → Bool
-has_matched folder patterns = any_item (is_such (is_matched folder)) patterns
-
--- the patterns of those that are texts: `w` and `packages/*` of `["./w", "packages/*"]`
-abbrev pub texts_of : Items → List (List ℕ)
-texts_of no_items = []
-texts_of (item pattern others) =
-    option_map_or (λ text. pattern_of text ∷ texts_of others) (as_str pattern) (texts_of others)
-
--- the patterns of the root, if each of them is read; a root that has none has no workspaces
-abbrev pub read_patterns : (root : Data) → Option (List (List ℕ))
-read_patterns root = option_map_or (λ patterns. if has_unread patterns then None else Some (texts_of patterns))
-    (patterns_of root) (Some [])
+-- the folder matches one of the patterns
+abbrev pub MatchesOne : (folder : List ℕ) → Items → Type 0
+MatchesOne folder no_items = ⊥
+MatchesOne folder (item value others) =
+    IsSomeAnd (pattern_in value) (λ pattern. Matches pattern (parts_of folder)) ⊎ MatchesOne folder others
 
 -- whether the folder is a workspace, by these patterns. If one is not read, that is not known.
-abbrev pub by_patterns : (folder : List ℕ) → Items → Workspace
-by_patterns folder patterns = if has_unread patterns then Unread
-    else (if has_matched folder patterns then Is else IsNot)
+pub data IsByPatterns (folder : List ℕ) (patterns : Items) : Workspace → Type 0 where
+  unread : ¬ AreRead patterns → IsByPatterns folder patterns Unread
+  one_matches : AreRead patterns → MatchesOne folder patterns → IsByPatterns folder patterns Is
+  none_matches : AreRead patterns → ¬ MatchesOne folder patterns → IsByPatterns folder patterns IsNot
 
 -- Whether the folder of a package that was found for a package in the folder `from` is a workspace. Only the root has
 -- workspaces, and no folder inside a `node_modules` is one.
@@ -116,5 +52,20 @@ pub data IsWorkspace (from : List ℕ) (asker : Data) (folder : List ℕ) : Work
   elsewhere : from ≢ [] → IsWorkspace from asker folder IsNot
   installed : IsInstalled folder → IsWorkspace from asker folder IsNot
   no_patterns : patterns_of asker ≡ None → IsWorkspace from asker folder IsNot
-  of_root : (patterns : Items) → from ≡ [] → ¬ IsInstalled folder → patterns_of asker ≡ Some patterns
-      → IsWorkspace from asker folder (by_patterns folder patterns)
+  of_root : (patterns : Items) (found : Workspace) → from ≡ [] → ¬ IsInstalled folder
+      → patterns_of asker ≡ Some patterns → IsByPatterns folder patterns found → IsWorkspace from asker folder found
+
+-- ---- the patterns themselves
+
+-- the patterns of those that are texts: `w` and `packages/*` of `["./w", "packages/*"]`
+abbrev pub texts_of : Items → List (List ℕ)
+texts_of no_items = []
+texts_of (item pattern others) =
+    option_map_or (λ text. pattern_of text ∷ texts_of others) (as_str pattern) (texts_of others)
+
+-- the patterns of the root, or nothing if one of them is not read; a root that has none has no workspaces
+pub data ArePatternsOfRoot (root : Data) : Option (List (List ℕ)) → Type 0 where
+  no_list : patterns_of root ≡ None → ArePatternsOfRoot root (Some [])
+  all_read : (patterns : Items) → patterns_of root ≡ Some patterns → AreRead patterns
+      → ArePatternsOfRoot root (Some (texts_of patterns))
+  some_unread : (patterns : Items) → patterns_of root ≡ Some patterns → ¬ AreRead patterns → ArePatternsOfRoot root None

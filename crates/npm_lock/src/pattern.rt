@@ -1,5 +1,7 @@
 //! One pattern of `workspaces`: which texts are read, and what its stars match.
-ghost use Rattle.std.specs.Prelude.{◌≡◌, true};
+ghost use Rattle.std.specs.Prelude.{◌≡◌, ◌↔◌, ◌∷◌, [], IsTrue, codes, true};
+ghost use Rattle.npm_lock.specs.PatternGrammar.{Matches, parts_of};
+ghost use Rattle.npm_lock.specs.Private.PatternSteps as PatternSteps;
 ghost use Rattle.npm_lock.specs.Workspaces as Workspaces;
 ghost use Rattle.npm_lock.specs.Private.Patterns as Patterns;
 
@@ -26,7 +28,7 @@ fn without_slashes(text: &str) -> &str
 
 /// Returns `true` for a pattern that is read here.
 pub(crate) fn is_read_text(pattern: &str) -> bool
-    ensures { result ≡ Workspaces.is_read pattern.now }
+    ensures { result ≡ PatternSteps.is_read pattern.now }
 {
     let stem = stem_of(pattern);
     if has_glob_byte(stem) {
@@ -39,20 +41,20 @@ pub(crate) fn is_read_text(pattern: &str) -> bool
 }
 
 fn is_whole(stem: &str) -> bool
-    ensures { result ≡ Workspaces.is_whole stem.now }
+    ensures { result ≡ PatternSteps.is_whole stem.now }
 {
     stem.is_empty() || ends_with(stem, "/")
 }
 
 /// The pattern without `*` or `**` at its end.
 pub(crate) fn stem_of(pattern: &str) -> &str
-    ensures { result.now ≡ Workspaces.stem_of pattern.now }
+    ensures { result.now ≡ PatternSteps.stem_of pattern.now }
 {
     without_end(without_end(pattern, "*"), "*")
 }
 
 fn has_glob_byte(stem: &str) -> bool
-    ensures { result ≡ Workspaces.has_glob_byte stem.now }
+    ensures { result ≡ PatternSteps.has_glob_byte stem.now }
 {
     stem.bytes().any(|byte| b"!#*?[]{}()\\".contains(&byte))
 }
@@ -60,7 +62,7 @@ fn has_glob_byte(stem: &str) -> bool
 /// Returns `true` for the name of a folder that `*` in a pattern of `workspaces` matches: `a`, but not `.a`. Does not
 /// allocate.
 pub fn is_part(rest: &str) -> bool
-    ensures { result ≡ Workspaces.is_part rest.now }
+    ensures { IsTrue result ↔ Matches (codes "*" ∷ []) (parts_of rest.now) }
 {
     is_rest(rest.as_bytes(), false)
 }
@@ -73,20 +75,20 @@ pub(crate) fn is_rest(rest: &[u8], is_tree: bool) -> bool
 }
 
 fn has_slash(rest: &[u8]) -> bool
-    ensures { result ≡ Workspaces.has_slash rest.now }
+    ensures { result ≡ PatternSteps.has_slash rest.now }
 {
     rest.iter().any(|byte| *byte == b'/')
 }
 
 fn are_parts(rest: &[u8]) -> bool
-    ensures { result ≡ Workspaces.are_parts rest.now }
+    ensures { result ≡ PatternSteps.are_parts rest.now }
 {
     !rest.is_empty() && !has_dot_part(rest)
 }
 
 /// Returns `true` if a part of the path begins with a dot.
 fn has_dot_part(path: &[u8]) -> bool
-    ensures { result ≡ Workspaces.has_dot_part true path.now }
+    ensures { result ≡ PatternSteps.has_dot_part true path.now }
 {
     let mut is_start = true;
     for byte in path {

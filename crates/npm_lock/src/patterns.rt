@@ -1,6 +1,6 @@
 //! The patterns of `workspaces` in sets, so that a folder is not compared with each of them.
 ghost use Rattle.std.specs.Prelude.{◌≡◌, ◌↔◌, ◌⊎◌, ℕ, List, IsTrue, OnOk, false, true};
-ghost use Rattle.npm_lock.specs.Workspaces as Workspaces;
+ghost use Rattle.npm_lock.specs.Private.PatternSteps as PatternSteps;
 ghost use Rattle.npm_lock.specs.Private.Patterns.{HasMatched, HasStart, HasText, is_rest};
 
 use crate::Result;
@@ -41,9 +41,9 @@ impl<'v> Patterns<'v> {
     /// Adds a pattern that is read.
     pub(crate) fn add(&mut self, pattern: &'v str) -> Result<()>
         ensures unread { self.new.has_unread ≡ self.old.has_unread }
-        ensures matched { OnOk result (Workspaces.is_read pattern.now ≡ true → (folder : List ℕ)
+        ensures matched { OnOk result (PatternSteps.is_read pattern.now ≡ true → (folder : List ℕ)
             → HasMatched self.new folder
-            ↔ (HasMatched self.old folder ⊎ IsTrue (Workspaces.is_matched folder pattern.now))) }
+            ↔ (HasMatched self.old folder ⊎ IsTrue (PatternSteps.is_matched folder pattern.now))) }
     {
         let stem = stem_of(pattern);
         if ends_with(pattern, "**") {
@@ -71,7 +71,7 @@ impl<'v> Patterns<'v> {
 /// Adds the folder in which `**` after this stem matches: `packages` of `packages/`.
 fn add_base<'v>(folders: &mut Texts<'v>, stem: &'v str) -> Result<()>
     ensures { OnOk result ((folder : List ℕ) → HasText folders.new folder
-        ↔ (HasText folders.old folder ⊎ IsTrue (Workspaces.is_base folder stem.now))) }
+        ↔ (HasText folders.old folder ⊎ IsTrue (PatternSteps.is_base folder stem.now))) }
 {
     if stem.is_empty() {
         return Ok(());

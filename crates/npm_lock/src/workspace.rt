@@ -1,6 +1,7 @@
 //! Which folders are workspaces of the root.
 ghost use Rattle.std.specs.Prelude.{◌≡◌, ◌⊎◌, ◌↔◌, ℕ, IfOk, IsTrue, List, OnOk, map, option_map, true};
 ghost use Rattle.serde_json.specs.View.{items_view, view};
+ghost use Rattle.npm_lock.specs.Private.PatternSteps as PatternSteps;
 ghost use Rattle.npm_lock.specs.Workspaces as Workspaces;
 ghost use Rattle.npm_lock.specs.Workspaces.{IsWorkspace};
 ghost use Rattle.npm_lock.specs.Private.Patterns.{ArePatternsOf, HasMatched, IsSaid};
@@ -29,8 +30,16 @@ pub(crate) enum Workspace {
 ///
 /// An allocation failed.
 pub fn workspace_patterns(alloc: Global, root: &Value) -> Result<Option<Vec<&str>>>
+    ensures { IfOk result (λ list. Workspaces.ArePatternsOfRoot (view root.now)
+        (option_map (λ list. map (λ text. text.now) list.items) list)) }
+{
+    read_patterns(alloc, root)
+}
+
+/// The patterns of a root's manifest, if each of them is read here.
+fn read_patterns(alloc: Global, root: &Value) -> Result<Option<Vec<&str>>>
     ensures { IfOk result (λ list. option_map (λ list. map (λ text. text.now) list.items) list
-        ≡ Workspaces.read_patterns (view root.now)) }
+        ≡ PatternSteps.read_patterns (view root.now)) }
 {
     let Some(patterns) = patterns_of(root) else {
         return Ok(Some(Vec::new(alloc)));
@@ -73,7 +82,7 @@ pub(crate) fn asker_patterns<'v>(alloc: Global, asker: Package<'v>) -> Result<Pa
 /// The patterns of a list.
 fn in_sets<'v>(alloc: Global, patterns: &'v [Value]) -> Result<Patterns<'v>>
     ensures { IfOk result (λ made. (folder : List ℕ) (found : Workspace) → IsSaid made folder found
-        → found ≡ Workspaces.by_patterns folder (items_view patterns.now)) }
+        → found ≡ PatternSteps.by_patterns folder (items_view patterns.now)) }
 {
     let mut made = Patterns::none(alloc);
     made.has_unread = has_unread(patterns);
@@ -89,10 +98,10 @@ fn in_sets<'v>(alloc: Global, patterns: &'v [Value]) -> Result<Patterns<'v>>
 /// Adds a pattern that is read.
 fn add_pattern<'v>(patterns: &mut Patterns<'v>, pattern: &'v Value) -> Result<()>
     ensures unread { patterns.new.has_unread ≡ patterns.old.has_unread }
-    ensures matched { OnOk result (Workspaces.is_such Workspaces.is_read (view pattern.now) ≡ true
+    ensures matched { OnOk result (PatternSteps.is_such PatternSteps.is_read (view pattern.now) ≡ true
         → (folder : List ℕ) → HasMatched patterns.new folder
         ↔ (HasMatched patterns.old folder
-        ⊎ IsTrue (Workspaces.is_such (Workspaces.is_matched folder) (view pattern.now)))) }
+        ⊎ IsTrue (PatternSteps.is_such (PatternSteps.is_matched folder) (view pattern.now)))) }
 {
     match pattern.as_str() {
         Some(text) => patterns.add(pattern_of(text)),
@@ -133,7 +142,7 @@ pub(crate) fn patterns_of(root: &Value) -> Option<&Vec<Value>>
 
 /// Returns `true` if a pattern is not read here.
 pub(crate) fn has_unread(patterns: &[Value]) -> bool
-    ensures { result ≡ Workspaces.has_unread (items_view patterns.now) }
+    ensures { result ≡ PatternSteps.has_unread (items_view patterns.now) }
 {
     for pattern in patterns {
         if !is_read(pattern) {
@@ -145,7 +154,7 @@ pub(crate) fn has_unread(patterns: &[Value]) -> bool
 
 /// Returns `true` for a pattern that is read here.
 fn is_read(pattern: &Value) -> bool
-    ensures { result ≡ Workspaces.is_such Workspaces.is_read (view pattern.now) }
+    ensures { result ≡ PatternSteps.is_such PatternSteps.is_read (view pattern.now) }
 {
     pattern
         .as_str()

@@ -1,51 +1,52 @@
 -- Which folders are workspaces, by patterns of the root.
 use Rattle.std.proofs.Common.{◌≡◌, ℕ, List, None, Some, codes, refl}
 use Rattle.serde_json.specs.Data.{Items, array, item, member, no_items, no_members, object, string}
-use Rattle.npm_lock.specs.Workspaces.{by_patterns, patterns_of}
+use Rattle.npm_lock.specs.Workspaces.{IsByPatterns, patterns_of}
 use Rattle.npm_lock.specs.declared.workspace.Workspace.TheVariants.{Is, IsNot, Unread}
+use Rattle.npm_lock.proofs.Globs.Lists.{by-written}
 
 abbrev one : List ℕ → Items
 one pattern = item (string pattern) no_items
 
-pub a_folder : by_patterns (codes "w") (one (codes "./w")) ≡ Is
-a_folder = refl
+pub a_folder : IsByPatterns (codes "w") (one (codes "./w")) Is
+a_folder = by-written _ _
 
-pub a_slash_at_the_start : by_patterns (codes "packages/a") (one (codes "/packages/*")) ≡ Is
-a_slash_at_the_start = refl
+pub a_slash_at_the_start : IsByPatterns (codes "packages/a") (one (codes "/packages/*")) Is
+a_slash_at_the_start = by-written _ _
 
-pub slashes_at_the_start : by_patterns (codes "w") (one (codes ".//w")) ≡ Is
-slashes_at_the_start = refl
+pub slashes_at_the_start : IsByPatterns (codes "w") (one (codes ".//w")) Is
+slashes_at_the_start = by-written _ _
 
 -- npm takes `./` from the start of a text alone
-pub a_dot_after_a_slash : by_patterns (codes "w") (one (codes "/./w")) ≡ IsNot
-a_dot_after_a_slash = refl
+pub a_dot_after_a_slash : IsByPatterns (codes "w") (one (codes "/./w")) IsNot
+a_dot_after_a_slash = by-written _ _
 
-pub another_folder : by_patterns (codes "v") (one (codes "w")) ≡ IsNot
-another_folder = refl
+pub another_folder : IsByPatterns (codes "v") (one (codes "w")) IsNot
+another_folder = by-written _ _
 
-pub a_star_is_one_part : by_patterns (codes "packages/a") (one (codes "packages/*")) ≡ Is
-a_star_is_one_part = refl
+pub a_star_is_one_part : IsByPatterns (codes "packages/a") (one (codes "packages/*")) Is
+a_star_is_one_part = by-written _ _
 
-pub a_star_is_not_two : by_patterns (codes "packages/a/b") (one (codes "packages/*")) ≡ IsNot
-a_star_is_not_two = refl
+pub a_star_is_not_two : IsByPatterns (codes "packages/a/b") (one (codes "packages/*")) IsNot
+a_star_is_not_two = by-written _ _
 
-pub a_star_hides_no_dot : by_patterns (codes "packages/.a") (one (codes "packages/*")) ≡ IsNot
-a_star_hides_no_dot = refl
+pub a_star_hides_no_dot : IsByPatterns (codes "packages/.a") (one (codes "packages/*")) IsNot
+a_star_hides_no_dot = by-written _ _
 
-pub two_stars_are_some_parts : by_patterns (codes "packages/a/b") (one (codes "packages/**")) ≡ Is
-two_stars_are_some_parts = refl
+pub two_stars_are_some_parts : IsByPatterns (codes "packages/a/b") (one (codes "packages/**")) Is
+two_stars_are_some_parts = by-written _ _
 
-pub two_stars_are_no_part_too : by_patterns (codes "packages") (one (codes "packages/**")) ≡ Is
-two_stars_are_no_part_too = refl
+pub two_stars_are_no_part_too : IsByPatterns (codes "packages") (one (codes "packages/**")) Is
+two_stars_are_no_part_too = by-written _ _
 
-pub two_stars_hide_no_dot : by_patterns (codes "packages/a/.b") (one (codes "packages/**")) ≡ IsNot
-two_stars_hide_no_dot = refl
+pub two_stars_hide_no_dot : IsByPatterns (codes "packages/a/.b") (one (codes "packages/**")) IsNot
+two_stars_hide_no_dot = by-written _ _
 
-pub one_star_is_a_part : by_patterns (codes "packages") (one (codes "packages/*")) ≡ IsNot
-one_star_is_a_part = refl
+pub one_star_is_a_part : IsByPatterns (codes "packages") (one (codes "packages/*")) IsNot
+one_star_is_a_part = by-written _ _
 
-pub a_folder_that_is_left_out : by_patterns (codes "w") (item (string (codes "*")) (one (codes "!w"))) ≡ Unread
-a_folder_that_is_left_out = refl
+pub a_folder_that_is_left_out : IsByPatterns (codes "w") (item (string (codes "*")) (one (codes "!w"))) Unread
+a_folder_that_is_left_out = by-written _ _
 
 pub a_list_of_packages : patterns_of (object (member (codes "workspaces")
     (object (member (codes "packages") (array (one (codes "w"))) no_members)) no_members)) ≡ Some (one (codes "w"))

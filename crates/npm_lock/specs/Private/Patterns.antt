@@ -7,7 +7,8 @@ use Rattle.std.specs.Ordering.{nat_cmp}
 use Rattle.serde_json.specs.Data.{Data}
 use denote.Ref.{Bor}
 use Rattle.npm_packages.specs.Folders.{IsInstalled}
-use Rattle.npm_lock.specs.Workspaces.{IsWorkspace, are_parts, is_part, is_whole}
+use Rattle.npm_lock.specs.Private.PatternSteps.{are_parts, is_part, is_whole}
+use Rattle.npm_lock.specs.Workspaces.{IsWorkspace}
 use Rattle.npm_lock.specs.declared.patterns.Patterns.{Patterns}
 use Rattle.npm_lock.specs.declared.workspace.Workspace.{Workspace}
 use Rattle.npm_lock.specs.declared.workspace.Workspace.TheVariants.{Is, IsNot, Unread}

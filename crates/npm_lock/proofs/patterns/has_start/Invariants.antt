@@ -1,6 +1,6 @@
 -- No start so far is one of the texts, and the flag says whether a part begins here.
 use Rattle.std.proofs.Common.{◌≡◌, take}
-use Rattle.npm_lock.specs.Workspaces.{is_whole}
+use Rattle.npm_lock.specs.Private.PatternSteps.{is_whole}
 use Rattle.npm_lock.proofs.StarPatterns.{HasNone}
 use Rattle.npm_lock.proofs.patterns.has_start.Given as goal
 

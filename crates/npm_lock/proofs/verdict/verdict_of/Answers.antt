@@ -1,17 +1,17 @@
 -- Each branch is a case of the definition.
-use Rattle.std.proofs.Common.{◌∙◌, ap, sym}
+use Rattle.std.proofs.Common.{ap, subst}
 use Rattle.std.proofs.lemmas.Result.{IfOk-weaker}
-use Rattle.npm_texts.specs.RangeText.{spec_value}
+use Rattle.npm_texts.specs.SpecGrammar.{IsSpec, spec_value}
 use Rattle.npm_lock.specs.Verdict.{elsewhere, never, of_text}
 use Rattle.npm_lock.proofs.verdict.verdict_of.Goals as goal
 
 pub returns-in-Location : goal.returns-in-Location
-returns-in-Location c = elsewhere (sym c.spec_of.ensures ∙ ap spec_value c.in-Location.is)
+returns-in-Location c = elsewhere (subst (IsSpec c.args.spec.now) (ap spec_value c.in-Location.is) c.spec_of.ensures.written)
 
 pub returns-in-Refused : goal.returns-in-Refused
-returns-in-Refused c = never (sym c.spec_of.ensures ∙ ap spec_value c.in-Refused.is)
+returns-in-Refused c = never (subst (IsSpec c.args.spec.now) (ap spec_value c.in-Refused.is) c.spec_of.ensures.written)
 
 pub returns-in-Text : goal.returns-in-Text
 returns-in-Text c = IfOk-weaker c.verdict_of_text.result _ _
-    (λ verdict judged. of_text _ verdict (sym c.spec_of.ensures ∙ ap spec_value c.in-Text.is) judged)
+    (λ verdict judged. of_text _ verdict (subst (IsSpec c.args.spec.now) (ap spec_value c.in-Text.is) c.spec_of.ensures.written) judged)
     c.verdict_of_text.ensures

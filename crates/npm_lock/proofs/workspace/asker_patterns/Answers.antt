@@ -2,8 +2,9 @@
 use Rattle.std.proofs.Common.{◌≡◌, ◌==◌, ◌∙◌, ℕ, List, [], ◌∷◌, Bool, true, arith, eqb→eq, length, refl, rules, subst, sym}
 use Rattle.std.proofs.lemmas.Result.{IfOk-weaker}
 use Rattle.serde_json.specs.View.{items_view, view}
-use Rattle.npm_lock.specs.Workspaces.{IsWorkspace, elsewhere, no_patterns, of_root}
+use Rattle.npm_lock.specs.Workspaces.{IsByPatterns, IsWorkspace, elsewhere, no_patterns, of_root}
 use Rattle.npm_lock.specs.declared.workspace.Workspace.{Workspace}
+use Rattle.npm_lock.proofs.Globs.Lists.{by-written}
 use Rattle.npm_lock.proofs.PatternLists.{by_none}
 use Rattle.npm_lock.proofs.workspace.asker_patterns.Goals as goal
 
@@ -23,9 +24,9 @@ returns-then-not-is_empty c = λ folder found outside said.
 pub returns-in-Some : goal.returns-in-Some
 returns-in-Some c = IfOk-weaker c.in_sets.result _ _ (λ made by. λ folder found outside said.
     let empty = no_bytes c.args.asker.folder.now c.is_empty.result c.is_empty.ensures c.if-not-is_empty.false in
-    let P : Workspace → Type 0 = IsWorkspace c.args.asker.folder.now (view c.args.asker.member.now) folder in
-    subst P (sym (rw c.deref.ensures.value at (by folder found said)))
-    (of_root (items_view c.in-Some.patterns.now.items) empty outside (sym c.in-Some.ensures)))
+    let items = items_view c.in-Some.patterns.now.items in
+    of_root items found empty outside (sym c.in-Some.ensures)
+    (subst (IsByPatterns folder items) (sym (rw c.deref.ensures.value at (by folder found said))) (by-written folder items)))
     c.in_sets.ensures
 
 pub returns-in-None : goal.returns-in-None

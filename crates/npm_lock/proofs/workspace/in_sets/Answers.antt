@@ -2,7 +2,7 @@
 use Rattle.std.proofs.Common.{◌∙◌, inl, inr, sym}
 use Rattle.std.proofs.Math.ListN.{drop_of_length-le}
 use Rattle.serde_json.specs.View.{items_view, view}
-use Rattle.npm_lock.specs.Workspaces as Workspaces
+use Rattle.npm_lock.specs.Private.PatternSteps as PatternSteps
 use Rattle.npm_lock.proofs.PatternLists.{all_read, by_sets, items_from, one_added}
 use Rattle.npm_lock.proofs.StarPatterns.{either_true}
 use Rattle.npm_lock.proofs.workspace.in_sets.Goals as goal
@@ -24,13 +24,13 @@ pub loop-pattern-preserved : goal.loop-pattern-preserved
 loop-pattern-preserved c =
     let here = items_from c.args.patterns.now c.loop-pattern.pattern-index c.pattern-item.result c.loop-pattern-test.true
     c.pattern-item.is in
-    let read = all_read (Workspaces.is_such Workspaces.is_read (view c.pattern-item.result)) _
+    let read = all_read (PatternSteps.is_such PatternSteps.is_read (view c.pattern-item.result)) _
     (rw here at c.loop-pattern.invariant.read) in
     record {
       unread = c.add_pattern.ensures.unread ∙ c.loop-pattern.invariant.unread;
       read = read.1;
       matched = λ folder. one_added (c.in_ok-add_pattern.ensures.matched read.0 folder)
-          (either_true (Workspaces.is_such (Workspaces.is_matched folder) (view c.pattern-item.result)) _)
+          (either_true (PatternSteps.is_such (PatternSteps.is_matched folder) (view c.pattern-item.result)) _)
           (rw here at c.loop-pattern.invariant.matched folder);
     }
 

@@ -1,0 +1,6 @@
+pub mod Parts
+pub mod Ends
+pub mod Forms
+pub mod Dots
+pub mod Matching
+pub mod Lists

@@ -22,7 +22,7 @@ fn shows_a_path(rt: HostRuntime) -> Result<(), Fail> {
     let inner = path(alloc, &[list, Step::Item(1), Step::Member("a\"é")])?;
     let shown = ShownPlace::of_path(alloc, TEXT, inner)?;
     assert_eq!(rt; (shown.line, shown.column), (2, 3));
-    assert_eq!(rt; shown.steps.as_slice()[1], ShownStep::Item(1));
+    assert_eq!(rt; shown.steps.get(1), Some(&ShownStep::Item(1)));
     assert_eq!(rt;
         format!(in alloc; "{shown}")?.as_str(),
         ": \"l\", [1], \"a\\\"\\xc3\\xa9\" (line 2, column 3)"

@@ -38,10 +38,14 @@ abbrev pub all_findings : List Output → List RefusalValue → List FindingValu
 all_findings outputs refusals =
     map finding_value (flat_map (λ output. output.findings.items) outputs) ++ map refusal_finding refusals
 
--- The lines of each lock file, one file after the other; or all findings, as GitHub's lines or in one log. The log says that the
--- run was successful if it is complete: every lock file was checked.
+-- These lines, or these findings in this format. A log says that the run was successful if it is complete: every lock file was
+-- checked.
+abbrev pub IsTextOf : Format → (lines : List ℕ) → List FindingValue → (is_complete : Bool) → (text : List ℕ) → Type 0
+IsTextOf (Formats.Report format) lines findings is_complete text = text ≡ lines
+IsTextOf (Formats.Annotations format) lines findings is_complete text =
+    IsFindingsText format (codes "1.0.0") findings is_complete text
+
+-- the lines of each lock file, one file after the other; or all findings, as GitHub's lines or in one log
 abbrev pub IsWritten : Format → List Output → List RefusalValue → (is_complete : Bool) → (text : List ℕ) → Type 0
-IsWritten (Formats.Report format) outputs refusals is_complete text =
-    text ≡ flat_map (λ output. output.lines.items) outputs
-IsWritten (Formats.Annotations format) outputs refusals is_complete text =
-    IsFindingsText format (codes "1.0.0") (all_findings outputs refusals) is_complete text
+IsWritten format outputs refusals is_complete text = IsTextOf format (flat_map (λ output. output.lines.items) outputs)
+    (all_findings outputs refusals) is_complete text

@@ -1,8 +1,9 @@
 //! The output for lock files, before it is written.
 ghost use Rattle.std.specs.Prelude.{◌≡◌, ◌++◌, [], IfOk, OnOk, map};
 ghost use Rattle.std.specs.List.{flat_map};
+ghost use Rattle.annotations.specs.Findings.{finding_value};
 ghost use Rattle.npm_lock_check.specs.Refused.{refusal_value};
-ghost use Rattle.npm_lock_check.specs.Written.{IsWritten};
+ghost use Rattle.npm_lock_check.specs.Written.{IsTextOf, IsWritten};
 
 use crate::format::Format;
 use crate::help::NUMBER;
@@ -34,47 +35,50 @@ pub fn text_of<'f>(
     ensures { IfOk result (λ text. IsWritten format outputs.entry.items (map refusal_value refusals.now) is_complete
         text.items) }
 {
-    let Output { lines, findings } = joined(alloc, outputs)?;
+    let mut all = joined(alloc, outputs)?;
+    push_findings_of(alloc, &mut all.findings, refusals)?;
+    let text = all_text(alloc, format, all, is_complete)?;
+    Ok(text)
+}
+
+/// Returns the text of these lines, or of these findings.
+fn all_text(
+    alloc: Global,
+    format: Format,
+    all: Output<'_>,
+    is_complete: bool,
+) -> Result<Vec<u8>, AllocError>
+    ensures { IfOk result (λ text. IsTextOf format all.entry.lines.items (map finding_value all.entry.findings.items)
+        is_complete text.items) }
+{
     match format {
-        Format::Report(_) => Ok(lines),
+        Format::Report(_) => Ok(all.lines),
         Format::Annotations(format) => {
-            let mut findings = findings;
-            push_findings_of(alloc, &mut findings, refusals)?;
             let mut text = Vec::new(alloc);
-            push_findings(&mut text, format, NUMBER, &findings, is_complete)?;
+            push_findings(&mut text, format, NUMBER, &all.findings, is_complete)?;
             Ok(text)
         }
     }
 }
 
-/// Returns the lines of all and the findings of all. Those of a single lock file are not copied.
+/// Returns the lines of all and the findings of all. Those of the first are not copied.
 fn joined<'f>(alloc: Global, outputs: Vec<Output<'f>>) -> Result<Output<'f>, AllocError>
     ensures lines { IfOk result (λ all. all.lines.items ≡ flat_map (λ output. output.lines.items) outputs.entry.items) }
     ensures findings { IfOk result (λ all. all.findings.items
         ≡ flat_map (λ output. output.findings.items) outputs.entry.items) }
 {
-    let mut outputs = outputs;
-    if outputs.len() != 1 {
-        return copied(alloc, outputs);
-    }
-    match outputs.pop() {
-        Some(only) => Ok(only),
-        None => copied(alloc, outputs),
-    }
-}
-
-/// Returns copies of the lines of all and of the findings of all.
-fn copied<'f>(alloc: Global, outputs: Vec<Output<'f>>) -> Result<Output<'f>, AllocError>
-    ensures lines { IfOk result (λ all. all.lines.items ≡ flat_map (λ output. output.lines.items) outputs.entry.items) }
-    ensures findings { IfOk result (λ all. all.findings.items
-        ≡ flat_map (λ output. output.findings.items) outputs.entry.items) }
-{
-    let mut lines = Vec::new(alloc);
-    let mut findings = Vec::new(alloc);
-    for output in outputs {
+    let mut others = outputs.into_iter();
+    let Some(first) = others.next() else {
+        return Ok(Output {
+            lines: Vec::new(alloc),
+            findings: Vec::new(alloc),
+        });
+    };
+    let mut all = first;
+    for output in others {
         let mut output = output;
-        lines.append(&mut output.lines)?;
-        findings.append(&mut output.findings)?;
+        all.lines.append(&mut output.lines)?;
+        all.findings.append(&mut output.findings)?;
     }
-    Ok(Output { lines, findings })
+    Ok(all)
 }

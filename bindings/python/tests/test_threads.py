@@ -36,7 +36,8 @@ def run_in_threads(work: Callable[[], None]) -> List[BaseException]:
 
 def turns_during(work: Callable[[], object]) -> int:
     """How often another thread runs during a call. Python itself ends no turn meanwhile, so only the call can let it."""
-    turns, marks, begun = 0, [], threading.Event()
+    turns, begun = 0, threading.Event()
+    marks: List[int] = []
 
     def run() -> None:
         begun.set()

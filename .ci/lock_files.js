@@ -7,7 +7,7 @@
 // node lock_files.js PROGRAM rows-old: on the rows of version 1.
 // node lock_files.js PROGRAM made-manifest COUNT: on COUNT lock files of version 3 that are made here, each with a manifest.
 // node lock_files.js PROGRAM rows-manifest: on the rows with a manifest; also whether the two have the same dependencies.
-// Both of these also with the manifests of packages that links name, on disk.
+// Both of these also with the manifests of packages that links name, on disk. SEED is another start of the numbers.
 const { spawnSync } = require('node:child_process')
 const fs = require('node:fs')
 const os = require('node:os')
@@ -17,7 +17,7 @@ const npa = require('npm-package-arg')
 const { checkEngine } = require('npm-install-checks')
 
 // Numbers in a fixed order, so that a run can be repeated.
-let seed = 20111
+let seed = Number(process.env.SEED || 20111)
 const below = n => {
   seed = (Math.imul(seed, 1103515245) + 12345) & 0x7fffffff
   return Math.floor(seed / 65536) % n

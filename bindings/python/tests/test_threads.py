@@ -34,37 +34,40 @@ def run_in_threads(work: Callable[[], None]) -> List[BaseException]:
     return errors
 
 
-def longest_wait(work: Callable[[], object]) -> float:
-    """The longest time for which another thread waits during a call, as a part of the time of the call."""
-    begun, ends = threading.Event(), []
+def turns_during(work: Callable[[], object]) -> int:
+    """How often another thread runs during a call. Python itself ends no turn meanwhile, so only the call can let it."""
+    turns, begun = 0, threading.Event()
+    marks: List[int] = []
 
     def run() -> None:
-        ends.append(time.perf_counter())
         begun.set()
+        marks.append(turns)
         work()
-        ends.append(time.perf_counter())
+        marks.append(turns)
 
     thread = threading.Thread(target=run)
-    thread.start()
-    begun.wait()
-    turns = []
-    while thread.is_alive():
-        time.sleep(0.001)
-        turns.append(time.perf_counter())
-    start, end = ends
-    times = [start, *(turn for turn in turns if start < turn < end), end]
-    return max(later - earlier for earlier, later in zip(times, times[1:])) / (end - start)
+    interval = sys.getswitchinterval()
+    sys.setswitchinterval(1e6)
+    try:
+        thread.start()
+        begun.wait()
+        while thread.is_alive():
+            time.sleep(0.0001)
+            turns += 1
+    finally:
+        sys.setswitchinterval(interval)
+    start, end = marks
+    return end - start
 
 
-def long_call(work: Callable[[int], Callable[[], object]], size: int) -> Callable[[], object]:
-    """The call of a size at which it takes a tenth of a second or more."""
-    while True:
-        call = work(size)
-        start = time.perf_counter()
-        call()
-        if time.perf_counter() - start > 0.1:
-            return call
-        size *= 2
+def lets_others_run(work: Callable[[int], Callable[[], object]], size: int) -> bool:
+    """Whether another thread has ten turns during a call of this size, or of one that is larger. A machine with other work may
+    give it fewer, but not each time."""
+    for larger in (size, 2 * size, 4 * size):
+        call = work(larger)
+        if any(turns_during(call) >= 10 for _ in range(10)):
+            return True
+    return False
 
 
 def of_overlapping_ranges(size: int) -> Callable[[], object]:
@@ -150,15 +153,16 @@ def interpreter_calls() -> Tuple[Any, Any, Any]:
 class Threads(unittest.TestCase):
     def test_run_during_long_calls(self) -> None:
         for work, size in [
-            (of_overlapping_ranges, 200), (of_pieces, 200), (of_a_search, 20_000),
+            (of_overlapping_ranges, 250), (of_pieces, 250), (of_a_search, 20_000),
             (of_a_common_search, 20_000), (of_a_question, 100_000),
             (of_a_list, 200_000), (of_a_filter, 200_000), (of_a_text, 100_000), (of_a_pair, 100_000),
             (of_npms_reading, 100_000), (of_a_long_version, 100_000_000),
         ]:  # fmt: skip
             with self.subTest(work.__name__):
-                call = long_call(work, size)
-                # A machine with other work may keep a thread waiting too, but not each time.
-                self.assertLess(min(longest_wait(call) for _ in range(5)), 0.5)
+                self.assertTrue(lets_others_run(work, size))
+
+    def test_a_call_that_keeps_the_lock_is_seen(self) -> None:
+        self.assertFalse(lets_others_run(lambda size: lambda: sum(range(size)), 1_000_000))
 
     def test_read_one_value(self) -> None:
         wanted, version, other = Range("^1.2.3-rc.4 || >=3"), Version("1.2.3-rc.5"), Range(">=1.5")

@@ -34,8 +34,9 @@ mod written;
 
 use annotated::annotate;
 use argument_error::ArgumentError;
-use arguments::{Arguments, Shown, read_arguments};
+use arguments::{Arguments, read_arguments};
 use command_lines::{Quoted, Watched, open_error, read_json, words_of};
+use command_options::Shown;
 use files::files_of;
 use format::Format;
 use help::{HELP, VERSION};

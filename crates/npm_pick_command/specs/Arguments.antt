@@ -1,7 +1,7 @@
 -- The arguments of the program: the last value of an option counts, and with `--keep` each value of `--manifest`. A word that
 -- is no option is the version, the tag or the range. The first fault is told.
 use Rattle.std.specs.Prelude.{ℕ, List, [], ◌∷◌, ◌++◌, Bool, if◌then◌else◌, length, nat_eq, nat_lt, Option, Some, None}
-use Rattle.std.specs.Prelude.{◌&&◌, is_none, is_some, option_map, unwrap_or, Result, Ok, Err, codes}
+use Rattle.std.specs.Prelude.{◌&&◌, is_none, is_some, option_map, unwrap_or, Result, Err, codes}
 use Rattle.std.specs.List.{filter_map, last_or, starts_with}
 use Rattle.std.specs.Option.{option_and_then}
 use Rattle.std.specs.Result.{result_map_both}

@@ -1,15 +1,9 @@
 -- Sets of kinds of problems, and the words for kinds on a command line.
-use Rattle.std.specs.Prelude.{ℕ, List, Bool, true, false, if◌then◌else◌, Option, Some, None, codes}
-use Rattle.std.specs.Str.{bytes_eq}
+use Rattle.std.specs.Prelude.{ℕ, List, [], ◌∷◌, Bool, codes}
 use Rattle.npm_lock.specs.declared.problem.Kind.{Kind}
 use Rattle.npm_lock.specs.declared.problem.Kind.TheVariants.{Engine, Invalid, Missing, PeerLocal}
-use Rattle.npm_lock_check.specs.declared.kinds.Ignorable.{Ignorable}
-use Rattle.npm_lock_check.specs.declared.kinds.Ignorable.TheVariants.{Group, Problem}
+use Rattle.command_options.specs.Given.{is_among}
 use Rattle.npm_lock_check.specs.declared.kinds.Kinds.{Kinds}
-
--- the set without a kind
-abbrev pub no_kinds : Kinds
-no_kinds = record { group = false; missing = false; invalid = false; peer_local = false; engine = false }
 
 -- whether the kind is in the set
 abbrev pub has : Kinds → Kind → Bool
@@ -18,23 +12,16 @@ has kinds Invalid = kinds.invalid
 has kinds PeerLocal = kinds.peer_local
 has kinds Engine = kinds.engine
 
--- the set with this kind too
-abbrev pub with_kind : Kinds → Kind → Kinds
-with_kind kinds Missing = record kinds { missing = true }
-with_kind kinds Invalid = record kinds { invalid = true }
-with_kind kinds PeerLocal = record kinds { peer_local = true }
-with_kind kinds Engine = record kinds { engine = true }
+-- the words for kinds: `group` is for mismatches of a manifest and the lock file
+abbrev pub kind_words : List (List ℕ)
+kind_words = codes "group" ∷ codes "missing" ∷ codes "invalid" ∷ codes "peer-local" ∷ codes "engine" ∷ []
 
--- the set with what a word names too
-abbrev pub with_named : Kinds → Ignorable → Kinds
-with_named kinds Group = record kinds { group = true }
-with_named kinds (Problem kind) = with_kind kinds kind
-
--- the kind that a word of the command line names: `group` is for mismatches of a manifest and the lock file
-abbrev pub named_by : (text : List ℕ) → Option Ignorable
-named_by text = if bytes_eq text (codes "group") then Some Group
-    else if bytes_eq text (codes "missing") then Some (Problem Missing)
-    else if bytes_eq text (codes "invalid") then Some (Problem Invalid)
-    else if bytes_eq text (codes "peer-local") then Some (Problem PeerLocal)
-    else if bytes_eq text (codes "engine") then Some (Problem Engine)
-    else None
+-- the set of the kinds that these words name
+abbrev pub kinds_of : (words : List (List ℕ)) → Kinds
+kinds_of words = record {
+  group = is_among words (codes "group");
+  missing = is_among words (codes "missing");
+  invalid = is_among words (codes "invalid");
+  peer_local = is_among words (codes "peer-local");
+  engine = is_among words (codes "engine");
+}

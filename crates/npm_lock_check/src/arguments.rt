@@ -1,29 +1,29 @@
 //! The arguments of the program.
 //!
 //! See docs/DECISIONS.md, "The arguments of `npm_lock_check` are read by hand".
-ghost use Rattle.std.specs.Prelude.{◌≡◌, length, map, option_map, string_bytes};
+ghost use Rattle.std.specs.Prelude.{◌≡◌, ◌||◌, [], bytes_eq, codes, map, option_map, string_bytes};
+ghost use Rattle.std.specs.Option.{option_and_then, option_or};
 ghost use Rattle.command_lines.specs.Arguments.{argument_value};
+ghost use Rattle.command_options.specs.Given.{first_fault, is_among, meaning, value_of, values_of};
 ghost use Rattle.npm_lock_check.specs.Arguments as ArgumentRules;
-ghost use Rattle.npm_lock_check.specs.Arguments.{arguments_of, asked_by, arguments_result, arguments_value};
+ghost use Rattle.npm_lock_check.specs.Arguments.{argument_error_value, arguments_of, arguments_result, arguments_value};
+ghost use Rattle.npm_lock_check.specs.Arguments.{fault_of, files_fault, flags, formats, valued};
+ghost use Rattle.npm_lock_check.specs.Kinds as KindSets;
 
 use crate::argument_error::ArgumentError;
+use crate::files::{is_file, other_file};
 use crate::format::Format;
-use crate::kinds::{Kinds, named_by};
+use crate::kinds::{Kinds, is_kind};
 use command_lines::{Argument, MAX_WORDS, Options, Quoted, first_argument};
+use command_options::{Shown, has_value, is_given, shown_in, value_of};
 use npm_advisories::Severity;
 use npm_lock_annotations::AnnotationFormat;
 use npm_lock_reports::ReportFormat;
 
-/// What is shown in place of a check.
-#[derive(Clone, Copy, Drop)]
-pub enum Shown {
-    Help,
-    Version,
-}
-
 /// The arguments.
 #[derive(Clone, Copy, Drop)]
 pub struct Arguments<'a> {
+    /// What is shown in place of a check.
     pub shown: Option<Shown>,
     /// The text after `--node`.
     pub node: Option<&'a str>,
@@ -42,33 +42,37 @@ pub struct Arguments<'a> {
     pub advisories: Option<&'a str>,
     /// Advisories that are less severe are left out.
     pub level: Severity,
-    /// The first lock file.
-    pub file: Option<&'a str>,
     /// The last lock file, if there are several.
     pub other: Option<&'a str>,
-    /// One of them is standard input.
-    pub input: bool,
 }
 
-/// The options that have a value.
-#[derive(Clone, Copy, Drop)]
-pub enum Setting {
-    Node,
-    Format,
-    Ignore,
-    Manifest,
-    Advisories,
-    Severity,
+/// The options of this program.
+pub struct LockOptions;
+
+impl Options for LockOptions {
+    ghost takes_value = { is_among valued };
+
+    fn takes_value(word: &str) -> bool {
+        word == "--node"
+            || word == "--format"
+            || word == "--ignore"
+            || word == "--manifest"
+            || word == "--advisories"
+            || word == "--severity"
+    }
 }
 
-/// The options.
-#[derive(Clone, Copy, Drop)]
-pub enum Name {
-    Alone(Shown),
-    Unchecked,
-    Exact,
-    Outside,
-    Valued(Setting),
+/// Returns `true` if the word is an option that has no value.
+fn is_flag(word: &str) -> bool
+    ensures { result ≡ is_among flags word.now }
+{
+    word == "--help"
+        || word == "-h"
+        || word == "--version"
+        || word == "-V"
+        || word == "--unchecked"
+        || word == "--exact"
+        || word == "--outside"
 }
 
 /// Returns the arguments that the words after the program's name are. Of two values of an option the last one counts.
@@ -78,209 +82,45 @@ pub fn read_arguments<'a>(words: &'a [String]) -> Result<Arguments<'a>, Argument
     if MAX_WORDS < words.len() {
         return Err(ArgumentError::TooMany);
     }
-    if_fitting(asked_from(nothing_asked(), words)?)
-}
-
-/// Returns the arguments, unless a manifest is given for several lock files.
-fn if_fitting<'a>(asked: Arguments<'a>) -> Result<Arguments<'a>, ArgumentError<'a>>
-    ensures { arguments_result result ≡ ArgumentRules.if_fitting (arguments_value asked.entry) }
-{
-    if asked.manifest.is_none() {
-        return Ok(asked);
-    }
-    match asked.other {
-        Some(text) => Err(ArgumentError::ManyFiles(Quoted { text })),
-        None => Ok(asked),
+    match fault_in(words) {
+        Some(error) => Err(error),
+        None => Ok(asked_by(words)),
     }
 }
 
-/// Returns the arguments with those of these words.
-fn asked_from<'a>(
-    asked: Arguments<'a>,
-    words: &'a [String],
-) -> Result<Arguments<'a>, ArgumentError<'a>>
-    ensures { arguments_result result
-        ≡ asked_by (Ok (arguments_value asked.entry)) (arguments_of (map string_bytes words.now)) }
-{
-    match first_argument::<LockOptions>(words) {
-        Some((argument, rest)) => asked_from(asked_with(asked, argument)?, rest),
-        None => Ok(asked),
-    }
-}
-
-/// Returns the arguments of no words.
-fn nothing_asked<'a>() -> Arguments<'a>
-    ensures { arguments_value result ≡ ArgumentRules.nothing_asked }
+/// The arguments, of which each is looked for among all words.
+fn asked_by<'a>(words: &'a [String]) -> Arguments<'a>
+    ensures { arguments_value result ≡ ArgumentRules.asked_by (arguments_of (map string_bytes words.now)) }
 {
     Arguments {
-        shown: None,
-        node: None,
-        format: None,
-        ignored: Kinds::none(),
-        unchecked: false,
-        manifest: None,
-        exact: false,
-        outside: false,
-        advisories: None,
-        level: Severity::Info,
-        file: None,
-        other: None,
-        input: false,
+        shown: shown_in::<LockOptions>(words),
+        node: value_of::<LockOptions>(words, "--node"),
+        format: format_in(words),
+        ignored: ignored_in(words),
+        unchecked: is_given::<LockOptions>(words, "--unchecked"),
+        manifest: value_of::<LockOptions>(words, "--manifest"),
+        exact: is_given::<LockOptions>(words, "--exact"),
+        outside: is_given::<LockOptions>(words, "--outside"),
+        advisories: value_of::<LockOptions>(words, "--advisories"),
+        level: level_in(words),
+        other: other_file(words),
     }
 }
 
-/// The options of this program.
-pub struct LockOptions;
-
-impl Options for LockOptions {
-    ghost takes_value = { ArgumentRules.takes_value };
-
-    fn takes_value(word: &str) -> bool {
-        matches!(name_of(word), Some(Name::Valued(_)))
-    }
-}
-
-/// Returns the option that the word names.
-pub fn name_of(word: &str) -> Option<Name>
-    ensures { result ≡ ArgumentRules.name_of word.now }
+/// The format that the words name.
+fn format_in(words: &[String]) -> Option<Format>
+    ensures { result
+        ≡ option_and_then (meaning formats) (value_of (codes "--format") (arguments_of (map string_bytes words.now))) }
 {
-    if word == "--help" || word == "-h" {
-        Some(Name::Alone(Shown::Help))
-    } else if word == "--version" || word == "-V" {
-        Some(Name::Alone(Shown::Version))
-    } else if word == "--node" {
-        Some(Name::Valued(Setting::Node))
-    } else if word == "--format" {
-        Some(Name::Valued(Setting::Format))
-    } else if word == "--ignore" {
-        Some(Name::Valued(Setting::Ignore))
-    } else {
-        input_name_of(word)
-    }
-}
-
-/// The option that the word names, of those that add to a check.
-fn input_name_of(word: &str) -> Option<Name>
-    ensures { result ≡ ArgumentRules.input_name_of word.now }
-{
-    if word == "--unchecked" {
-        Some(Name::Unchecked)
-    } else if word == "--exact" {
-        Some(Name::Exact)
-    } else if word == "--outside" {
-        Some(Name::Outside)
-    } else if word == "--manifest" {
-        Some(Name::Valued(Setting::Manifest))
-    } else if word == "--advisories" {
-        Some(Name::Valued(Setting::Advisories))
-    } else if word == "--severity" {
-        Some(Name::Valued(Setting::Severity))
-    } else {
-        None
-    }
-}
-
-/// Returns the arguments with one more.
-fn asked_with<'a>(
-    asked: Arguments<'a>,
-    argument: Argument<'a>,
-) -> Result<Arguments<'a>, ArgumentError<'a>>
-    ensures { arguments_result result
-        ≡ ArgumentRules.asked_with (arguments_value asked.entry) (argument_value argument.entry) }
-{
-    match name_of(argument.word) {
-        None => with_file(asked, argument.word),
-        Some(Name::Alone(shown)) => Ok(Arguments {
-            shown: Some(shown),
-            ..asked
-        }),
-        Some(Name::Unchecked) => Ok(Arguments {
-            unchecked: true,
-            ..asked
-        }),
-        Some(Name::Exact) => Ok(Arguments {
-            exact: true,
-            ..asked
-        }),
-        Some(Name::Outside) => Ok(Arguments {
-            outside: true,
-            ..asked
-        }),
-        Some(Name::Valued(setting)) => match argument.value {
-            Some(text) => with_value(asked, setting, text),
-            None => Err(ArgumentError::NoValue(Quoted {
-                text: argument.word,
-            })),
-        },
-    }
-}
-
-/// Returns the arguments with one more option that has a value.
-fn with_value<'a>(
-    asked: Arguments<'a>,
-    setting: Setting,
-    text: &'a str,
-) -> Result<Arguments<'a>, ArgumentError<'a>>
-    ensures { arguments_result result ≡ ArgumentRules.with_value (arguments_value asked.entry) setting text.now }
-{
-    match setting {
-        Setting::Node => Ok(Arguments {
-            node: Some(text),
-            ..asked
-        }),
-        Setting::Manifest => Ok(Arguments {
-            manifest: Some(text),
-            ..asked
-        }),
-        Setting::Advisories => Ok(Arguments {
-            advisories: Some(text),
-            ..asked
-        }),
-        Setting::Format => with_format(asked, text),
-        Setting::Ignore => with_ignored(asked, text),
-        Setting::Severity => with_level(asked, text),
-    }
-}
-
-/// Returns the arguments with another format.
-fn with_format<'a>(asked: Arguments<'a>, text: &'a str) -> Result<Arguments<'a>, ArgumentError<'a>>
-    ensures { arguments_result result ≡ ArgumentRules.with_format (arguments_value asked.entry) text.now }
-{
-    match format_of(text) {
-        Some(format) => Ok(Arguments {
-            format: Some(format),
-            ..asked
-        }),
-        None => Err(ArgumentError::Format(Quoted { text })),
-    }
-}
-
-/// Returns the arguments with one more kind that is left out.
-fn with_ignored<'a>(asked: Arguments<'a>, text: &'a str) -> Result<Arguments<'a>, ArgumentError<'a>>
-    ensures { arguments_result result ≡ ArgumentRules.with_ignored (arguments_value asked.entry) text.now }
-{
-    match named_by(text) {
-        Some(named) => Ok(Arguments {
-            ignored: asked.ignored.with(named),
-            ..asked
-        }),
-        None => Err(ArgumentError::Kind(Quoted { text })),
-    }
-}
-
-/// Returns the arguments with another least severity.
-fn with_level<'a>(asked: Arguments<'a>, text: &'a str) -> Result<Arguments<'a>, ArgumentError<'a>>
-    ensures { arguments_result result ≡ ArgumentRules.with_level (arguments_value asked.entry) text.now }
-{
-    match Severity::of_text(text) {
-        Severity::Unknown => Err(ArgumentError::Severity(Quoted { text })),
-        level => Ok(Arguments { level, ..asked }),
+    match value_of::<LockOptions>(words, "--format") {
+        Some(text) => format_of(text),
+        None => None,
     }
 }
 
 /// The format that the text names.
 fn format_of(text: &str) -> Option<Format>
-    ensures { result ≡ ArgumentRules.format_of text.now }
+    ensures { result ≡ meaning formats text.now }
 {
     if text == "text" {
         Some(Format::Report(ReportFormat::Text))
@@ -295,35 +135,116 @@ fn format_of(text: &str) -> Option<Format>
     }
 }
 
-/// Returns the arguments with one more word that is no option: a lock file.
-fn with_file<'a>(asked: Arguments<'a>, word: &'a str) -> Result<Arguments<'a>, ArgumentError<'a>>
-    ensures { arguments_result result ≡ ArgumentRules.with_file (arguments_value asked.entry) word.now }
+/// The kinds that are left out.
+fn ignored_in(words: &[String]) -> Kinds
+    ensures { result ≡ KindSets.kinds_of (values_of (codes "--ignore") (arguments_of (map string_bytes words.now))) }
 {
-    if word.starts_with("-") && word != "-" {
-        Err(ArgumentError::UnknownOption(Quoted { text: word }))
-    } else if asked.input && word == "-" {
-        Err(ArgumentError::SecondInput)
-    } else {
-        Ok(with_next(asked, word))
+    Kinds {
+        group: has_value::<LockOptions>(words, "--ignore", "group"),
+        missing: has_value::<LockOptions>(words, "--ignore", "missing"),
+        invalid: has_value::<LockOptions>(words, "--ignore", "invalid"),
+        peer_local: has_value::<LockOptions>(words, "--ignore", "peer-local"),
+        engine: has_value::<LockOptions>(words, "--ignore", "engine"),
     }
 }
 
-/// Returns the arguments with one more lock file.
-fn with_next<'a>(asked: Arguments<'a>, word: &'a str) -> Arguments<'a>
-    ensures { arguments_value result ≡ ArgumentRules.with_next (option_map (λ word. word.now) asked.entry.file)
-        (arguments_value asked.entry) word.now }
+/// The least severity of the advisories that count.
+fn level_in(words: &[String]) -> Severity
+    ensures { result ≡ ArgumentRules.level_of (value_of (codes "--severity") (arguments_of (map string_bytes words.now))) }
 {
-    let input = asked.input || word == "-";
-    match asked.file {
-        None => Arguments {
-            file: Some(word),
-            input,
-            ..asked
-        },
-        Some(_) => Arguments {
-            other: Some(word),
-            input,
-            ..asked
-        },
+    match value_of::<LockOptions>(words, "--severity") {
+        Some(text) => Severity::of_text(text),
+        None => Severity::Info,
+    }
+}
+
+/// What is wrong with the words: the first fault of an argument, or else a manifest for several lock files.
+fn fault_in<'a>(words: &'a [String]) -> Option<ArgumentError<'a>>
+    ensures { option_map argument_error_value result ≡ ArgumentRules.fault_in (arguments_of (map string_bytes words.now)) }
+{
+    match first_fault(words) {
+        Some(error) => Some(error),
+        None => files_fault(words),
+    }
+}
+
+/// A manifest for several lock files.
+fn files_fault<'a>(words: &'a [String]) -> Option<ArgumentError<'a>>
+    ensures { option_map argument_error_value result ≡ files_fault (arguments_of (map string_bytes words.now)) }
+{
+    if value_of::<LockOptions>(words, "--manifest").is_none() {
+        return None;
+    }
+    let text = other_file(words)?;
+    Some(ArgumentError::ManyFiles(Quoted { text }))
+}
+
+/// The first fault of an argument.
+fn first_fault<'a>(words: &'a [String]) -> Option<ArgumentError<'a>>
+    ensures { option_map argument_error_value result ≡ first_fault fault_of [] (arguments_of (map string_bytes words.now)) }
+{
+    let mut is_input_given = false;
+    let mut left = words;
+    'words: while let Some((argument, rest)) = first_argument::<LockOptions>(left) {
+        if let Some(error) = argument_fault(argument, is_input_given) {
+            return Some(error);
+        }
+        is_input_given = is_input_by(is_input_given, argument.word);
+        left = rest;
+    }
+    None
+}
+
+/// Returns `true` if standard input was given before a word, or is this word.
+fn is_input_by(is_input_given: bool, word: &str) -> bool
+    ensures { result ≡ (is_input_given || bytes_eq word.now (codes "-")) }
+{
+    is_input_given || word == "-"
+}
+
+/// What is wrong with an argument. Standard input may be given before it.
+fn argument_fault<'a>(argument: Argument<'a>, is_input_given: bool) -> Option<ArgumentError<'a>>
+    ensures { option_map argument_error_value result
+        ≡ ArgumentRules.argument_fault (argument_value argument.entry) is_input_given }
+{
+    if LockOptions::takes_value(argument.word) {
+        return value_fault(argument.word, argument.value);
+    }
+    if is_flag(argument.word) {
+        return None;
+    }
+    word_fault(argument.word, is_input_given)
+}
+
+/// What is wrong with the value of an option.
+fn value_fault<'a>(option: &'a str, value: Option<&'a str>) -> Option<ArgumentError<'a>>
+    ensures { option_map argument_error_value result
+        ≡ ArgumentRules.value_fault option.now (option_map (λ text. text.now) value.entry) }
+{
+    let Some(text) = value else {
+        return Some(ArgumentError::NoValue(Quoted { text: option }));
+    };
+    let quoted = Quoted { text };
+    if option == "--format" && format_of(text).is_none() {
+        Some(ArgumentError::Format(quoted))
+    } else if option == "--ignore" && !is_kind(text) {
+        Some(ArgumentError::Kind(quoted))
+    } else if option == "--severity" && Severity::of_text(text) == Severity::Unknown {
+        Some(ArgumentError::Severity(quoted))
+    } else {
+        None
+    }
+}
+
+/// What is wrong with a word that is no option.
+fn word_fault<'a>(text: &'a str, is_input_given: bool) -> Option<ArgumentError<'a>>
+    ensures { option_map argument_error_value result ≡ ArgumentRules.word_fault text.now is_input_given }
+{
+    if !is_file(text) {
+        Some(ArgumentError::UnknownOption(Quoted { text }))
+    } else if text == "-" && is_input_given {
+        Some(ArgumentError::SecondInput)
+    } else {
+        None
     }
 }

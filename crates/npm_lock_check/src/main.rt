@@ -29,8 +29,9 @@ mod workspace_problems;
 mod written;
 
 use argument_error::ArgumentError;
-use arguments::{Arguments, Shown, read_arguments};
+use arguments::{Arguments, read_arguments};
 use command_lines::{Quoted, Watched, open_error, read_json_with_text, words_of};
+use command_options::Shown;
 use files::files_of;
 use format::Format;
 use help::{HELP, VERSION};

@@ -1,7 +1,6 @@
 -- The definitions that the contracts of this program use, in reading order. These files are what a reader has to trust.
 
 -- The command line.
-pub mod Names  -- the options
 pub mod Arguments  -- what the arguments mean
 pub mod Task  -- what the program does
 pub mod Given  -- the times and versions that they name

@@ -1,12 +1,15 @@
 //! Reads the arguments of the program.
-ghost use Rattle.std.specs.Prelude.{◌≡◌, length, map, string_bytes};
+ghost use Rattle.std.specs.Prelude.{◌≡◌, ◌||◌, [], codes, is_some, map, option_map, string_bytes};
+ghost use Rattle.std.specs.Option.{option_or};
 ghost use Rattle.command_lines.specs.Arguments.{argument_value};
+ghost use Rattle.command_options.specs.Given.{first_fault, is_among, meaning, value_of};
 ghost use Rattle.npm_pick_command.specs.Arguments as ArgumentRules;
-ghost use Rattle.npm_pick_command.specs.Arguments.{arguments_of, arguments_result, arguments_value, asked_by};
+ghost use Rattle.npm_pick_command.specs.Arguments.{argument_error_value, arguments_of, arguments_result, arguments_value};
+ghost use Rattle.npm_pick_command.specs.Arguments.{fault_of, flags, formats, text_value, valued};
 
 use crate::argument_error::ArgumentError;
-use crate::name::{Flag, Name, Setting, Shown, name_of};
 use command_lines::{Argument, MAX_WORDS, Options, Quoted, first_argument};
+use command_options::{Shown, is_given, shown_in, value_of};
 use npm_pick_reports::Format;
 
 /// What the arguments mean. A text is the value of the last option of its name.
@@ -39,11 +42,35 @@ pub struct Arguments<'a> {
 pub struct PickOptions;
 
 impl Options for PickOptions {
-    ghost takes_value = { ArgumentRules.takes_value };
+    ghost takes_value = { is_among valued };
 
     fn takes_value(word: &str) -> bool {
-        matches!(name_of(word), Some(Name::Valued(_)))
+        word == "--packument"
+            || word == "--packuments"
+            || word == "--lock"
+            || word == "--manifest"
+            || word == "--tag"
+            || word == "--before"
+            || word == "--avoid"
+            || word == "--node"
+            || word == "--npm"
+            || word == "--format"
     }
+}
+
+/// Returns `true` if the word is an option that has no value.
+fn is_flag(word: &str) -> bool
+    ensures { result ≡ is_among flags word.now }
+{
+    word == "--help"
+        || word == "-h"
+        || word == "--version"
+        || word == "-V"
+        || word == "--avoid-strict"
+        || word == "--include-staged"
+        || word == "--outdated"
+        || word == "--keep"
+        || word == "--all"
 }
 
 /// Reads the words after the program's name. Of two values of an option the last one counts.
@@ -53,164 +80,51 @@ pub fn read_arguments<'a>(words: &'a [String]) -> Result<Arguments<'a>, Argument
     if MAX_WORDS < words.len() {
         return Err(ArgumentError::TooMany);
     }
-    asked_from(nothing_asked(), words)
-}
-
-/// Reads the words that are left.
-fn asked_from<'a>(
-    asked: Arguments<'a>,
-    words: &'a [String],
-) -> Result<Arguments<'a>, ArgumentError<'a>>
-    ensures { arguments_result result
-        ≡ asked_by (Ok (arguments_value asked.entry)) (arguments_of (map string_bytes words.now)) }
-{
-    match first_argument::<PickOptions>(words) {
-        Some((argument, rest)) => asked_from(asked_with(asked, argument)?, rest),
-        None => Ok(asked),
+    match first_fault(words) {
+        Some(error) => Err(error),
+        None => Ok(asked_by(words)),
     }
 }
 
-/// The meaning of no arguments.
-fn nothing_asked<'a>() -> Arguments<'a>
-    ensures { arguments_value result ≡ ArgumentRules.nothing_asked }
+/// The arguments, of which each is looked for among all words.
+fn asked_by<'a>(words: &'a [String]) -> Arguments<'a>
+    ensures { arguments_value result ≡ ArgumentRules.asked_by (arguments_of (map string_bytes words.now)) }
 {
     Arguments {
-        shown: None,
-        format: Format::Text,
-        packument: None,
-        packuments: None,
-        lock: None,
-        manifest: None,
-        outdated: false,
-        keep: false,
-        all: false,
-        tag: None,
-        before: None,
-        avoid: None,
-        avoid_strict: false,
-        include_staged: false,
-        node: None,
-        npm: None,
-        spec: None,
+        shown: shown_in::<PickOptions>(words),
+        format: format_in(words),
+        packument: value_of::<PickOptions>(words, "--packument"),
+        packuments: value_of::<PickOptions>(words, "--packuments"),
+        lock: value_of::<PickOptions>(words, "--lock"),
+        manifest: value_of::<PickOptions>(words, "--manifest"),
+        outdated: is_given::<PickOptions>(words, "--outdated"),
+        keep: is_given::<PickOptions>(words, "--keep"),
+        all: is_given::<PickOptions>(words, "--all"),
+        tag: value_of::<PickOptions>(words, "--tag"),
+        before: value_of::<PickOptions>(words, "--before"),
+        avoid: value_of::<PickOptions>(words, "--avoid"),
+        avoid_strict: is_given::<PickOptions>(words, "--avoid-strict"),
+        include_staged: is_given::<PickOptions>(words, "--include-staged"),
+        node: value_of::<PickOptions>(words, "--node"),
+        npm: value_of::<PickOptions>(words, "--npm"),
+        spec: spec_in(words),
     }
 }
 
-/// Adds an argument.
-fn asked_with<'a>(
-    asked: Arguments<'a>,
-    argument: Argument<'a>,
-) -> Result<Arguments<'a>, ArgumentError<'a>>
-    ensures { arguments_result result
-        ≡ ArgumentRules.asked_with (arguments_value asked.entry) (argument_value argument.entry) }
+/// The format that the words name.
+fn format_in(words: &[String]) -> Format
+    ensures { result
+        ≡ ArgumentRules.format_of (value_of (codes "--format") (arguments_of (map string_bytes words.now))) }
 {
-    match name_of(argument.word) {
-        None => with_spec(asked, argument.word),
-        Some(Name::Alone(flag)) => Ok(with_flag(asked, flag)),
-        Some(Name::Valued(setting)) => match argument.value {
-            Some(text) => with_value(asked, setting, text),
-            None => Err(ArgumentError::NoValue(Quoted {
-                text: argument.word,
-            })),
-        },
-    }
-}
-
-/// Adds an option that has no value.
-fn with_flag<'a>(asked: Arguments<'a>, flag: Flag) -> Arguments<'a>
-    ensures { arguments_value result ≡ ArgumentRules.with_flag (arguments_value asked.entry) flag }
-{
-    match flag {
-        Flag::Show(shown) => Arguments {
-            shown: Some(shown),
-            ..asked
-        },
-        Flag::AvoidStrict => Arguments {
-            avoid_strict: true,
-            ..asked
-        },
-        Flag::IncludeStaged => Arguments {
-            include_staged: true,
-            ..asked
-        },
-        Flag::Outdated => Arguments {
-            outdated: true,
-            ..asked
-        },
-        Flag::Keep => Arguments {
-            keep: true,
-            ..asked
-        },
-        Flag::All => Arguments { all: true, ..asked },
-    }
-}
-
-/// Adds an option that has a value.
-fn with_value<'a>(
-    asked: Arguments<'a>,
-    setting: Setting,
-    text: &'a str,
-) -> Result<Arguments<'a>, ArgumentError<'a>>
-    ensures { arguments_result result ≡ ArgumentRules.with_value (arguments_value asked.entry) setting text.now }
-{
-    match setting {
-        Setting::Format => with_format(asked, text),
-        _ => Ok(with_text(asked, setting, text)),
-    }
-}
-
-/// Adds an option whose value is kept as it is.
-fn with_text<'a>(asked: Arguments<'a>, setting: Setting, text: &'a str) -> Arguments<'a>
-    ensures { arguments_value result ≡ ArgumentRules.with_text (arguments_value asked.entry) setting text.now }
-{
-    let text = Some(text);
-    match setting {
-        Setting::Packument => Arguments {
-            packument: text,
-            ..asked
-        },
-        Setting::Packuments => Arguments {
-            packuments: text,
-            ..asked
-        },
-        Setting::Lock => Arguments {
-            lock: text,
-            ..asked
-        },
-        Setting::Manifest => Arguments {
-            manifest: text,
-            ..asked
-        },
-        Setting::Tag => Arguments { tag: text, ..asked },
-        Setting::Before => Arguments {
-            before: text,
-            ..asked
-        },
-        Setting::Avoid => Arguments {
-            avoid: text,
-            ..asked
-        },
-        Setting::Node => Arguments {
-            node: text,
-            ..asked
-        },
-        Setting::Npm => Arguments { npm: text, ..asked },
-        Setting::Format => asked,
-    }
-}
-
-/// Adds a format.
-fn with_format<'a>(asked: Arguments<'a>, text: &'a str) -> Result<Arguments<'a>, ArgumentError<'a>>
-    ensures { arguments_result result ≡ ArgumentRules.with_format (arguments_value asked.entry) text.now }
-{
-    match format_of(text) {
-        Some(format) => Ok(Arguments { format, ..asked }),
-        None => Err(ArgumentError::Format(Quoted { text })),
+    match value_of::<PickOptions>(words, "--format") {
+        Some(text) => format_of(text).unwrap_or(Format::Text),
+        None => Format::Text,
     }
 }
 
 /// The format that the text names.
 fn format_of(text: &str) -> Option<Format>
-    ensures { result ≡ ArgumentRules.format_of text.now }
+    ensures { result ≡ meaning formats text.now }
 {
     if text == "text" {
         Some(Format::Text)
@@ -221,18 +135,102 @@ fn format_of(text: &str) -> Option<Format>
     }
 }
 
-/// Adds a word that is no option: the version, the tag or the range, of which there is one.
-fn with_spec<'a>(asked: Arguments<'a>, word: &'a str) -> Result<Arguments<'a>, ArgumentError<'a>>
-    ensures { arguments_result result ≡ ArgumentRules.with_spec (arguments_value asked.entry) word.now }
+/// The last word that is the version, the tag or the range.
+fn spec_in<'a>(words: &'a [String]) -> Option<&'a str>
+    ensures { text_value result ≡ ArgumentRules.spec_in (arguments_of (map string_bytes words.now)) }
+{
+    let mut last = None;
+    let mut left = words;
+    'words: while let Some((argument, rest)) = first_argument::<PickOptions>(left) {
+        last = later_spec(last, argument.word);
+        left = rest;
+    }
+    last
+}
+
+/// The word, or else the one before it if this one begins with `-`.
+fn later_spec<'a>(before: Option<&'a str>, word: &'a str) -> Option<&'a str>
+    ensures { text_value result ≡ option_or (ArgumentRules.spec_of word.now) (text_value before.entry) }
+{
+    match spec_of(word) {
+        Some(spec) => Some(spec),
+        None => before,
+    }
+}
+
+/// The word, unless it begins with `-`.
+fn spec_of(word: &str) -> Option<&str>
+    ensures { text_value result ≡ ArgumentRules.spec_of word.now }
 {
     if word.starts_with("-") {
-        Err(ArgumentError::UnknownOption(Quoted { text: word }))
-    } else if asked.spec.is_some() {
-        Err(ArgumentError::SecondSpec(Quoted { text: word }))
+        None
     } else {
-        Ok(Arguments {
-            spec: Some(word),
-            ..asked
-        })
+        Some(word)
+    }
+}
+
+/// The first fault of an argument.
+fn first_fault<'a>(words: &'a [String]) -> Option<ArgumentError<'a>>
+    ensures { option_map argument_error_value result
+        ≡ first_fault fault_of [] (arguments_of (map string_bytes words.now)) }
+{
+    let mut is_spec_given = false;
+    let mut left = words;
+    'words: while let Some((argument, rest)) = first_argument::<PickOptions>(left) {
+        if let Some(error) = argument_fault(argument, is_spec_given) {
+            return Some(error);
+        }
+        is_spec_given = is_spec_by(is_spec_given, argument.word);
+        left = rest;
+    }
+    None
+}
+
+/// Returns `true` if a word that is no option was given before a word, or is this word.
+fn is_spec_by(is_spec_given: bool, word: &str) -> bool
+    ensures { result ≡ (is_spec_given || is_some (ArgumentRules.spec_of word.now)) }
+{
+    is_spec_given || spec_of(word).is_some()
+}
+
+/// What is wrong with an argument. A word that is no option may be given before it.
+fn argument_fault<'a>(argument: Argument<'a>, is_spec_given: bool) -> Option<ArgumentError<'a>>
+    ensures { option_map argument_error_value result
+        ≡ ArgumentRules.argument_fault (argument_value argument.entry) is_spec_given }
+{
+    if PickOptions::takes_value(argument.word) {
+        return value_fault(argument.word, argument.value);
+    }
+    if is_flag(argument.word) {
+        return None;
+    }
+    word_fault(argument.word, is_spec_given)
+}
+
+/// What is wrong with the value of an option.
+fn value_fault<'a>(option: &'a str, value: Option<&'a str>) -> Option<ArgumentError<'a>>
+    ensures { option_map argument_error_value result
+        ≡ ArgumentRules.value_fault option.now (text_value value.entry) }
+{
+    let Some(text) = value else {
+        return Some(ArgumentError::NoValue(Quoted { text: option }));
+    };
+    if option == "--format" && format_of(text).is_none() {
+        Some(ArgumentError::Format(Quoted { text }))
+    } else {
+        None
+    }
+}
+
+/// What is wrong with a word that is no option.
+fn word_fault<'a>(text: &'a str, is_spec_given: bool) -> Option<ArgumentError<'a>>
+    ensures { option_map argument_error_value result ≡ ArgumentRules.word_fault text.now is_spec_given }
+{
+    if spec_of(text).is_none() {
+        Some(ArgumentError::UnknownOption(Quoted { text }))
+    } else if is_spec_given {
+        Some(ArgumentError::SecondSpec(Quoted { text }))
+    } else {
+        None
     }
 }

@@ -1,10 +1,11 @@
 //! The files of manifests that the arguments name.
-ghost use Rattle.std.specs.Prelude.{◌≡◌, ◌++◌, IfOk, OnOk, map, string_bytes};
+ghost use Rattle.std.specs.Prelude.{◌≡◌, ◌++◌, [], IfOk, OnOk, codes, map, string_bytes};
+ghost use Rattle.std.specs.List.{cons_option};
 ghost use Rattle.command_lines.specs.Arguments.{argument_value};
-ghost use Rattle.npm_pick_command.specs.Arguments.{manifest_in, manifests_of as manifests_named};
+ghost use Rattle.command_options.specs.Given.{value_in};
+ghost use Rattle.npm_pick_command.specs.Arguments.{manifests_of as manifests_named};
 
 use crate::arguments::PickOptions;
-use crate::name::{Name, Setting, name_of};
 use command_lines::{Argument, first_argument};
 use std::alloc::{AllocError, Global};
 
@@ -23,12 +24,12 @@ pub fn manifests_of<'a>(alloc: Global, words: &'a [String]) -> Result<Vec<&'a st
 
 /// Adds the file of a manifest, if the argument names one.
 fn push_manifest<'a>(files: &mut Vec<&'a str>, argument: Argument<'a>) -> Result<(), AllocError>
-    ensures { OnOk result (map (λ file. file.now) files.new.items
-        ≡ map (λ file. file.now) files.old.items ++ manifest_in (argument_value argument.entry)) }
+    ensures { OnOk result (map (λ file. file.now) files.new.items ≡ map (λ file. file.now) files.old.items
+        ++ cons_option (value_in (codes "--manifest") (argument_value argument.entry)) []) }
 {
-    let Some(Name::Valued(Setting::Manifest)) = name_of(argument.word) else {
+    if argument.word != "--manifest" {
         return Ok(());
-    };
+    }
     if let Some(file) = argument.value {
         files.push(file)?;
     }

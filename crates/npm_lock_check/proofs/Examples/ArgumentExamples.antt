@@ -1,25 +1,28 @@
 -- What the definitions say of some arguments.
 use Rattle.std.proofs.Common.{◌≡◌, ◌∷◌, [], Err, Ok, Some, codes, false, map, refl, true}
+use Rattle.command_options.specs.Given.{is_among}
+use Rattle.command_options.specs.declared.given.Shown.TheVariants.{Help, Version}
 use Rattle.npm_advisories.specs.declared.severity.Severity.TheVariants.{High}
 use Rattle.npm_lock.specs.declared.problem.Kind.TheVariants.{Engine, Invalid, Missing, PeerLocal}
-use Rattle.npm_lock_check.specs.Arguments.{files_of, many_files, no_kind, no_severity, no_value, nothing_asked, read_arguments, second_input, unknown_option}
-use Rattle.npm_lock_check.specs.Kinds.{has, named_by, no_kinds, with_kind, with_named}
+use Rattle.npm_lock_check.specs.Arguments.{ArgumentsValue, asked_by, files_of, many_files, no_kind, no_severity, no_value, read_arguments, second_input, unknown_option}
+use Rattle.npm_lock_check.specs.Kinds.{has, kind_words, kinds_of}
 use Rattle.npm_lock_reports.specs.declared.format.ReportFormat.TheVariants.{Json}
 use Rattle.npm_lock_annotations.specs.declared.format.AnnotationFormat.TheVariants.{Github, Sarif}
 use Rattle.npm_lock_check.specs.declared.format.Format.TheVariants.{Annotations, Report}
-use Rattle.npm_lock_check.specs.declared.arguments.Shown.TheVariants.{Help, Version}
-use Rattle.npm_lock_check.specs.declared.kinds.Ignorable.TheVariants.{Group, Problem}
+
+abbrev nothing_asked : ArgumentsValue
+nothing_asked = asked_by []
 
 pub no_word : read_arguments [] ≡ Ok nothing_asked
 no_word = refl
 
 pub options_and_a_file : read_arguments (codes "--node" ∷ codes "20" ∷ codes "a.json" ∷ codes "--format" ∷ codes "json" ∷
     [])
-    ≡ Ok (record nothing_asked { node = Some (codes "20"); file = Some (codes "a.json"); format = Some (Report Json) })
+    ≡ Ok (record nothing_asked { node = Some (codes "20"); format = Some (Report Json) })
 options_and_a_file = refl
 
 pub two_kinds : read_arguments (codes "--ignore" ∷ codes "missing" ∷ codes "--ignore" ∷ codes "peer-local" ∷ [])
-    ≡ Ok (record nothing_asked { ignored = with_kind (with_kind no_kinds Missing) PeerLocal })
+    ≡ Ok (record nothing_asked { ignored = kinds_of (codes "missing" ∷ codes "peer-local" ∷ []) })
 two_kinds = refl
 
 pub the_last_value_counts : read_arguments (codes "--node" ∷ codes "18" ∷ codes "--node" ∷ codes "20" ∷ [])
@@ -35,11 +38,11 @@ pub help : read_arguments (codes "-h" ∷ []) ≡ Ok (record nothing_asked { sho
 help = refl
 
 -- `-` is standard input, by its name
-pub a_hyphen_is_a_file : read_arguments (codes "-" ∷ []) ≡ Ok (record nothing_asked { file = Some (codes "-"); input = true })
+pub a_hyphen_is_a_file : read_arguments (codes "-" ∷ []) ≡ Ok nothing_asked
 a_hyphen_is_a_file = refl
 
 pub two_files : read_arguments (codes "-" ∷ codes "a.json" ∷ [])
-    ≡ Ok (record nothing_asked { file = Some (codes "-"); other = Some (codes "a.json"); input = true })
+    ≡ Ok (record nothing_asked { other = Some (codes "a.json") })
 two_files = refl
 
 pub standard_input_twice : read_arguments (codes "-" ∷ codes "a.json" ∷ codes "-" ∷ []) ≡ Err second_input
@@ -69,22 +72,16 @@ pub another_kind : read_arguments (codes "--ignore" ∷ codes "peer local" ∷ [
     ≡ Err (no_kind (codes "peer local"))
 another_kind = refl
 
-pub an_engine : named_by (codes "engine") ≡ Some (Problem Engine)
-an_engine = refl
-
-pub a_group : named_by (codes "group") ≡ Some Group
-a_group = refl
-
-pub what_does_not_fit : named_by (codes "invalid") ≡ Some (Problem Invalid)
-what_does_not_fit = refl
+pub each_kind_has_a_word : map (is_among kind_words) (codes "group" ∷ codes "engine" ∷ codes "all" ∷ []) ≡ true ∷ true ∷ false ∷ []
+each_kind_has_a_word = refl
 
 -- a kind is left out by itself and by no other
-pub each_kind_by_itself : map (has (with_named no_kinds (Problem Invalid)))
-    (Missing ∷ Invalid ∷ PeerLocal ∷ Engine ∷ []) ≡ false ∷ true ∷ false ∷ false ∷ []
+pub each_kind_by_itself : map (has (kinds_of (codes "invalid" ∷ []))) (Missing ∷ Invalid ∷ PeerLocal ∷ Engine ∷ [])
+    ≡ false ∷ true ∷ false ∷ false ∷ []
 each_kind_by_itself = refl
 
-pub a_group_is_no_kind_of_problem : map (has (with_named no_kinds Group))
-    (Missing ∷ Invalid ∷ PeerLocal ∷ Engine ∷ []) ≡ false ∷ false ∷ false ∷ false ∷ []
+pub a_group_is_no_kind_of_problem : map (has (kinds_of (codes "group" ∷ []))) (Missing ∷ Invalid ∷ PeerLocal ∷ Engine ∷ [])
+    ≡ false ∷ false ∷ false ∷ false ∷ []
 a_group_is_no_kind_of_problem = refl
 
 -- `--unchecked` has no value, so the word after it is the file
@@ -93,7 +90,6 @@ pub more_options : read_arguments (codes "--unchecked" ∷ codes "a.json" ∷ co
     ≡ Ok (record nothing_asked {
       unchecked = true;
       manifest = Some (codes "package.json");
-      file = Some (codes "a.json");
     })
 more_options = refl
 
@@ -105,15 +101,14 @@ pub a_value_in_the_word : read_arguments (codes "--node=20" ∷ codes "--manifes
       node = Some (codes "20");
       manifest = Some (codes "package.json");
       format = Some (Report Json);
-      ignored = with_kind no_kinds Missing;
+      ignored = kinds_of (codes "missing" ∷ []);
       advisories = Some (codes "a=b.json");
       level = High;
-      file = Some (codes "a.json");
     })
 a_value_in_the_word = refl
 
 pub an_empty_value : read_arguments (codes "--manifest=" ∷ codes "a.json" ∷ [])
-    ≡ Ok (record nothing_asked { manifest = Some []; file = Some (codes "a.json") })
+    ≡ Ok (record nothing_asked { manifest = Some [] })
 an_empty_value = refl
 
 -- an option without a value takes none
@@ -121,7 +116,7 @@ pub no_value_for_unchecked : read_arguments (codes "--unchecked=yes" ∷ []) ≡
 no_value_for_unchecked = refl
 
 -- a file may have a `=`
-pub a_file_with_an_equals_sign : read_arguments (codes "node=20" ∷ []) ≡ Ok (record nothing_asked { file = Some (codes "node=20") })
+pub a_file_with_an_equals_sign : files_of (codes "node=20" ∷ []) ≡ codes "node=20" ∷ []
 a_file_with_an_equals_sign = refl
 
 -- an option takes the word after it, also one that has a `=`

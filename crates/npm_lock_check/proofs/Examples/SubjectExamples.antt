@@ -3,7 +3,7 @@ use Rattle.std.proofs.Common.{◌≡◌, ◌∷◌, [], None, Some, codes, refl}
 use Rattle.std.specs.Fmt.{digits}
 use Rattle.npm_advisories.specs.declared.fault.FaultKind.TheVariants as FaultKinds
 use Rattle.npm_advisories.specs.declared.fault.FaultKind.TheVariants.{File, Range}
-use Rattle.npm_lock_check.specs.Arguments.{ArgumentsValue, nothing_asked}
+use Rattle.npm_lock_check.specs.Arguments.{ArgumentsValue, asked_by}
 use Rattle.command_lines.specs.Shown.{quoted}
 use Rattle.command_lines.specs.declared.input_error.InputError.TheVariants as Inputs
 use Rattle.npm_lock_check.specs.Subjects.{list_words, place_words, subject_of}
@@ -13,7 +13,7 @@ use Rattle.npm_lock_check.specs.declared.run_error.RunError.TheVariants.{Input, 
 use Rattle.npm_lock_check.specs.declared.run_error.StopError.TheVariants.{Advisories, Check, Load, Manifest}
 
 abbrev asked : ArgumentsValue
-asked = record nothing_asked {
+asked = record (asked_by []) {
   manifest = Some (codes "m.json");
   advisories = Some (codes "v.json");
 }

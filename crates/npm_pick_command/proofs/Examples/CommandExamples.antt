@@ -1,9 +1,12 @@
 -- Worked rows of the definitions: words of the command line, and files.
 use Rattle.std.proofs.Common.{◌≡◌, [], ◌∷◌, Some, None, Ok, Err, codes, false, refl, true}
-use Rattle.npm_pick_command.specs.Arguments.{arguments_of, manifests_of, no_packuments, no_value, nothing_asked}
+use Rattle.npm_pick_command.specs.Arguments.{ArgumentsValue, arguments_of, asked_by, manifests_of, no_packuments, no_value}
 use Rattle.npm_pick_command.specs.Arguments.{read_arguments, second_spec, two_tasks, unknown_option}
 use Rattle.npm_pick_command.specs.PackumentFile.{is_package_name, path_of}
 use Rattle.npm_pick_command.specs.Task.{keep, outdated, pick, task_of}
+
+abbrev nothing_asked : ArgumentsValue
+nothing_asked = asked_by []
 
 -- ---- words
 

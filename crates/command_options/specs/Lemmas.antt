@@ -1,0 +1,3 @@
+-- Lemmas that proofs of programs cite.
+
+pub mod Steps  -- one argument more

@@ -1,6 +1,0 @@
--- Each step leaves fewer words.
-use Rattle.std.proofs.Common.{length}
-use Rattle.npm_pick_command.proofs.arguments.+asked_from.Given as goal
-
-abbrev pub decreases-asked_from : goal.decreases-asked_from
-decreases-asked_from l = length l.words.now

@@ -75,7 +75,10 @@ fn path_inside(
 ) -> Result<Option<String>, AllocError> {
     match error {
         StopError::Load(LoadError::Open(folder) | LoadError::Read(folder, _)) => {
-            let outer = asked.manifest.map_or(".", folder_of);
+            let outer = match asked.manifest {
+                Some(path) => folder_of(path),
+                None => ".",
+            };
             path_of(rt.alloc(), outer, folder.text.as_str()).map(Some)
         }
         _ => Ok(None),

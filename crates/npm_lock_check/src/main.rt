@@ -228,7 +228,10 @@ fn checked_beside<'f, R: Read + Drop>(
         file,
         named: asked.other.is_some(),
     };
-    let folder = asked.manifest.map_or(".", folder_of);
+    let folder = match asked.manifest {
+        Some(path) => folder_of(path),
+        None => ".",
+    };
     checked_in(rt.alloc(), &mut Watched::new(reader), wanted, |lock| {
         let loaded = manifests_of(rt.alloc(), lock, |linked| {
             manifest_in(rt, folder, linked, asked.outside, true)

@@ -1,9 +1,12 @@
 -- What comes before the last `/` of a path, and what comes after it.
-use Rattle.std.proofs.Common.{◌≡◌, ◌∙◌, ◌+◌, ◌<◌, ◌≤◌, ◌++◌, ◌∷◌, [], ℕ, List, ap, arith, codes}
+use Rattle.std.proofs.Common.{◌≡◌, ◌≢◌, ◌∙◌, ◌+◌, ◌<◌, ◌≤◌, ◌++◌, ◌∷◌, [], ℕ, List, ap, arith, codes}
 use Rattle.std.proofs.Common.{drop, length, refl, suc, sym, take, zero}
 use Rattle.std.proofs.lemmas.List.{take-append-drop}
 use Rattle.std.specs.Str.Pattern.{LacksTextAt, RFindsText, SplitsAroundMatch}
-use Rattle.npm_manifest_files.specs.ManifestFile.{HasNoSlash, IsFolderOf, above}
+
+-- a name, and no path
+abbrev pub HasNoSlash : (name : List ℕ) → Type 0
+HasNoSlash name = (front back : List ℕ) → name ≢ front ++ (codes "/" ++ back)
 
 after_front : (front rest : List ℕ) → drop (length front) (front ++ rest) ≡ rest
 after_front [] rest = refl
@@ -53,9 +56,3 @@ cut_at path front back split =
       whole,
       no_slash path back split.1 (sym split.4) (λ k more small. split.2.0 k (omega arith) small),
     )
-
-pub is_above : (path front back : List ℕ) → SplitsAroundMatch (RFindsText (codes "/")) path front back
-    → IsFolderOf path front
-is_above path front back split =
-    let cut = cut_at path front back split in
-    above front back cut.0 cut.1

@@ -1,9 +1,9 @@
 -- The last part of a path, and what comes before it.
 use Rattle.std.proofs.Common.{◌≡◌, ◌==◌, ◌||◌, ◌++◌, ℕ, List, [], ◌∷◌, Bool, true, false, ap, codes, eqb→eq, refl, sym}
 use Rattle.std.specs.Str.Pattern.{RFindsText, SplitsAroundMatch}
-use Rattle.npm_manifest_files.specs.ManifestFile.{HasNoSlash}
-use Rattle.npm_manifest_files.specs.WorkspaceName.{above_part, has_slash, last_part}
-use Rattle.npm_manifest_files.proofs.FileFolders.{cut_at}
+use Rattle.npm_lock.specs.Workspaces.{has_slash}
+use Rattle.npm_manifest_files.specs.Paths.{above_part, folder_of, last_part}
+use Rattle.npm_manifest_files.proofs.FileFolders.{HasNoSlash, cut_at}
 
 -- ---- a path with a slash
 
@@ -22,6 +22,9 @@ last (b ∷ front) back none = rw (slashed front back) (last front back none)
 above : (front back : List ℕ) → has_slash back ≡ false → above_part (front ++ (47 ∷ back)) ≡ front
 above [] back none = rw none refl
 above (b ∷ front) back none = rw (slashed front back) (ap (λ rest. b ∷ rest) (above front back none))
+
+folder : (front back : List ℕ) → has_slash back ≡ false → folder_of (front ++ (47 ∷ back)) ≡ front
+folder front back none = rw (slashed front back) (above front back none)
 
 -- ---- a path without one
 
@@ -46,6 +49,9 @@ pub nothing_above : (path : List ℕ) → HasNoSlash path → [] ≡ above_part 
 nothing_above [] has = refl
 nothing_above (b ∷ path) has = rw (none_in path (later b path has)) refl
 
+pub no_folder : (path : List ℕ) → HasNoSlash path → codes "." ≡ folder_of path
+no_folder path has = rw (none_in path has) refl
+
 -- ---- a path that is cut
 
 module _ (path front back : List ℕ) (split : SplitsAroundMatch (RFindsText (codes "/")) path front back) where
@@ -58,3 +64,8 @@ module _ (path front back : List ℕ) (split : SplitsAroundMatch (RFindsText (co
   is_above =
       let cut = cut_at path front back split in
       rw cut.0 (sym (above front back (none_in back cut.1)))
+
+  pub is_folder : front ≡ folder_of path
+  is_folder =
+      let cut = cut_at path front back split in
+      rw cut.0 (sym (folder front back (none_in back cut.1)))

@@ -14,15 +14,6 @@ use Rattle.npm_manifest_files.specs.declared.load_error.LoadError.{LoadError}
 use Rattle.npm_manifest_files.specs.declared.load_error.LoadError.TheVariants.{Memory, Open, Read}
 use Rattle.npm_manifest_files.specs.declared.load_error.ManifestError.{ManifestError}
 
--- a name, and no path
-abbrev pub HasNoSlash : (name : List ℕ) → Type 0
-HasNoSlash name = (front back : List ℕ) → name ≢ front ++ (codes "/" ++ back)
-
--- the folder of a file: `a` of `a/package.json`, the empty one of `/package.json`, and `.` of `package.json`
-pub data IsFolderOf (path : List ℕ) : (folder : List ℕ) → Type 0 where
-  above : (folder name : List ℕ) → path ≡ folder ++ (codes "/" ++ name) → HasNoSlash name → IsFolderOf path folder
-  current : HasNoSlash path → IsFolderOf path (codes ".")
-
 -- the manifest of the package in a folder, which is inside another
 abbrev pub path_of : (outer folder : List ℕ) → List ℕ
 path_of outer folder = outer ++ (codes "/" ++ (folder ++ codes "/package.json"))

@@ -1,22 +1,10 @@
 -- The name of a workspace: npm's "workspaces". It is that of its manifest, or else that of its folder.
-use Rattle.std.specs.Prelude.{◌==◌, ◌++◌, ℕ, List, [], ◌∷◌, Bool, if◌then◌else◌, Option, Some, None, option_and_then}
+use Rattle.std.specs.Prelude.{◌++◌, ℕ, List, [], ◌∷◌, if◌then◌else◌, Option, Some, None, option_and_then}
 use Rattle.std.specs.Prelude.{codes, nat_eq}
-use Rattle.std.specs.List.{list_any, starts_with}
+use Rattle.std.specs.List.{starts_with}
 use Rattle.serde_json.specs.Data.{Data}
 use Rattle.serde_json.specs.Find.{as_str, get}
-
-abbrev pub has_slash : (path : List ℕ) → Bool
-has_slash path = list_any (λ b. b == 47) path
-
--- what comes after the last `/` of a path: `w` of `/p/w`, and all of `w`
-abbrev pub last_part : (path : List ℕ) → List ℕ
-last_part [] = []
-last_part (b ∷ path) = if has_slash path then last_part path else (if b == 47 then path else b ∷ path)
-
--- what comes before it: `/p` of `/p/w`, and nothing of `w`
-abbrev pub above_part : (path : List ℕ) → List ℕ
-above_part [] = []
-above_part (b ∷ path) = if has_slash path then b ∷ above_part path else []
+use Rattle.npm_manifest_files.specs.Paths.{above_part, last_part}
 
 -- the name of a folder: `w` of `/p/w`, and `@s/w` of `/p/@s/w`, where the folder above has the name of a scope
 abbrev pub folder_name : (path : List ℕ) → List ℕ

@@ -4,10 +4,12 @@ ghost use Rattle.serde_json.specs.View.{view};
 ghost use Rattle.command_lines.specs.Inputs.{IsInput};
 ghost use Rattle.npm_lock_faults.specs.declared.fault_place.FaultPlace.{FaultPlace};
 ghost use Rattle.npm_manifests.specs.Mismatches.{manifest_fault};
-ghost use Rattle.npm_manifest_files.specs.ManifestFile.{IsFaultyInput, IsFolderOf, IsNoFile, IsNotOpened, IsNotRead, path_of};
+ghost use Rattle.npm_manifest_files.specs.ManifestFile.{IsFaultyInput, IsNoFile, IsNotOpened, IsNotRead, path_of};
+ghost use Rattle.npm_manifest_files.specs.Paths as Paths;
 
 use crate::linked::Found;
 use crate::load_error::{LoadError, ManifestError};
+use crate::walk::joined;
 use command_lines::{Watched, read_json, read_json_with_text};
 use npm_lock_faults::manifest_fault_place;
 use npm_lock_reports::FolderName;
@@ -19,7 +21,7 @@ use std::{fs, io};
 
 /// Returns the folder of a file: `a` of `a/package.json`, and `.` of `package.json`.
 pub fn folder_of(path: &str) -> &str
-    ensures { IsFolderOf path.now result.now }
+    ensures { result.now ≡ Paths.folder_of path.now }
 {
     match path.rsplit_once("/") {
         Some((folder, _)) => folder,
@@ -105,9 +107,7 @@ fn is_inside(rt: &HostRuntime, outer: &str, path: &str) -> io::Result<bool> {
 pub fn path_of(alloc: Global, outer: &str, folder: &str) -> Result<String, AllocError>
     ensures { IfOk result (λ path. string_bytes path ≡ path_of outer.now folder.now) }
 {
-    let mut path = String::from_str(alloc, outer)?;
-    path.push_str("/")?;
-    path.push_str(folder)?;
+    let mut path = joined(alloc, outer, folder)?;
     path.push_str("/package.json")?;
     Ok(path)
 }

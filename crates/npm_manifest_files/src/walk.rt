@@ -70,7 +70,7 @@ impl<'a> Walk<'a> {
     fn add_pattern(&mut self, pattern: &str) -> Result<(), AllocError> {
         let deep = pattern.strip_suffix("**");
         let stem = deep.or(pattern.strip_suffix("*")).unwrap_or(pattern);
-        let Some(folder) = self.folder_of(stem)? else {
+        let Some(folder) = self.folder_at(stem)? else {
             return Ok(());
         };
         if deep.is_some() {
@@ -172,7 +172,7 @@ impl<'a> Walk<'a> {
 
     /// The folder that a path names, or `None` if there is none below that of the manifest. The path may be empty, which
     /// names that one.
-    fn folder_of(&self, path: &str) -> Result<Option<String>, AllocError> {
+    fn folder_at(&self, path: &str) -> Result<Option<String>, AllocError> {
         let Some(folder) = shortest(self.rt.alloc(), path)? else {
             return Ok(None);
         };

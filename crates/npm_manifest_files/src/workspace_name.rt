@@ -1,8 +1,9 @@
 //! The name of a workspace.
 ghost use Rattle.std.specs.Prelude.{◌≡◌, ◌++◌, IfOk, codes, string_bytes};
 ghost use Rattle.serde_json.specs.View.{view};
+ghost use Rattle.npm_manifest_files.specs.Paths.{above_part, last_part};
 ghost use Rattle.npm_manifest_files.specs.WorkspaceName as WorkspaceName;
-ghost use Rattle.npm_manifest_files.specs.WorkspaceName.{above_part, last_part, workspace_name};
+ghost use Rattle.npm_manifest_files.specs.WorkspaceName.{workspace_name};
 
 use serde_json::Value;
 use std::alloc::{AllocError, Global};

@@ -4,7 +4,8 @@ use Rattle.serde_json.specs.Data.{Data, member, no_members, object, string}
 use Rattle.serde_json.specs.View.{view}
 use Rattle.serde_json.specs.declared.value.Value.{Value}
 use Rattle.npm_manifest_files.specs.Linked.{AreRead, LinkedValue, no_folder, one_more}
-use Rattle.npm_manifest_files.specs.ManifestFile.{HasNoSlash, IsFolderOf, above, current, path_of}
+use Rattle.npm_manifest_files.specs.ManifestFile.{path_of}
+use Rattle.npm_manifest_files.specs.Paths.{folder_of}
 use Rattle.npm_manifest_files.specs.WorkspaceName.{folder_name, workspace_name}
 use Rattle.npm_manifest_files.specs.declared.linked.Found.{Found}
 use Rattle.npm_manifest_files.specs.declared.linked.Found.TheVariants.{Manifest, Nothing, Unread}
@@ -48,12 +49,11 @@ a_scope_is_in_the_name = refl
 pub beside_the_root : path_of (codes "..") (codes "w") ≡ codes "../w/package.json"
 beside_the_root = refl
 
-no_slash : HasNoSlash []
-no_slash [] back is = cc is
-no_slash (x ∷ front) back is = cc is
+pub the_folder_of_a_path : folder_of (codes "a/") ≡ codes "a"
+the_folder_of_a_path = refl
 
-pub the_folder_of_a_path : IsFolderOf (codes "a/") (codes "a")
-the_folder_of_a_path = above (codes "a") [] refl no_slash
+pub the_folder_of_a_file_of_the_root : folder_of (codes "/package.json") ≡ []
+the_folder_of_a_file_of_the_root = refl
 
-pub the_folder_of_a_name : IsFolderOf [] (codes ".")
-the_folder_of_a_name = current no_slash
+pub the_folder_of_a_name : folder_of (codes "package.json") ≡ codes "."
+the_folder_of_a_name = refl

@@ -1,7 +1,7 @@
 -- The input was read, and a value was refused, or memory ran out, or this is the report.
 use Rattle.std.proofs.Common.{string_bytes}
 use Rattle.std.specs.Fn.{FnOnceReturnsAt}
-use Rattle.npm_lock_check.specs.Linked.{loaded_value}
+use Rattle.npm_manifest_files.specs.Linked.{loaded_value}
 use Rattle.npm_lock_check.specs.Report.{wanted_value}
 use Rattle.npm_lock_check.proofs.Stopping.{refused}
 use Rattle.npm_lock_check.proofs.output.checked_in.Goals as goal

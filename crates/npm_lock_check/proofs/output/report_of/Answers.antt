@@ -2,7 +2,7 @@
 use Rattle.std.proofs.Common.{◌∙◌, inl, inr, map, refl, sym}
 use Rattle.serde_json.specs.View.{view}
 use Rattle.npm_advisories.specs.Audit.{found_value}
-use Rattle.npm_lock_check.specs.Linked.{loaded_value}
+use Rattle.npm_manifest_files.specs.Linked.{loaded_value}
 use Rattle.npm_lock_check.specs.Report.{manifests_of, placed, wanted_value}
 use Rattle.npm_lock_check.proofs.Auditing.{length_same, refused_audit, refused_check, refused_lock, some_same}
 use Rattle.npm_lock_check.proofs.Stopping.{passed_on}

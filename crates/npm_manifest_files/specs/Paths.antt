@@ -1,0 +1,17 @@
+-- Parts of a path.
+use Rattle.std.specs.Prelude.{◌==◌, ℕ, List, [], ◌∷◌, if◌then◌else◌, codes}
+use Rattle.npm_lock.specs.Workspaces.{has_slash}
+
+-- what comes after the last `/` of a path: `w` of `/p/w`, and all of `w`
+abbrev pub last_part : (path : List ℕ) → List ℕ
+last_part [] = []
+last_part (b ∷ path) = if has_slash path then last_part path else (if b == 47 then path else b ∷ path)
+
+-- what comes before it: `/p` of `/p/w`, and nothing of `w`
+abbrev pub above_part : (path : List ℕ) → List ℕ
+above_part [] = []
+above_part (b ∷ path) = if has_slash path then b ∷ above_part path else []
+
+-- the folder of a file: `a` of `a/package.json`, the empty one of `/package.json`, and `.` of `package.json`
+abbrev pub folder_of : (path : List ℕ) → List ℕ
+folder_of path = if has_slash path then above_part path else codes "."

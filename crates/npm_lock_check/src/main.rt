@@ -107,7 +107,7 @@ fn answered<'a>(rt: &HostRuntime, words: &'a [String]) -> Result<u8, ProgramErro
     let writing = Writing {
         format: format_of(rt, asked),
         asked,
-        outer: asked.manifest.map_or(".", folder_of),
+        outer: outer_of(asked),
     };
     let inputs = match inputs_of(rt, asked) {
         Ok(inputs) => inputs,
@@ -123,6 +123,14 @@ fn answered<'a>(rt: &HostRuntime, words: &'a [String]) -> Result<u8, ProgramErro
         advisories: inputs.advisories.as_ref(),
     };
     checked_all(rt, beside, &files).map_err(|error| stopped(asked, error))
+}
+
+/// The folder of the root's manifest.
+fn outer_of<'a>(asked: Arguments<'a>) -> &'a str {
+    match asked.manifest {
+        Some(path) => folder_of(path),
+        None => ".",
+    }
 }
 
 /// The format that is asked for, or else lines: text for a terminal, and JSON for anything else.

@@ -1,3 +1,7 @@
+mod FileVersions
+mod LineLaws
+mod OneLine
 mod OutputLines
 mod Parts
+mod SentenceLines
 pub mod Examples

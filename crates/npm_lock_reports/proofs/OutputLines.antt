@@ -100,7 +100,7 @@ no_float_unread folder = refl
 
 -- ---- lines that name the lock file
 
-or_false : (a b : Bool) → (a || b) ≡ false → (a ≡ false) × (b ≡ false)
+pub or_false : (a b : Bool) → (a || b) ≡ false → (a ≡ false) × (b ≡ false)
 or_false false false none = (refl, refl)
 or_false false true none = cc none
 or_false true b none = cc none
@@ -122,7 +122,7 @@ put_member name value (member other here later) of_value of_members =
     in_order (slice_cmp nat_cmp name other) name other value here later of_value both.0 both.1
     (put_member name value later of_value both.1)
 
-with_path : (file : Option (List ℕ)) (value : Data) → has_float value ≡ false → has_float (with_file file value) ≡ false
+pub with_path : (file : Option (List ℕ)) (value : Data) → has_float value ≡ false → has_float (with_file file value) ≡ false
 with_path None value none = none
 with_path (Some file) (object members) none = put_member (codes "file") (string file) members refl none
 with_path (Some file) null none = none

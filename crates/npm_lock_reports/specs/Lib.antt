@@ -4,3 +4,5 @@ pub mod HitSentence  -- a package that is hit as a sentence
 pub mod Unread  -- a manifest that was not read, as a sentence and as a JSON object
 pub mod Style  -- how lines are written
 pub mod Report  -- the report of a lock file, and its lines
+pub mod ReportLaws  -- what the lines are, one by one
+pub mod VersionLaws  -- the versions that they say

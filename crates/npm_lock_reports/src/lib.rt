@@ -1,12 +1,14 @@
 //! The report of a lock file, and its lines.
 //!
 //! [`Report`] has the mismatches and the problems, and prints their counts. [`lines_of`] writes a line for each, in a
-//! [`LineStyle`]: a sentence, or a JSON object, and either with the lock file or without.
+//! [`LineStyle`]: a sentence, or a JSON object, and either with the lock file or without. [`laws::lines_are_those_of_the_report`] does
+//! nothing: its contract says that no line is left out, written twice or divided.
 #![tactic(auto)]
 
 mod folder_name;
 mod format;
 mod hit_sentence;
+pub mod laws;
 mod lines;
 mod report;
 mod style;

@@ -1,6 +1,6 @@
 -- What is found out about dependencies, one after the other, and their lines.
 use Rattle.std.proofs.Common.{◌≡◌, ◌≢◌, ◌∙◌, ℕ, ◌+◌, ◌<◌, List, [], ◌∷◌, ◌++◌, Bool, false, append_assoc}
-use Rattle.std.proofs.Common.{Err, Global, IfErr, IfOk, Ok, OnOk, Result, Some, String, ap, append-nil}
+use Rattle.std.proofs.Common.{Err, Global, IfOk, Ok, OnOk, Result, Some, String, ap, append-nil}
 use Rattle.std.proofs.Common.{codes, drop, get_or, inl, inr, length, map, refl, string_bytes, sym}
 use Rattle.std.proofs.lemmas.List.{drop_all, drop_more, map-append}
 use Rattle.std.specs.List.{AllZip, fold, list_any}
@@ -16,7 +16,7 @@ use Rattle.npm_texts.specs.RegistrySpec.{RegistrySpecValue, registry_spec}
 use Rattle.serde_json.specs.Data.{Data}
 use Rattle.serde_json.specs.View.{view}
 use Rattle.serde_json.specs.declared.value.Value.{Value}
-use Rattle.npm_pick_reports.specs.Loading.{IsLoadFailure, Loads}
+use Rattle.npm_pick_reports.specs.Loading.{Loads}
 use Rattle.npm_pick_reports.specs.Outdated.{IsOutcome, IsOutcomeOf, IsPickedAs, OutcomeValue, behind, is_current}
 use Rattle.npm_pick_reports.specs.Outdated.{is_absent, is_outdated, is_passed, known, outcome_value, outdated}
 use Rattle.npm_pick_reports.specs.OutdatedLines.{outcome_line, outcome_lines}
@@ -28,7 +28,6 @@ use Rattle.npm_pick_reports.specs.declared.outdated.Outcome.{Outcome}
 use Rattle.npm_pick_reports.specs.declared.reply.Ending.{Ending}
 use Rattle.npm_pick_reports.specs.declared.reply.Ending.TheVariants.{Compared, Nothing, Picked}
 use Rattle.npm_pick_reports.specs.declared.run_error.RunError.{RunError}
-use Rattle.npm_pick_reports.specs.declared.run_error.RunError.TheVariants.{Memory}
 
 -- the rest begins with this one
 cut : {X : Type 0} (xs : List X) (i : ℕ) (x none : X) → i < length xs → x ≡ get_or xs i none
@@ -138,12 +137,6 @@ pub behind_row : (packument : Data) (options : Options) (text : List ℕ) (edge 
     (outdated (record { edge = edge; wanted = string_bytes wanted; latest = string_bytes latest }))
 behind_row packument options text edge wanted latest w l same_wanted same_latest is_wanted is_latest not =
     rw (same_wanted, same_latest) (behind w l is_wanted is_latest not)
-
--- a comparison fails only if an allocation fails
-pub known_failed : (Gives : Loads) (result : Result Outcome RunError) → IfErr result (λ error. error ≡ Memory)
-    → IfErr result (IsLoadFailure Gives)
-known_failed Gives (Ok outcome) is = tt
-known_failed Gives (Err error) is = rw is tt
 
 -- ---- the version that is picked
 

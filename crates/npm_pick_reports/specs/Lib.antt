@@ -9,5 +9,6 @@ pub mod Mirror  -- the versions that a mirror keeps for them
 pub mod Notes  -- notes about the rest
 pub mod MirrorLines  -- the lines of both
 pub mod Reply  -- all that the program writes, and how it ends
+pub mod Failures  -- why there is no reply
 -- ---- not part of any public contract: what private functions compute
 pub mod Private

@@ -1,9 +1,10 @@
 //! The dependencies of manifests and a lock file.
-ghost use Rattle.std.specs.Prelude.{◌≡◌, ◌↔◌, ◌++◌, IfErr, IfOk, IsTrue, List, OnOk, map, option_map};
+ghost use Rattle.std.specs.Prelude.{◌≡◌, ◌↔◌, ◌++◌, IfErr, IfOk, IsTrue, List, OnOk, Some, map, option_map};
 ghost use Rattle.std.specs.List.{flat_map};
 ghost use Rattle.serde_json.specs.View.{members_view, view};
 ghost use Rattle.npm_packages.specs.Edges.{edge_value};
 ghost use Rattle.npm_pick_reports.specs.Asks as Asks;
+ghost use Rattle.npm_pick_reports.specs.Failures.{IsLockFailure};
 ghost use Rattle.npm_pick_reports.specs.Asks.{AreAsks, AreEdgeAsks, AreLockAsks, AskValue, IsLinked, ask_value};
 
 use crate::run_error::RunError;
@@ -32,8 +33,9 @@ pub fn asks_of<'v>(
     manifests: &'v [Value],
     lock: Option<&'v Value>,
 ) -> Result<Vec<Ask<'v>>, RunError>
-    ensures { IfOk result (λ asks. AreAsks (map view manifests.now) (option_map (λ lock. view lock.now) lock.entry)
+    ensures asks { IfOk result (λ asks. AreAsks (map view manifests.now) (option_map (λ lock. view lock.now) lock.entry)
         (map ask_value asks.items)) }
+    ensures failed { IfErr result (IsLockFailure (option_map (λ lock. view lock.now) lock.entry)) }
 {
     let mut asks = Vec::new(alloc);
     add_manifests(&mut asks, manifests)?;
@@ -112,9 +114,10 @@ fn add_locked<'v>(
     asks: &mut Vec<Ask<'v>>,
     lock: Option<&'v Value>,
 ) -> Result<(), RunError>
-    ensures { OnOk result ((found : List AskValue)
+    ensures added { OnOk result ((found : List AskValue)
         × Asks.AreLocksAsks (option_map (λ lock. view lock.now) lock.entry) found
         × (map ask_value asks.new.items ≡ map ask_value asks.old.items ++ found)) }
+    ensures failed { IfErr result (IsLockFailure (option_map (λ lock. view lock.now) lock.entry)) }
 {
     match lock {
         Some(lock) => add_lock(alloc, asks, lock),
@@ -124,8 +127,9 @@ fn add_locked<'v>(
 
 /// Adds the dependencies of all packages of a lock file.
 fn add_lock<'v>(alloc: Global, asks: &mut Vec<Ask<'v>>, lock: &'v Value) -> Result<(), RunError>
-    ensures { OnOk result ((found : List AskValue) × AreLockAsks (view lock.now) found
+    ensures added { OnOk result ((found : List AskValue) × AreLockAsks (view lock.now) found
         × (map ask_value asks.new.items ≡ map ask_value asks.old.items ++ found)) }
+    ensures failed { IfErr result (IsLockFailure (Some (view lock.now))) }
 {
     let edges = match edges_of(alloc, lock) {
         Ok(edges) => edges,

@@ -1,9 +1,10 @@
 //! Members of JSON objects.
 ghost use Rattle.std.specs.Prelude.{◌≡◌, OnOk, option_map};
-ghost use Rattle.serde_json.specs.Data.{boolean, put as with_member, string};
+ghost use Rattle.serde_json.specs.Data.{boolean, put as with_member};
 ghost use Rattle.serde_json.specs.View.{members_view};
 ghost use Rattle.npm_pick_reports.specs.OutdatedLines.{text_or_null};
 
+use npm_texts::put_text;
 use serde_json::{Map, Value, put};
 use std::alloc::{AllocError, Global};
 
@@ -18,19 +19,6 @@ pub fn put_bool(
         ≡ with_member name.now (boolean value) (members_view members.old.entries)) }
 {
     put(members, alloc, name, Value::Bool(value))
-}
-
-/// Adds a member whose value is a text.
-pub fn put_text(
-    members: &mut Map<String, Value>,
-    alloc: Global,
-    name: &str,
-    text: &str,
-) -> Result<(), AllocError>
-    ensures { OnOk result (members_view members.new.entries
-        ≡ with_member name.now (string text.now) (members_view members.old.entries)) }
-{
-    put(members, alloc, name, Value::try_from_str(alloc, text)?)
 }
 
 /// Adds a member whose value is a text, or `null` if there is none.

@@ -1,9 +1,10 @@
 //! The versions that a mirror keeps.
-ghost use Rattle.std.specs.Prelude.{◌≡◌, ◌++◌, [], ◌∷◌, IfOk, List, OnOk, map, string_bytes, ℕ};
+ghost use Rattle.std.specs.Prelude.{◌≡◌, ◌++◌, [], ◌∷◌, IfErr, IfOk, List, OnOk, map, string_bytes, ℕ};
 ghost use Rattle.std.specs.Fn.{FnReturnsAt};
 ghost use Rattle.serde_json.specs.View.{view};
 ghost use Rattle.npm_pick.specs.Kept.{IsKept};
 ghost use Rattle.npm_texts.specs.RegistrySpec.{registry_spec_value};
+ghost use Rattle.npm_pick_reports.specs.Loading.{IsLoadFailure};
 ghost use Rattle.npm_pick_reports.specs.Mirror.{IsMirror, kept_text};
 ghost use Rattle.npm_pick_reports.specs.Private.Mirroring.{AreBothAdded, IsAddedFor};
 
@@ -34,9 +35,10 @@ pub fn mirror_of<F: Fn(&str) -> Result<Option<Value>, LoadError>>(
     load: F,
 ) -> Result<Mirror, RunError>
     requires { F.IsAlwaysCallable load }
-    ensures { IfOk result (λ mirror. IsMirror (FnReturnsAt F.Fn load) options.now all
+    ensures mirror { IfOk result (λ mirror. IsMirror (FnReturnsAt F.Fn load) options.now all
         (map registry_spec_value requests.now) (map string_bytes mirror.kept.items)
         (map string_bytes mirror.absent.items)) }
+    ensures failed { IfErr result (IsLoadFailure (FnReturnsAt F.Fn load)) }
 {
     let names = names_of(alloc, requests)?;
     let groups = Groups::of_requests(alloc, requests)?;
@@ -63,8 +65,9 @@ fn add_package<F: Fn(&str) -> Result<Option<Value>, LoadError>>(
     load: &F,
 ) -> Result<(), RunError>
     requires { F.IsAlwaysCallable load.now }
-    ensures { OnOk result (IsAddedFor (FnReturnsAt F.Fn load.now) options.now all name.now (map string_bytes texts.now)
-        mirror.old mirror.new) }
+    ensures added { OnOk result (IsAddedFor (FnReturnsAt F.Fn load.now) options.now all name.now
+        (map string_bytes texts.now) mirror.old mirror.new) }
+    ensures failed { IfErr result (IsLoadFailure (FnReturnsAt F.Fn load.now)) }
 {
     match load(name) {
         Ok(Some(packument)) => add_kept(alloc, mirror, name, &packument, texts, all, options),
@@ -83,9 +86,10 @@ fn add_kept(
     all: bool,
     options: &Options<'_>,
 ) -> Result<(), RunError>
-    ensures { OnOk result ((keys : List (List ℕ)) × IsKept (view packument.now) options.now all
+    ensures added { OnOk result ((keys : List (List ℕ)) × IsKept (view packument.now) options.now all
         (map string_bytes texts.now) keys
         × AreBothAdded mirror.old mirror.new (map (λ key. kept_text name.now key) keys) []) }
+    ensures failed { IfErr result (λ error. error ≡ RunError.Memory) }
 {
     let keys = keep(alloc, packument, texts, options, all)?;
     add_keys(alloc, &mut mirror.kept, name, &keys)?;
@@ -94,7 +98,8 @@ fn add_kept(
 
 /// Adds the name of a package that has no document.
 fn add_absent(alloc: Global, mirror: &mut Mirror, name: &str) -> Result<(), RunError>
-    ensures { OnOk result (AreBothAdded mirror.old mirror.new [] (name.now ∷ [])) }
+    ensures added { OnOk result (AreBothAdded mirror.old mirror.new [] (name.now ∷ [])) }
+    ensures failed { IfErr result (λ error. error ≡ RunError.Memory) }
 {
     let text = String::from_str(alloc, name)?;
     match mirror.absent.push(text) {

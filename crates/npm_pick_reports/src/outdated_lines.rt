@@ -5,9 +5,10 @@ ghost use Rattle.npm_pick_reports.specs.OutdatedLines as Lines;
 ghost use Rattle.npm_pick_reports.specs.Outdated.{outcome_value, row_value};
 
 use crate::format::Format;
-use crate::members::{put_text, put_text_or_null};
+use crate::members::put_text_or_null;
 use crate::outdated::{Outcome, Row};
 use command_lines::push_shown;
+use npm_texts::put_text;
 use serde_json::{Map, Value};
 use std::alloc::{AllocError, Global};
 

@@ -6,9 +6,10 @@ ghost use Rattle.npm_pick.specs.Pick.{picked_value};
 ghost use Rattle.npm_pick_reports.specs.PickedLine as Lines;
 
 use crate::format::Format;
-use crate::members::{put_bool, put_text};
+use crate::members::put_bool;
 use command_lines::push_shown;
 use npm_pick::Picked;
+use npm_texts::put_text;
 use serde_json::{Map, Value};
 use std::alloc::{AllocError, Global};
 

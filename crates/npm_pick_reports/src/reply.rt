@@ -1,9 +1,11 @@
 //! The reply to a question, and how the program ends.
-ghost use Rattle.std.specs.Prelude.{◌≡◌, List, [], ℕ, IfOk, count_by, map, option_map};
+ghost use Rattle.std.specs.Prelude.{◌≡◌, ◌≢◌, ◌⊎◌, List, [], ℕ, IfErr, IfOk, Some, count_by, map, option_map};
 ghost use Rattle.std.specs.Fn.{FnReturnsAt};
 ghost use Rattle.std.specs.Io.KnownBytes.{Appends};
 ghost use Rattle.std.specs.List.{list_any};
 ghost use Rattle.serde_json.specs.View.{view};
+ghost use Rattle.npm_pick_reports.specs.Failures.{IsFailure, IsLockFailure};
+ghost use Rattle.npm_pick_reports.specs.Loading.{IsLoadFailure};
 ghost use Rattle.npm_pick_reports.specs.Outdated as Rows;
 ghost use Rattle.npm_pick_reports.specs.Outdated.{outcome_value};
 ghost use Rattle.npm_pick_reports.specs.Reply.{IsComparedReply, IsKeptReply, IsPickedReply, IsReply, done_value, reply_value};
@@ -92,6 +94,8 @@ pub fn run<W: Write, F: Fn(&str) -> Result<Option<Value>, LoadError>>(
     ensures written { IfOk result (λ done. (text : List ℕ)
         × IsReply (FnReturnsAt F.Fn load) question.entry options.now format (done_value text done)
         × Appends (W.contents writer.old) (W.contents writer.new) text) }
+    ensures failed { IfErr result (λ error. error ≢ RunError.Write
+        → IsFailure (FnReturnsAt F.Fn load) question.entry error × (writer.new ≡ writer.old)) }
 {
     let reply = match reply_of(alloc, question, options, format, load) {
         Ok(reply) => reply,
@@ -112,8 +116,9 @@ fn reply_of<F: Fn(&str) -> Result<Option<Value>, LoadError>>(
     load: F,
 ) -> Result<Reply, RunError>
     requires { F.IsAlwaysCallable load }
-    ensures { IfOk result (λ reply. IsReply (FnReturnsAt F.Fn load) question.entry options.now format
+    ensures reply { IfOk result (λ reply. IsReply (FnReturnsAt F.Fn load) question.entry options.now format
         (reply_value reply)) }
+    ensures failed { IfErr result (IsFailure (FnReturnsAt F.Fn load) question.entry) }
 {
     match question {
         Question::Pick(packument, wanted) => pick_reply(alloc, packument, wanted, options, format),
@@ -132,8 +137,9 @@ fn pick_reply(
     options: &Options<'_>,
     format: Format,
 ) -> Result<Reply, RunError>
-    ensures { IfOk result (λ reply. IsPickedReply (view packument.now) options.now wanted.now format
+    ensures reply { IfOk result (λ reply. IsPickedReply (view packument.now) options.now wanted.now format
         (reply_value reply)) }
+    ensures failed { IfErr result (λ error. error ≡ RunError.Memory) }
 {
     match pick(alloc, packument, wanted, options) {
         Ok(picked) => Ok(Reply {
@@ -160,8 +166,10 @@ fn outdated_reply<F: Fn(&str) -> Result<Option<Value>, LoadError>>(
     load: F,
 ) -> Result<Reply, RunError>
     requires { F.IsAlwaysCallable load }
-    ensures { IfOk result (λ reply. IsComparedReply (FnReturnsAt F.Fn load) (view lock.now) all options.now format
+    ensures reply { IfOk result (λ reply. IsComparedReply (FnReturnsAt F.Fn load) (view lock.now) all options.now format
         (reply_value reply)) }
+    ensures failed { IfErr result (λ error. IsLockFailure (Some (view lock.now)) error
+        ⊎ IsLoadFailure (FnReturnsAt F.Fn load) error) }
 {
     let edges = match edges_of(alloc, lock) {
         Ok(edges) => edges,
@@ -203,8 +211,10 @@ fn kept_reply<F: Fn(&str) -> Result<Option<Value>, LoadError>>(
     load: F,
 ) -> Result<Reply, RunError>
     requires { F.IsAlwaysCallable load }
-    ensures { IfOk result (λ reply. IsKeptReply (FnReturnsAt F.Fn load) (map view manifests.now)
+    ensures reply { IfOk result (λ reply. IsKeptReply (FnReturnsAt F.Fn load) (map view manifests.now)
         (option_map (λ lock. view lock.now) lock.entry) all options.now format (reply_value reply)) }
+    ensures failed { IfErr result (λ error. IsLockFailure (option_map (λ lock. view lock.now) lock.entry) error
+        ⊎ IsLoadFailure (FnReturnsAt F.Fn load) error) }
 {
     let asks = asks_of(alloc, manifests, lock)?;
     let requests = requests_of(alloc, &asks)?;

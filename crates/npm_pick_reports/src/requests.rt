@@ -128,7 +128,7 @@ impl<'v> Groups<'v> {
             ≡ map (λ text. text.now) (at_name self.now name.now)) }
     {
         match self.at(name) {
-            Some(texts) => copied(alloc, texts),
+            Some(texts) => copies_of(alloc, texts),
             None => Ok(Vec::new(alloc)),
         }
     }
@@ -142,7 +142,7 @@ impl<'v> Groups<'v> {
 }
 
 /// Copies of texts.
-fn copied(alloc: Global, texts: &[&str]) -> Result<Vec<String>, AllocError>
+fn copies_of(alloc: Global, texts: &[&str]) -> Result<Vec<String>, AllocError>
     ensures { IfOk result (λ copies. map string_bytes copies.items ≡ map (λ text. text.now) texts.now) }
 {
     let mut copies = Vec::new(alloc);

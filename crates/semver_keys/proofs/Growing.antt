@@ -1,16 +1,14 @@
 -- A buffer that bytes are added to.
 use Rattle.std.proofs.Common.{◌≡◌, ◌++◌, ◌≤◌, ℕ, List, Result, Ok, Err, OnErr, length, take, arith, sym, ap}
-use Rattle.std.proofs.Common.{◌∙◌, append_assoc}
+use Rattle.std.proofs.Common.{◌∙◌}
 use Rattle.std.proofs.lemmas.Grind.{common_steps}
+use Rattle.std.proofs.Math.Seq.{take-append_seam}
 use Rattle.semver_keys.specs.Private.Grown.{IsGrown}
 
 -- what holds of the buffer holds after an error too
 pub at_err : {T E P : Type 0} (r : Result T E) → P → OnErr r P
 at_err (Ok x) p = tt
 at_err (Err e) p = p
-
-take-front : (old added : List ℕ) → take (length old) (old ++ added) ≡ old
-take-front old added = grind (arith, common_steps)
 
 -- no byte was added
 pub grown_none : (old new : List ℕ) → new ≡ old → IsGrown old new
@@ -20,7 +18,7 @@ grown_none old new e = grind (arith, common_steps)
 -- some bytes were added
 pub grown_added : (old added new : List ℕ) → new ≡ old ++ added → IsGrown old new
 unfolding IsGrown
-grown_added old added new e = ap (take (length old)) e ∙ take-front old added
+grown_added old added new e = ap (take (length old)) e ∙ take-append_seam old added
 
 take-less : (m n : ℕ) (xs : List ℕ) → m ≤ n → take m (take n xs) ≡ take m xs
 take-less m n xs h = grind (arith, common_steps)
@@ -36,12 +34,7 @@ grown_twice old middle new g h =
 pub grown_after : (old added middle new : List ℕ) → middle ≡ old ++ added → IsGrown middle new → IsGrown old new
 grown_after old added middle new e g = grown_twice old middle new (grown_added old added middle e) g
 
--- the bytes before those that were added
+-- the buffer begins with the bytes that it had
 pub grown_taken : (old new : List ℕ) → IsGrown old new → take (length old) new ≡ old
 unfolding IsGrown
 grown_taken old new g = g
-
--- bytes that were added in two steps
-pub added_twice : (old one other middle new : List ℕ) → middle ≡ old ++ one → new ≡ middle ++ other
-    → new ≡ old ++ (one ++ other)
-added_twice old one other middle new e f = f ∙ ap (λ m. m ++ other) e ∙ append_assoc old one other

@@ -1,21 +1,8 @@
 -- The keys of texts and of identifiers, one byte and one identifier at a time.
-use Rattle.std.proofs.Common.{◌≡◌, ◌++◌, ◌<◌, ◌≤◌, ◌+◌, ℕ, List, [], ◌∷◌, refl, ap, ◌∙◌, append_assoc, arith}
+use Rattle.std.proofs.Common.{◌≡◌, ◌++◌, ℕ, List, [], ◌∷◌, refl}
 use Rattle.semver_texts.specs.IdentifierValue.{IdentifierValue, alphanumeric, numeric}
 use Rattle.semver_keys.specs.IdentifierKey.{byte_key, identifier_key, identifiers_key, prerelease_key, text_key}
 use Rattle.semver_keys.specs.NumberKey.{number_key}
-
--- a key and what it is followed by: the next part goes over from one to the other
-pub moved : (old first rest new whole start : List ℕ) → new ≡ old ++ first → old ++ (first ++ rest) ≡ whole
-    → new ++ rest ≡ whole
-moved old first rest new whole start e h = ap (λ key. key ++ rest) e ∙ append_assoc old first rest ∙ h
-
-pub low-byte : (b : ℕ) → b < 2 → byte_key b ≡ 1 ∷ (b + 1) ∷ []
-unfolding byte_key
-low-byte b h = grind arith
-
-pub plain-byte : (b : ℕ) → 2 ≤ b → byte_key b ≡ b ∷ []
-unfolding byte_key
-plain-byte b h = grind arith
 
 pub text-end : text_key [] ≡ 0 ∷ []
 unfolding text_key

@@ -9,7 +9,7 @@ pub mod Prereleases
 pub mod SpanKeys
 pub mod OpenedSteps
 pub mod OpenedRules
-pub mod Tidy
+pub mod FewIntervals
 pub mod Parted
 pub mod NumberReading
 pub mod TextReading

@@ -18,10 +18,6 @@ use Rattle.semver_texts.specs.Version.{HasSameTriple, IsPrerelease, VersionValue
 use Rattle.semver_sets.specs.Meaning.{IsInside, Opens, RangeAdmits, SetAdmits}
 use Rattle.semver_keys.specs.Private.Opened.{parts_at, parts_for, parts_of, prereleases_of}
 
--- the least prerelease of a triple, and the release
-least : VersionValue → VersionValue
-least p = least_of p.major p.minor p.patch
-
 -- ---- the prereleases of a triple
 
 -- a comparison that is not greater

@@ -1,22 +1,14 @@
 -- The text whose key some bytes begin with.
 use Rattle.std.proofs.Common.{◌≡◌, ◌≢◌, ◌≤◌, ◌<◌, ◌+◌, ◌-◌, ◌++◌, ◌⊎◌, ℕ, List, [], ◌∷◌, length, take}
-use Rattle.std.proofs.Common.{refl, sym, ap, subst, ◌∙◌, inl, inr, arith, append_assoc, Option, None, Some, IfNone}
-use Rattle.std.proofs.lemmas.Bool.{cases_lt}
+use Rattle.std.proofs.Common.{refl, sym, ap, subst, ◌∙◌, arith, append_assoc, Option, None, Some, IfNone}
 use Rattle.std.proofs.lemmas.Grind.{flat_map-append}
 use Rattle.std.proofs.lemmas.List.{append-nil, length-append}
 use Rattle.std.proofs.Math.Seq.{take-append_seam}
 use Rattle.std.specs.Str.{IsUtf8}
 use Rattle.semver_keys.specs.IdentifierKey.{byte_key}
+use Rattle.semver_keys.specs.Lemmas.IdentifierOrder.{low-byte, plain-byte}
 use Rattle.semver_keys.specs.Private.Reading.{BeginsWithNoByte, BeginsWithNoText, IsByteRead, IsTextRead, written}
 use Rattle.semver_keys.proofs.Parted.{written-key, written-parted}
-
-low-byte : (b : ℕ) → b < 2 → byte_key b ≡ 1 ∷ (b + 1) ∷ []
-unfolding byte_key
-low-byte b h = grind arith
-
-plain-byte : (b : ℕ) → 2 ≤ b → byte_key b ≡ b ∷ []
-unfolding byte_key
-plain-byte b h = grind arith
 
 -- ---- one byte
 
@@ -36,12 +28,8 @@ record IsLow (b : ℕ) (r rest : List ℕ) : Type 0 where
   second : (b + 1) ∷ r ≡ rest
 
 low-parts : (b : ℕ) (r rest : List ℕ) → byte_key b ++ r ≡ 1 ∷ rest → IsLow b r rest
-low-parts b r rest e = elim (cases_lt b 2) [
-  | inl low ↦ let whole : 1 ∷ (b + 1) ∷ r ≡ 1 ∷ rest = sym (ap (λ k. k ++ r) (low-byte b low)) ∙ e in
-      record { low = low; second = cc }
-  | inr plain ↦ let whole : b ∷ r ≡ 1 ∷ rest = sym (ap (λ k. k ++ r) (plain-byte b plain)) ∙ e in
-      let one : b ≡ 1 = cc in absurd (omega arith)
-]
+unfolding byte_key
+low-parts b r rest e = record { low = grind arith; second = grind arith }
 
 pub none-after_one : (rest : List ℕ) → rest ≡ [] → BeginsWithNoByte (1 ∷ rest)
 none-after_one rest none b r e = let second = (low-parts b r rest e).second in cc
@@ -55,24 +43,16 @@ none-low second others rest bad is b r e =
     let few = it.low in omega arith
 
 pub none-empty : (key : List ℕ) → key ≡ [] → BeginsWithNoByte key
-none-empty key none b r e = elim (cases_lt b 2) [
-  | inl low ↦ let whole : 1 ∷ (b + 1) ∷ r ≡ key = sym (ap (λ k. k ++ r) (low-byte b low)) ∙ e in cc
-  | inr plain ↦ let whole : b ∷ r ≡ key = sym (ap (λ k. k ++ r) (plain-byte b plain)) ∙ e in cc
-]
+unfolding byte_key
+none-empty key none b r e = grind arith
 
 pub none-end : (first : ℕ) (rest key : List ℕ) → first ≡ 0 → key ≡ first ∷ rest → BeginsWithNoByte key
-none-end first rest key zero is b r e = elim (cases_lt b 2) [
-  | inl low ↦ let whole : 1 ∷ (b + 1) ∷ r ≡ first ∷ rest = sym (ap (λ k. k ++ r) (low-byte b low)) ∙ e ∙ is in
-      let same : 1 ≡ first = cc in absurd (omega arith)
-  | inr plain ↦ let whole : b ∷ r ≡ first ∷ rest = sym (ap (λ k. k ++ r) (plain-byte b plain)) ∙ e ∙ is in
-      let same : b ≡ first = cc in absurd (omega arith)
-]
+unfolding byte_key
+none-end first rest key zero is b r e = grind arith
 
 pub shorter : (b : ℕ) (others rest : List ℕ) → IsByteRead rest b others → length others < length rest
-shorter b others rest e = elim (cases_lt b 2) [
-  | inl low ↦ let whole = ap length (sym (ap (λ k. k ++ others) (low-byte b low)) ∙ e) in omega arith
-  | inr plain ↦ let whole = ap length (sym (ap (λ k. k ++ others) (plain-byte b plain)) ∙ e) in omega arith
-]
+unfolding byte_key
+shorter b others rest e = let long = ap length e in grind (arith, length-append {A = ℕ})
 
 -- ---- the bytes of a text
 

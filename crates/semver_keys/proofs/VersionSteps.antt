@@ -1,8 +1,7 @@
--- The parts of a version's key, and the key of a cut.
-use Rattle.std.proofs.Common.{◌≡◌, ◌≢◌, ◌<◌, ◌≤◌, ◌↔◌, Bool, false, IsTrue, inl, inr, ◌++◌, ℕ, List, [], ◌∷◌, refl, sym, ap, ◌∙◌, arith}
-use Rattle.std.proofs.lemmas.Bool.{cases_lt, true≢false}
+-- The parts of a version's key, and the key of the cut before a version.
+use Rattle.std.proofs.Common.{◌≡◌, ◌≢◌, ◌<◌, ◌++◌, ℕ, List, [], ◌∷◌, refl, sym, ap, ◌∙◌, arith}
 use Rattle.std.proofs.lemmas.Grind.{common_steps}
-use Rattle.semver_cuts.specs.declared.cut.Cut.TheVariants.{Start, Before, After, End}
+use Rattle.semver_cuts.specs.declared.cut.Cut.TheVariants.{Before}
 use Rattle.semver_texts.specs.IdentifierValue.{IdentifierValue}
 use Rattle.semver_texts.specs.Triple.{triple_of}
 use Rattle.semver_texts.specs.declared.triple.Triple.{Triple}
@@ -19,13 +18,6 @@ use Rattle.semver_keys.proofs.IdentifierSteps.{prerelease-is, release-is}
 pub none-if-release : (xs : List IdentifierValue) → ¬ (xs ≢ []) → xs ≡ []
 none-if-release [] h = refl
 none-if-release (x ∷ xs) h = absurd (h (λ e. cc e))
-
--- what a test that is false says
-pub not-tested : {P : Type 0} (b : Bool) → b ≡ false → IsTrue b ↔ P → ¬ P
-not-tested b e h p = absurd (true≢false (sym (h.1 p) ∙ e))
-
-pub short-tested : (b : Bool) (n : ℕ) → b ≡ false → IsTrue b ↔ (240 ≤ n) → n < 240
-short-tested b n e h = elim (cases_lt n 240) [ inl short ↦ short | inr long ↦ absurd (not-tested b e h long) ]
 
 -- a release whose numbers are one byte each
 pub record IsShort (v : VersionValue) (t : Triple) : Type 0 where
@@ -61,22 +53,8 @@ unfolding version_key
 parts-added v t old one two three new e a b c d = let m = ap (λ (u : Triple). u.major) e in
     let n = ap (λ (u : Triple). u.minor) e in let p = ap (λ (u : Triple). u.patch) e in grind (arith, common_steps)
 
-pub start-is : cut_key Start ≡ []
-unfolding cut_key
-start-is = refl
-
 pub before-is : (v : VersionValue) → cut_key (Before v) ≡ version_key v
 unfolding cut_key
 before-is v = refl
 
-pub after-is : (v : VersionValue) → cut_key (After v) ≡ version_key v ++ 0 ∷ []
-unfolding cut_key
-after-is v = refl
-
-pub end-is : cut_key End ≡ 255 ∷ []
-unfolding cut_key
-end-is = refl
-
 pub ruleset version_rules = (common_steps, grown_none, grown_taken, prerelease-is, release-is)
-
-pub ruleset cut_rules = (common_steps, after-is, before-is, end-is, start-is)

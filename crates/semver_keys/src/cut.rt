@@ -23,7 +23,7 @@ use std::alloc::{AllocError, Global};
 ///
 /// The key of `Before(1.2.3)` is that of `1.2.3`, and the key of `After(1.2.3)` is the same followed by 0. The key of
 /// `Start` has no byte, and that of `End` is 255.
-#[tactic(auto, using(crate::proofs::VersionSteps::cut_rules))]
+#[tactic(auto, unfolding(crate::specs::CutKey::cut_key))]
 pub fn cut_key(alloc: Global, cut: &Cut<Version>) -> Result<Vec<u8>, AllocError>
     ensures key { IfOk result (λ key. key.items ≡ Keys.cut_key cut.now) }
     ensures words { OnOk result (HasCutWords cut.now) }

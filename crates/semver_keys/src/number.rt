@@ -8,14 +8,6 @@ use std::alloc::AllocError;
 // Numbers below this one are one byte.
 pub(crate) const SHORT_NUMBERS: u64 = 240;
 
-// Returns `true` if the key of the number has more than one byte. `inline(always)`: one test.
-#[inline(always)]
-pub(crate) fn is_long(n: u64) -> bool
-    ensures { IsTrue result ↔ (240 ≤ n) }
-{
-    n >= SHORT_NUMBERS
-}
-
 // Appends the key of a number. `inline`: most numbers are one byte.
 #[inline]
 #[tactic(auto, using(crate::proofs::NumberRules::key_rules))]

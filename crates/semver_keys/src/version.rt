@@ -8,7 +8,7 @@ ghost use Rattle.semver_keys.specs.VersionKey as Keys;
 ghost use Rattle.semver_keys.specs.VersionKey.{HasWord, HasWords};
 
 use crate::identifier::{add_borrowed, add_identifiers};
-use crate::number::{add_number, is_long};
+use crate::number::{SHORT_NUMBERS, add_number};
 use node_semver::{AsVersion, Version, VersionRef};
 use std::alloc::{AllocError, Global};
 
@@ -109,9 +109,9 @@ fn short_release<V: HasKey>(version: &V) -> Option<[u8; 4]>
 {
     let triple = version.triple();
     if version.is_prerelease()
-        || is_long(triple.major)
-        || is_long(triple.minor)
-        || is_long(triple.patch)
+        || triple.major >= SHORT_NUMBERS
+        || triple.minor >= SHORT_NUMBERS
+        || triple.patch >= SHORT_NUMBERS
     {
         return None;
     }

@@ -1,5 +1,5 @@
 -- Keys of cuts have the order of the cuts.
-use Rattle.std.proofs.Common.{◌≡◌, ◌++◌, ℕ, List, [], ◌∷◌, refl, sym, ap, ◌∙◌}
+use Rattle.std.proofs.Common.{◌≡◌, ◌++◌, ℕ, List, [], ◌∷◌, refl, sym, ap, subst, ◌∙◌}
 use Rattle.std.proofs.lemmas.List.{append-nil}
 use Rattle.std.specs.Ordering.{ordering_then}
 use Rattle.std.specs.declared.cmp.Ordering.{Ordering}
@@ -12,15 +12,11 @@ use Rattle.semver_texts.specs.Version.{VersionValue}
 use Rattle.semver_keys.specs.KeyOrder.{key_cmp}
 use Rattle.semver_keys.specs.CutKey.{HasCutWords, cut_key}
 use Rattle.semver_keys.specs.VersionKey.{HasWords, version_key}
-use Rattle.semver_keys.specs.Lemmas.FirstBytes.{first-Greater, first-Less}
+use Rattle.semver_keys.specs.Lemmas.FirstBytes.{first-bytes}
 use Rattle.semver_keys.specs.Lemmas.NumberOrder.{BeginsKey}
 use Rattle.semver_keys.specs.Lemmas.VersionOrder.{version-begins, version-order}
 
--- what follows the key of a version at a cut
-abbrev tail : Cut VersionValue → List ℕ
-tail (After v) = 0 ∷ []
-tail _ = []
-
+-- a comparison, and then none
 then-Equal : (o : Ordering) → ordering_then o Equal ≡ o
 then-Equal Less = refl
 then-Equal Equal = refl
@@ -34,19 +30,14 @@ start_before : (key : List ℕ) → BeginsKey key → key_cmp key [] ≡ Greater
 start_before key b = ap (λ k. key_cmp k []) b.whole
 
 before_end : (key : List ℕ) → BeginsKey key → key_cmp key (255 ∷ []) ≡ Less
-before_end key b = ap (λ k. key_cmp k (255 ∷ [])) b.whole ∙ first-Less b.first 255 b.rest [] b.low
+before_end key b = ap (λ k. key_cmp k (255 ∷ [])) b.whole ∙ first-bytes Less b.first 255 b.rest [] b.low
 
 end_after : (key : List ℕ) → BeginsKey key → key_cmp (255 ∷ []) key ≡ Greater
-end_after key b = ap (key_cmp (255 ∷ [])) b.whole ∙ first-Greater 255 b.first [] b.rest b.low
+end_after key b = ap (key_cmp (255 ∷ [])) b.whole ∙ first-bytes Greater 255 b.first [] b.rest b.low
 
 -- the key of a version begins with such a byte too
 alone : (v : VersionValue) → BeginsKey (version_key v)
-alone v = let b = version-begins v [] in record {
-  first = b.first;
-  rest = b.rest;
-  whole = sym (append-nil (version_key v)) ∙ b.whole;
-  low = b.low;
-}
+alone v = subst BeginsKey (append-nil (version_key v)) (version-begins v [])
 
 pub cut-order : (c d : Cut VersionValue) → HasCutWords c → HasCutWords d
     → key_cmp (cut_key c) (cut_key d) ≡ cut_cmp version_cmp c d

@@ -1,7 +1,7 @@
 -- The first byte decides the order of two keys, unless it is the same in both.
-use Rattle.std.proofs.Common.{◌≡◌, ◌<◌, ◌⊎◌, ℕ, List, ◌∷◌, refl, sym, ap, arith}
+use Rattle.std.proofs.Common.{◌≡◌, ◌<◌, ℕ, List, ◌∷◌, refl, sym, ap, ◌∙◌}
 use Rattle.std.specs.Cmp.{nat_cmp_is}
-use Rattle.std.specs.Ordering.{nat_cmp, ordering_then}
+use Rattle.std.specs.Ordering.{MatchOrdering, nat_cmp, ordering_then}
 use Rattle.std.specs.declared.cmp.Ordering.{Ordering}
 use Rattle.std.specs.declared.cmp.Ordering.TheVariants.{Less, Equal, Greater}
 use Rattle.semver_keys.specs.KeyOrder.{key_cmp}
@@ -12,27 +12,16 @@ then-then Less b c = refl
 then-then Equal b c = refl
 then-then Greater b c = refl
 
-pub number-Less : (m n : ℕ) → m < n → nat_cmp m n ≡ Less
-number-Less m n h = sym (nat_cmp_is m n Less h)
+-- the two numbers stand in this order
+abbrev pub Stand : Ordering → ℕ → ℕ → Type 0
+Stand o m n = MatchOrdering o (m < n) (m ≡ n) (n < m)
 
-pub number-Greater : (m n : ℕ) → n < m → nat_cmp m n ≡ Greater
-number-Greater m n h = sym (nat_cmp_is m n Greater h)
+-- two keys, by the order of their first bytes
+pub first-bytes : (o : Ordering) (m n : ℕ) (r s : List ℕ) → Stand o m n
+    → key_cmp (m ∷ r) (n ∷ s) ≡ ordering_then o (key_cmp r s)
+first-bytes o m n r s h = ap (λ p. ordering_then p (key_cmp r s)) (sym (nat_cmp_is m n o h))
 
-pub number-Equal : (m n : ℕ) → m ≡ n → nat_cmp m n ≡ Equal
-number-Equal m n h = sym (nat_cmp_is m n Equal h)
-
-pub then-at : (a b o : Ordering) → a ≡ b → ordering_then a o ≡ ordering_then b o
-then-at a b o e = ap (λ k. ordering_then k o) e
-
--- two numbers
-pub number-cases : (m n : ℕ) → (m < n) ⊎ ((m ≡ n) ⊎ (n < m))
-number-cases m n = grind arith
-
-pub first-Less : (m n : ℕ) (r s : List ℕ) → m < n → key_cmp (m ∷ r) (n ∷ s) ≡ Less
-first-Less m n r s h = then-at (nat_cmp m n) Less (key_cmp r s) (number-Less m n h)
-
-pub first-Greater : (m n : ℕ) (r s : List ℕ) → n < m → key_cmp (m ∷ r) (n ∷ s) ≡ Greater
-first-Greater m n r s h = then-at (nat_cmp m n) Greater (key_cmp r s) (number-Greater m n h)
-
-pub first-Equal : (m n : ℕ) (r s : List ℕ) → m ≡ n → key_cmp (m ∷ r) (n ∷ s) ≡ key_cmp r s
-first-Equal m n r s h = then-at (nat_cmp m n) Equal (key_cmp r s) (number-Equal m n h)
+-- the same where two numbers stand in the order of the first bytes, and what follows does not count
+pub first-as : (o : Ordering) (m n a b : ℕ) (r s : List ℕ) (p : Ordering) → Stand o m n → Stand o a b
+    → ordering_then o (key_cmp r s) ≡ ordering_then o p → key_cmp (m ∷ r) (n ∷ s) ≡ ordering_then (nat_cmp a b) p
+first-as o m n a b r s p h k e = first-bytes o m n r s h ∙ e ∙ ap (λ q. ordering_then q p) (nat_cmp_is a b o k)

@@ -2,49 +2,50 @@
 use Rattle.std.proofs.Common.{◌≡◌, ◌≤◌, ◌<◌, ◌+◌, ◌++◌, ℕ, List, [], ◌∷◌, refl, sym, ap, ◌∙◌}
 use Rattle.std.proofs.Common.{inl, inr, arith, append_assoc}
 use Rattle.std.proofs.lemmas.Bool.{cases_lt}
+use Rattle.std.proofs.lemmas.Cmp.{by_ranked, ranked}
+use Rattle.std.specs.Cmp.{nat_cmp_is}
 use Rattle.std.specs.List.{AllByRecursion}
 use Rattle.std.specs.Ordering.{nat_cmp, ordering_then}
 use Rattle.std.specs.Cmp.Lexicographic.{slice_cmp}
-use Rattle.std.specs.declared.cmp.Ordering.TheVariants.{Less, Greater}
+use Rattle.std.specs.declared.cmp.Ordering.TheVariants.{Less, Equal, Greater}
 use Rattle.semver_texts.specs.Comparison.{identifier_cmp, prerelease_cmp}
 use Rattle.semver_texts.specs.IdentifierValue.{IdentifierValue, alphanumeric, numeric}
 use Rattle.semver_keys.specs.KeyOrder.{key_cmp}
 use Rattle.semver_keys.specs.IdentifierKey.{byte_key, identifier_key, identifiers_key, prerelease_key, text_key}
 use Rattle.semver_keys.specs.VersionKey.{HasWord}
-use Rattle.semver_keys.specs.Lemmas.FirstBytes.{first-Greater, first-Less, number-cases, number-Equal}
-use Rattle.semver_keys.specs.Lemmas.FirstBytes.{number-Greater, number-Less, then-at, then-then}
+use Rattle.semver_keys.specs.Lemmas.FirstBytes.{first-as, first-bytes, then-then}
 use Rattle.semver_keys.specs.Lemmas.NumberOrder.{number-order}
 
 -- ---- texts
 
 -- a byte that is written as two, and one that is written as it is
-low-byte : (b : ℕ) → b < 2 → byte_key b ≡ 1 ∷ (b + 1) ∷ []
+pub low-byte : (b : ℕ) → b < 2 → byte_key b ≡ 1 ∷ (b + 1) ∷ []
 unfolding byte_key
 low-byte b h = grind arith
 
-plain-byte : (b : ℕ) → 2 ≤ b → byte_key b ≡ b ∷ []
+pub plain-byte : (b : ℕ) → 2 ≤ b → byte_key b ≡ b ∷ []
 unfolding byte_key
 plain-byte b h = grind arith
 
+-- one more than each of two numbers
 one-more : (a b : ℕ) → nat_cmp (a + 1) (b + 1) ≡ nat_cmp a b
-one-more a b = elim (number-cases a b) [
-  | inl less ↦ number-Less (a + 1) (b + 1) (omega arith) ∙ sym (number-Less a b less)
-  | inr (inl same) ↦ number-Equal (a + 1) (b + 1) (omega arith) ∙ sym (number-Equal a b same)
-  | inr (inr more) ↦ number-Greater (a + 1) (b + 1) (omega arith) ∙ sym (number-Greater a b more)
-]
+one-more a b = let order = ranked a b _ refl in by_ranked _ _ _ (nat_cmp a b) order
+    (λ e h. sym (nat_cmp_is (a + 1) (b + 1) Less (omega arith)) ∙ sym e)
+    (λ e h. sym (nat_cmp_is (a + 1) (b + 1) Equal (omega arith)) ∙ sym e)
+    (λ e h. sym (nat_cmp_is (a + 1) (b + 1) Greater (omega arith)) ∙ sym e)
 
 pub byte-order : (a b : ℕ) (r s : List ℕ)
     → key_cmp (byte_key a ++ r) (byte_key b ++ s) ≡ ordering_then (nat_cmp a b) (key_cmp r s)
 byte-order a b r s = elim (cases_lt a 2) [
   | inl low ↦ elim (cases_lt b 2) [
     | inl other ↦ (λ i. key_cmp (low-byte a low i ++ r) (low-byte b other i ++ s))
-        ∙ then-at _ _ (key_cmp r s) (one-more a b)
+        ∙ ap (λ o. ordering_then o (key_cmp r s)) (one-more a b)
     | inr other ↦ (λ i. key_cmp (low-byte a low i ++ r) (plain-byte b other i ++ s))
-        ∙ first-Less 1 b ((a + 1) ∷ r) s (omega arith) ∙ sym (then-at _ Less _ (number-Less a b (omega arith)))
+        ∙ first-as Less 1 b a b ((a + 1) ∷ r) s (key_cmp r s) (omega arith) (omega arith) refl
   ]
   | inr plain ↦ elim (cases_lt b 2) [
     | inl other ↦ (λ i. key_cmp (plain-byte a plain i ++ r) (low-byte b other i ++ s))
-        ∙ first-Greater a 1 r ((b + 1) ∷ s) (omega arith) ∙ sym (then-at _ Greater _ (number-Greater a b (omega arith)))
+        ∙ first-as Greater a 1 a b r ((b + 1) ∷ s) (key_cmp r s) (omega arith) (omega arith) refl
     | inr other ↦ λ i. key_cmp (plain-byte a plain i ++ r) (plain-byte b other i ++ s)
   ]
 ]
@@ -53,13 +54,13 @@ byte-order a b r s = elim (cases_lt a 2) [
 end-first : (b : ℕ) (r s : List ℕ) → key_cmp (0 ∷ r) (byte_key b ++ s) ≡ Less
 end-first b r s = elim (cases_lt b 2) [
   | inl low ↦ ap (λ key. key_cmp (0 ∷ r) (key ++ s)) (low-byte b low)
-  | inr plain ↦ ap (λ key. key_cmp (0 ∷ r) (key ++ s)) (plain-byte b plain) ∙ first-Less 0 b r s (omega arith)
+  | inr plain ↦ ap (λ key. key_cmp (0 ∷ r) (key ++ s)) (plain-byte b plain) ∙ first-bytes Less 0 b r s (omega arith)
 ]
 
 end-last : (b : ℕ) (r s : List ℕ) → key_cmp (byte_key b ++ r) (0 ∷ s) ≡ Greater
 end-last b r s = elim (cases_lt b 2) [
   | inl low ↦ ap (λ key. key_cmp (key ++ r) (0 ∷ s)) (low-byte b low)
-  | inr plain ↦ ap (λ key. key_cmp (key ++ r) (0 ∷ s)) (plain-byte b plain) ∙ first-Greater b 0 r s (omega arith)
+  | inr plain ↦ ap (λ key. key_cmp (key ++ r) (0 ∷ s)) (plain-byte b plain) ∙ first-bytes Greater b 0 r s (omega arith)
 ]
 
 pub text-order : (xs ys : List ℕ) (r s : List ℕ)

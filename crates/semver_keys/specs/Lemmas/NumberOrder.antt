@@ -2,12 +2,13 @@
 use Rattle.std.proofs.Common.{◌≡◌, ◌≤◌, ◌<◌, ◌/◌, ◌%◌, ◌+◌, ◌^◌, ◌++◌, ◌==◌, Bool, true, false, ℕ, zero, suc, List, [], ◌∷◌, refl, sym, ap, ◌∙◌}
 use Rattle.std.proofs.Common.{subst, inl, inr, arith, append_assoc, add-one, if◌then◌else◌}
 use Rattle.std.proofs.lemmas.Bool.{cases_lt}
+use Rattle.std.proofs.lemmas.Cmp.{by_ranked, ranked}
+use Rattle.std.specs.Cmp.{nat_cmp_is}
 use Rattle.std.specs.Ordering.{nat_cmp, ordering_then}
 use Rattle.std.specs.declared.cmp.Ordering.TheVariants.{Less, Equal, Greater}
 use Rattle.semver_keys.specs.KeyOrder.{key_cmp}
 use Rattle.semver_keys.specs.NumberKey.{byte_count, long_number_key, lowest_bytes, number_key}
-use Rattle.semver_keys.specs.Lemmas.FirstBytes.{first-Equal, first-Greater, first-Less, number-cases, number-Equal}
-use Rattle.semver_keys.specs.Lemmas.FirstBytes.{number-Greater, number-Less, then-at, then-then}
+use Rattle.semver_keys.specs.Lemmas.FirstBytes.{first-as, first-bytes, then-then}
 
 -- so many bytes hold the number
 abbrev pub Fits : ℕ → ℕ → Type 0
@@ -17,34 +18,26 @@ Fits (suc count) n = Fits count (n / 256)
 -- the higher bytes decide, and then the lowest
 pub digits-order : (m n : ℕ)
     → ordering_then (nat_cmp (m / 256) (n / 256)) (nat_cmp (m % 256) (n % 256)) ≡ nat_cmp m n
-digits-order m n = elim (number-cases m n) [
-  | inl less ↦ elim (number-cases (m / 256) (n / 256)) [
-    | inl high ↦ then-at _ Less _ (number-Less _ _ high) ∙ sym (number-Less m n less)
-    | inr (inl high) ↦ then-at _ Equal _ (number-Equal _ _ high)
-        ∙ number-Less (m % 256) (n % 256) (omega arith) ∙ sym (number-Less m n less)
-    | inr (inr high) ↦ absurd (omega arith)
-  ]
-  | inr (inl same) ↦ then-at _ Equal _ (number-Equal (m / 256) (n / 256) (omega arith))
-      ∙ number-Equal (m % 256) (n % 256) (omega arith) ∙ sym (number-Equal m n same)
-  | inr (inr more) ↦ elim (number-cases (m / 256) (n / 256)) [
-    | inl high ↦ absurd (omega arith)
-    | inr (inl high) ↦ then-at _ Equal _ (number-Equal _ _ high)
-        ∙ number-Greater (m % 256) (n % 256) (omega arith) ∙ sym (number-Greater m n more)
-    | inr (inr high) ↦ then-at _ Greater _ (number-Greater _ _ high) ∙ sym (number-Greater m n more)
-  ]
-]
+digits-order m n =
+    let high = ranked (m / 256) (n / 256) _ refl in let low = ranked (m % 256) (n % 256) _ refl in
+    by_ranked _ _ _ (nat_cmp (m / 256) (n / 256)) high
+    (λ e h. rw e (nat_cmp_is m n Less (omega arith)))
+    (λ e h. rw e (by_ranked _ _ _ (nat_cmp (m % 256) (n % 256)) low
+    (λ f k. rw f (nat_cmp_is m n Less (omega arith))) (λ f k. rw f (nat_cmp_is m n Equal (omega arith)))
+    (λ f k. rw f (nat_cmp_is m n Greater (omega arith)))))
+    (λ e h. rw e (nat_cmp_is m n Greater (omega arith)))
 
 -- as many bytes of two numbers have the order of the numbers, if they hold them
 pub lowest-order : (count m n : ℕ) (r s : List ℕ) → Fits count m → Fits count n
     → key_cmp (lowest_bytes count m ++ r) (lowest_bytes count n ++ s) ≡ ordering_then (nat_cmp m n) (key_cmp r s)
 unfolding lowest_bytes
-lowest-order zero m n r s f g = sym (then-at (nat_cmp m n) Equal (key_cmp r s) (number-Equal m n (f ∙ sym g)))
+lowest-order zero m n r s f g = ap (λ o. ordering_then o (key_cmp r s)) (nat_cmp_is m n Equal (f ∙ sym g))
 lowest-order (suc count) m n r s f g =
     (λ i. key_cmp (append_assoc (lowest_bytes count (m / 256)) (m % 256 ∷ []) r i)
     (append_assoc (lowest_bytes count (n / 256)) (n % 256 ∷ []) s i))
     ∙ lowest-order count (m / 256) (n / 256) (m % 256 ∷ r) (n % 256 ∷ s) f g
     ∙ sym (then-then (nat_cmp (m / 256) (n / 256)) (nat_cmp (m % 256) (n % 256)) (key_cmp r s))
-    ∙ then-at _ _ (key_cmp r s) (digits-order m n)
+    ∙ ap (λ o. ordering_then o (key_cmp r s)) (digits-order m n)
 
 -- the fewest bytes hold the number
 pub count-fits : (limit n : ℕ) → Fits limit n → Fits (byte_count limit n) n
@@ -86,20 +79,17 @@ long-rest n r = lowest_bytes (byte_count 8 n) n ++ r
 long-order : (m n : ℕ) (r s : List ℕ) → m < 2 ^ 64 → n < 2 ^ 64
     → key_cmp (long_number_key m ++ r) (long_number_key n ++ s) ≡ ordering_then (nat_cmp m n) (key_cmp r s)
 unfolding long_number_key
-long-order m n r s h k = elim (number-cases (byte_count 8 m) (byte_count 8 n)) [
-  | inl fewer ↦
-      let less : m < n = grind (arith, count-rises 8 n m) in
-      first-Less (long-first m) (long-first n) (long-rest m r) (long-rest n s) (omega arith)
-      ∙ sym (then-at _ Less _ (number-Less m n less))
-  | inr (inl same) ↦ first-Equal (long-first m) (long-first n) (long-rest m r) (long-rest n s) (omega arith)
-      ∙ ap (λ count. key_cmp (lowest_bytes (byte_count 8 m) m ++ r) (lowest_bytes count n ++ s)) (sym same)
-      ∙ lowest-order (byte_count 8 m) m n r s (count-fits 8 m (words-fit m h))
-      (subst (λ count. Fits count n) (sym same) (count-fits 8 n (words-fit n k)))
-  | inr (inr more) ↦
-      let above : n < m = grind (arith, count-rises 8 m n) in
-      first-Greater (long-first m) (long-first n) (long-rest m r) (long-rest n s) (omega arith)
-      ∙ sym (then-at _ Greater _ (number-Greater m n above))
-]
+long-order m n r s h k =
+    let order = ranked (byte_count 8 m) (byte_count 8 n) _ refl in
+    by_ranked _ _ _ (nat_cmp (byte_count 8 m) (byte_count 8 n)) order
+    (λ _ fewer. first-as Less (long-first m) (long-first n) m n (long-rest m r) (long-rest n s) (key_cmp r s) (omega arith)
+    (grind (arith, count-rises 8 n m)) refl)
+    (λ _ same. first-bytes Equal (long-first m) (long-first n) (long-rest m r) (long-rest n s) (omega arith)
+    ∙ ap (λ count. key_cmp (lowest_bytes (byte_count 8 m) m ++ r) (lowest_bytes count n ++ s)) (sym same)
+    ∙ lowest-order (byte_count 8 m) m n r s (count-fits 8 m (words-fit m h))
+    (subst (λ count. Fits count n) (sym same) (count-fits 8 n (words-fit n k))))
+    (λ _ more. first-as Greater (long-first m) (long-first n) m n (long-rest m r) (long-rest n s) (key_cmp r s)
+    (omega arith) (grind (arith, count-rises 8 m n)) refl)
 
 -- the key of a number that is one byte, and of any other
 pub short-key : (n : ℕ) → n < 240 → number_key n ≡ n ∷ []
@@ -137,13 +127,11 @@ number-order m n r s h k = elim (cases_lt m 240) [
   | inl short ↦ elim (cases_lt n 240) [
     | inl other ↦ λ i. key_cmp (short-key m short i ++ r) (short-key n other i ++ s)
     | inr other ↦ (λ i. key_cmp (short-key m short i ++ r) (long-key n other i ++ s))
-        ∙ first-Less m (long-first n) r (long-rest n s) (omega arith)
-        ∙ sym (then-at _ Less _ (number-Less m n (omega arith)))
+        ∙ first-as Less m (long-first n) m n r (long-rest n s) (key_cmp r s) (omega arith) (omega arith) refl
   ]
   | inr long ↦ elim (cases_lt n 240) [
     | inl other ↦ (λ i. key_cmp (long-key m long i ++ r) (short-key n other i ++ s))
-        ∙ first-Greater (long-first m) n (long-rest m r) s (omega arith)
-        ∙ sym (then-at _ Greater _ (number-Greater m n (omega arith)))
+        ∙ first-as Greater (long-first m) n m n (long-rest m r) s (key_cmp r s) (omega arith) (omega arith) refl
     | inr other ↦ (λ i. key_cmp (long-key m long i ++ r) (long-key n other i ++ s)) ∙ long-order m n r s h k
   ]
 ]

@@ -1,7 +1,7 @@
 -- Keys of versions have the order of the versions, whatever follows them.
 use Rattle.std.proofs.Common.{◌≡◌, ◌++◌, ℕ, List, ap, ◌∙◌, append_assoc, arith}
 use Rattle.std.specs.Ordering.{nat_cmp, ordering_then}
-use Rattle.semver_texts.specs.Comparison.{prerelease_cmp, version_cmp}
+use Rattle.semver_texts.specs.Comparison.{version_cmp}
 use Rattle.semver_texts.specs.Version.{VersionValue}
 use Rattle.semver_keys.specs.KeyOrder.{key_cmp}
 use Rattle.semver_keys.specs.IdentifierKey.{prerelease_key}
@@ -9,32 +9,19 @@ use Rattle.semver_keys.specs.NumberKey.{number_key}
 use Rattle.semver_keys.specs.VersionKey.{HasWords, version_key}
 use Rattle.semver_keys.specs.Lemmas.IdentifierOrder.{prerelease-order}
 use Rattle.semver_keys.specs.Lemmas.NumberOrder.{BeginsKey, number-begins, number-order}
-use Rattle.std.specs.declared.cmp.Ordering.{Ordering}
-
--- the parts of a key, and what follows it
-pub regrouped : (a b c d r : List ℕ) → (a ++ (b ++ (c ++ d))) ++ r ≡ a ++ (b ++ (c ++ (d ++ r)))
-regrouped a b c d r = simp append_assoc
-
-step : (a b c d : Ordering) (o : Ordering) → ordering_then a (ordering_then b (ordering_then c (ordering_then d o)))
-    ≡ ordering_then (ordering_then a (ordering_then b (ordering_then c d))) o
-step a b c d o = grind arith
 
 pub version-order : (v w : VersionValue) (r s : List ℕ) → HasWords v → HasWords w
     → key_cmp (version_key v ++ r) (version_key w ++ s) ≡ ordering_then (version_cmp v w) (key_cmp r s)
 unfolding version_key
-version-order v w r s h k =
-    (λ i. key_cmp
-    (regrouped (number_key v.major) (number_key v.minor) (number_key v.patch) (prerelease_key v.pre_release) r i)
-    (regrouped (number_key w.major) (number_key w.minor) (number_key w.patch) (prerelease_key w.pre_release) s i))
-    ∙ number-order v.major w.major _ _ h.major k.major
+version-order v w r s h k = simp append_assoc
+    (number-order v.major w.major _ _ h.major k.major
     ∙ ap (λ o. ordering_then (nat_cmp v.major w.major) o)
     (number-order v.minor w.minor _ _ h.minor k.minor
     ∙ ap (λ o. ordering_then (nat_cmp v.minor w.minor) o)
     (number-order v.patch w.patch _ _ h.patch k.patch
     ∙ ap (λ o. ordering_then (nat_cmp v.patch w.patch) o)
     (prerelease-order v.pre_release w.pre_release r s h.identifiers k.identifiers)))
-    ∙ step (nat_cmp v.major w.major) (nat_cmp v.minor w.minor) (nat_cmp v.patch w.patch)
-    (prerelease_cmp v.pre_release w.pre_release) (key_cmp r s)
+    ∙ grind arith)
 
 -- the first byte of a version's key is that of its major
 pub version-begins : (v : VersionValue) (r : List ℕ) → BeginsKey (version_key v ++ r)

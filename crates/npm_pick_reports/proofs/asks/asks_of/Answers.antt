@@ -2,9 +2,9 @@
 use Rattle.std.proofs.Common.{◌∙◌, ◌++◌, ap}
 use Rattle.npm_pick_reports.proofs.asks.asks_of.Goals as goal
 
-pub returns : goal.returns
-returns c =
-    let locked = c.in_ok-add_locked.ensures in
+pub returns-clause-asks : goal.returns-clause-asks
+returns-clause-asks c =
+    let locked = c.in_ok-add_locked.ensures.added in
     record {
       locked = locked.0;
       of_lock = locked.1;

@@ -3,8 +3,8 @@ use Rattle.std.proofs.Common.{append-nil, map, string_bytes, sym}
 use Rattle.npm_pick_reports.proofs.Mirrors.{keys_added}
 use Rattle.npm_pick_reports.proofs.mirror.add_kept.Goals as goal
 
-pub returns : goal.returns
-returns c = (
+pub returns-clause-added : goal.returns-clause-added
+returns-clause-added c = (
   map (λ key. key.now) c.in_ok-keys.keys.items,
   c.in_ok-keys.ensures,
   record {

@@ -20,15 +20,15 @@ pub loop-name-preserved : goal.loop-name-preserved
 loop-name-preserved g c =
     let requests = map registry_spec_value c.args.requests.now in
     let name = string_bytes c.name-item.result in
-    let added = rw (c.deref.ensures.value, c.as_str-name.ensures.value) at c.in_ok-add_package.ensures in
+    let added = rw (c.deref.ensures.value, c.as_str-name.ensures.value) at c.in_ok-add_package.ensures.added in
     let texts = texts_asked requests name _ _ (c.in_ok-groups.ensures name)
     (rw c.as_str-name.ensures.value at c.in_ok-texts.ensures) in
     rw (seen_more string_bytes c.deref-name-items.result.now c.loop-name.name-index c.name-item.result
     c.loop-name-test.true c.name-item.is) (kept_more (FnReturnsAt g.F.Fn c.args.load) c.args.options.now c.args.all requests _ name _ _
     (added requests texts) c.loop-name.invariant)
 
-pub returns : goal.returns
-returns g c = record {
+pub returns-clause-mirror : goal.returns-clause-mirror
+returns-clause-mirror g c = record {
   names = map string_bytes c.deref-name-items.result.now;
   ordered = rw c.deref-name-items.ensures.value c.in_ok-names.ensures.ordered;
   exact = rw c.deref-name-items.ensures.value c.in_ok-names.ensures.exact;

@@ -1,12 +1,12 @@
 -- What is found out about the dependencies of the lock file, its lines and its counts.
-use Rattle.std.proofs.Common.{◌∙◌, map}
+use Rattle.std.proofs.Common.{◌∙◌, Err, Some, ap, inl, map, sym}
 use Rattle.npm_packages.specs.Edges.{edge_value}
 use Rattle.npm_pick_reports.specs.Outdated.{outcome_value}
 use Rattle.npm_pick_reports.proofs.Outcomes.{compared_ending}
 use Rattle.npm_pick_reports.proofs.reply.outdated_reply.Goals as goal
 
-pub returns : goal.returns
-returns g c = record {
+pub returns-clause-reply : goal.returns-clause-reply
+returns-clause-reply g c = record {
   edges = map edge_value c.in-Ok.edges.items;
   outcomes = map outcome_value c.in-Ok-outcomes_of.outcomes.items;
   of_lock = c.in-Ok.ensures.found;
@@ -17,3 +17,8 @@ returns g c = record {
       ∙ compared_ending c.in-Ok-outcomes_of.outcomes.items c.has_outdated.result c.absent_count.result
       (rw c.deref-3.ensures.value at c.has_outdated.ensures) (rw c.deref-4.ensures.value at c.absent_count.ensures);
 }
+
+pub returns-in-Err-Refused-clause-failed : goal.returns-in-Err-Refused-clause-failed
+returns-in-Err-Refused-clause-failed g c =
+    inl ((c.in-Err-Refused.ensures.refused c.in-Err-Refused.fault).0 (ap Err c.in-Err-Refused.field-0-is)
+    ∙ ap Some (sym c.in-Err-Refused.fault-is))

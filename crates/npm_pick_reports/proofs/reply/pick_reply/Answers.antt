@@ -4,12 +4,12 @@ use Rattle.serde_json.specs.View.{view}
 use Rattle.npm_pick_reports.proofs.Outcomes.{nothing_reply, picked_reply}
 use Rattle.npm_pick_reports.proofs.reply.pick_reply.Goals as goal
 
-pub returns-in_ok-picked_line-in-Ok : goal.returns-in_ok-picked_line-in-Ok
-returns-in_ok-picked_line-in-Ok c = picked_reply (view c.args.packument.now) c.args.options.now c.args.wanted.now
+pub returns-in_ok-picked_line-in-Ok-clause-reply : goal.returns-in_ok-picked_line-in-Ok-clause-reply
+returns-in_ok-picked_line-in-Ok-clause-reply c = picked_reply (view c.args.packument.now) c.args.options.now c.args.wanted.now
     c.args.format (picked_value c.in-Ok.picked) c.in_ok-picked_line-in-Ok.field-0.items _ _
     (rw c.in-Ok.is at c.pick.ensures) c.in_ok-picked_line-in-Ok.ensures c.ended.ensures.notes c.ended.ensures.ending
 
-pub returns-in_default : goal.returns-in_default
-returns-in_default c = nothing_reply (view c.args.packument.now) c.args.options.now c.args.wanted.now c.args.format
+pub returns-in_default-clause-reply : goal.returns-in_default-clause-reply
+returns-in_default-clause-reply c = nothing_reply (view c.args.packument.now) c.args.options.now c.args.wanted.now c.args.format
     c.in-Err.error c.new.result.items _ _ c.in_default.not-Memory (rw c.in-Err.is at c.pick.ensures) c.new.ensures.items
     c.ended-in_default.ensures.notes c.ended-in_default.ensures.ending

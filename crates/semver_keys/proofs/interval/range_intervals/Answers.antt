@@ -1,5 +1,5 @@
 use Rattle.semver_keys.proofs.SpanKeys.{gathered, gathered-mean}
-use Rattle.semver_keys.proofs.Tidy.{gathered-few}
+use Rattle.semver_keys.proofs.FewIntervals.{gathered-few}
 use Rattle.semver_keys.proofs.interval.range_intervals.Goals as goal
 
 pub returns-clause-meant : goal.returns-clause-meant

@@ -1,5 +1,5 @@
 use Rattle.semver_keys.proofs.SpanKeys.{range-is_both}
-use Rattle.semver_keys.proofs.Tidy.{range-few_both}
+use Rattle.semver_keys.proofs.FewIntervals.{range-few_both}
 use Rattle.semver_keys.proofs.interval.range_intervals_with_prereleases.Goals as goal
 
 pub returns-clause-meant : goal.returns-clause-meant

@@ -1,6 +1,6 @@
 use Rattle.std.proofs.Common.{refl}
+use Rattle.std.proofs.lemmas.Bool.{iff_false}
 use Rattle.semver_keys.proofs.IdentifierReading.{all-listed, listed-more, none-listed, none-refused, none-stopped, shorter}
-use Rattle.semver_keys.proofs.VersionSteps.{not-tested}
 use Rattle.semver_keys.proofs.read.read_identifiers.Goals as goal
 
 pub parts-init : goal.parts-init
@@ -24,4 +24,4 @@ returns-then-is_byte-clause-read c = all-listed _ _ _ c.parts.invariant (c.if-is
 pub returns-else-is_byte-clause-none : goal.returns-else-is_byte-clause-none
 returns-else-is_byte-clause-none c =
     none-stopped _ _ _ c.parts.invariant c.in_default.ensures.none
-    (not-tested _ c.if-is_byte.false c.is_byte.ensures)
+    (iff_false c.is_byte.ensures c.if-is_byte.false)

@@ -1,20 +1,16 @@
-use Rattle.semver_keys.proofs.VersionSteps.{not-tested, release-key, release-words, short-tested}
+use Rattle.std.proofs.Common.{arith}
+use Rattle.std.proofs.lemmas.Bool.{iff_false}
+use Rattle.semver_keys.proofs.VersionSteps.{IsShort, release-key, release-words}
 use Rattle.semver_keys.proofs.version.short_release.Goals as goal
 
-pub returns-clause-key : goal.returns-clause-key
-returns-clause-key g c = release-key (g.V.AsVersion.seen c.args.version.now) c.triple-triple.result (record {
-  triple = c.triple-triple.ensures;
-  release = not-tested _ c.if-is_prerelease.false c.is_prerelease.ensures;
-  major = short-tested _ _ c.if-is_long.false c.is_long.ensures;
-  minor = short-tested _ _ c.if-is_long-2.false c.is_long-else-is_long.ensures;
-  patch = short-tested _ _ c.if-is_long-3.false c.is_long-else-is_long-2.ensures;
-})
-
-pub returns-clause-words : goal.returns-clause-words
-returns-clause-words g c = release-words (g.V.AsVersion.seen c.args.version.now) c.triple-triple.result (record {
-  triple = c.triple-triple.ensures;
-  release = not-tested _ c.if-is_prerelease.false c.is_prerelease.ensures;
-  major = short-tested _ _ c.if-is_long.false c.is_long.ensures;
-  minor = short-tested _ _ c.if-is_long-2.false c.is_long-else-is_long.ensures;
-  patch = short-tested _ _ c.if-is_long-3.false c.is_long-else-is_long-2.ensures;
-})
+pub returns : goal.returns
+returns g c =
+    let value = g.V.AsVersion.seen c.args.version.now in
+    let short : IsShort value c.triple-triple.result = record {
+      triple = c.triple-triple.ensures;
+      release = iff_false c.is_prerelease.ensures c.if-is_prerelease.false;
+      major = omega arith;
+      minor = omega arith;
+      patch = omega arith;
+    } in
+    record { key = release-key value c.triple-triple.result short; words = release-words value c.triple-triple.result short }

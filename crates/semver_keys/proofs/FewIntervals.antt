@@ -57,11 +57,6 @@ starts-few all earlier [] = omega arith
 starts-few all earlier (span ∷ later) = grind (arith, starts-few all (earlier ++ span ∷ []) later)
 
 -- of each kind
-none-count : (spans : List (Ends VersionValue))
-    → length (filter (λ (i : IntervalValue). i.prereleases) (map (interval_of false) spans)) ≡ 0
-none-count [] = refl
-none-count (span ∷ spans) = none-count spans
-
 all-count : (spans : List (Ends VersionValue))
     → length (filter (λ (i : IntervalValue). i.prereleases) (map (interval_of true) spans)) ≡ length spans
 all-count [] = refl

@@ -1,6 +1,6 @@
 -- The versions of packages, from the lock file to what is found.
 use Rattle.std.proofs.Common.{◌≡◌, ◌∙◌, ℕ, List, [], ◌∷◌, ◌++◌, Bool, true, false, Option, None, Some, ap, codes, map, refl, sym}
-use Rattle.std.proofs.Common.{if◌then◌else◌, nat_cmp, is_eq, option_and_then, option_map, Less, Equal, Greater}
+use Rattle.std.proofs.Common.{nat_cmp, is_eq, option_and_then, Less, Equal, Greater}
 use Rattle.std.specs.Bool.{MatchBool}
 use Rattle.std.specs.Cmp.Lexicographic.{slice_cmp}
 use Rattle.std.specs.List.{AllByRecursion, AllZip, cons_option, filter_map}
@@ -8,15 +8,15 @@ use Rattle.std.specs.List.Sorted.{IsStrictlySortedBy}
 use Rattle.std.specs.declared.cmp.Ordering.{Ordering}
 use Rattle.serde_json.specs.Data.{Data, Members, member, no_members, object}
 use Rattle.serde_json.specs.Find.{as_str, get, get_member}
-use Rattle.node_semver.specs.Versions.{VersionValue, version_text}
+use Rattle.node_semver.specs.Versions.{VersionValue}
 use Rattle.npm_texts.specs.Lemmas.Keys.{exact, itself}
 use Rattle.npm_texts.specs.ObjectKeys.{keys_of}
 use Rattle.npm_packages.specs.Asked.{AskedValue}
 use Rattle.npm_packages.specs.Folders.{place_in}
 use Rattle.npm_packages.specs.Overrides.{overridden}
 use Rattle.npm_packages.specs.Packages.{IsFound, Package, above, here, is_link, linked_folder, package_at, target_of}
-use Rattle.npm_lock.specs.Findings.{AreDependencyFindings, AreFindings, AreMemberFindings, ArePackageFindings, Finding, IsChecked}
-use Rattle.npm_lock.specs.Findings.{IsDependencyFinding, IsNodeOutcome, dependency, finding_of, of_dependency, of_package}
+use Rattle.npm_lock.specs.Findings.{AreFindings, ArePackageFindings, Finding, IsChecked}
+use Rattle.npm_lock.specs.Findings.{IsDependencyFinding, IsNodeOutcome, dependency, finding_of}
 use Rattle.npm_lock.specs.Findings.{problem_of, unchecked_of}
 use Rattle.npm_lock.specs.Outcomes.{IsEngineOutcome, IsOutcome, JudgementValue, ProblemValue, UncheckedValue}
 use Rattle.npm_lock.specs.Outcomes as Outcomes
@@ -28,7 +28,7 @@ use Rattle.npm_advisories.specs.Audit.{FoundValue, InstalledValue, IsAudit}
 use Rattle.npm_advisories.specs.LockFile as LockFiles
 use Rattle.npm_advisories.specs.LockFile.{AreInstalled, AreInstalledOf}
 use Rattle.npm_advisories.specs.declared.severity.Severity.{Severity}
-use Rattle.npm_lock_reports.specs.VersionLaws.{HasFileVersions, HasNodeVersion, HasVersions, version_in}
+use Rattle.npm_lock_reports.specs.VersionLaws.{HasFileVersions, HasVersions, version_in}
 
 -- ---- members
 

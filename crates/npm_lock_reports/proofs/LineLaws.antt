@@ -4,9 +4,7 @@ use Rattle.std.proofs.Common.{if◌then◌else◌, length, length-append, map, r
 use Rattle.std.proofs.lemmas.List.{append-nil, length-map}
 use Rattle.std.proofs.lemmas.List.Splits.{length-slice_split}
 use Rattle.std.specs.List.{AllByRecursion, AllZip, count_by, slice_split}
-use Rattle.std.specs.Prelude.{IfSome}
 use Rattle.serde_json.specs.Written.{has_float}
-use Rattle.node_semver.specs.Least.{IsLeastOf}
 use Rattle.node_semver.specs.Versions.{IdentifierValue, IsPrerelease, VersionValue}
 use Rattle.npm_lock.specs.Outcomes.{problem_value, unchecked_value}
 use Rattle.npm_manifests.specs.Mismatches.{mismatch_value}
@@ -18,7 +16,7 @@ use Rattle.npm_advisories.specs.declared.severity.Severity.{Severity}
 use Rattle.npm_lock_reports.specs.Report as Reports
 use Rattle.npm_lock_reports.specs.Report.{AreLines, IsHitLine, folder_text, line_text, lines, mismatch_text, one_more}
 use Rattle.npm_lock_reports.specs.Report.{unchecked_text, unread_text}
-use Rattle.npm_lock_reports.specs.ReportLaws.{AreItsLines, IsTextOfAudit, is_newline, its_lines, line_count, listed_count}
+use Rattle.npm_lock_reports.specs.ReportLaws.{AreItsLines, IsTextOfAudit, is_newline, its_lines, line_count}
 use Rattle.npm_lock_reports.specs.ReportLaws.{listed_lines}
 use Rattle.npm_lock_reports.specs.Style.{StyleValue}
 use Rattle.npm_lock_reports.specs.declared.report.Report.{Report}

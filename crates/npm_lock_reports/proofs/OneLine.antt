@@ -6,7 +6,7 @@ use Rattle.std.proofs.lemmas.List.Folds.{list_any-append}
 use Rattle.std.specs.Char.{digit_char}
 use Rattle.std.specs.Fmt.{digit_glyph, digits, digits_onto, signed_decimal}
 use Rattle.std.specs.List.{list_any}
-use Rattle.json.specs.Print.{escape, escape_byte, escape_letter, quoted}
+use Rattle.json.specs.Print.{escape, escape_byte, quoted}
 use Rattle.serde_json.specs.Data.{Data, Items, Members, Num, array, boolean, float, item, member, negative, no_items, no_members}
 use Rattle.serde_json.specs.Data.{null, number, object, string, unsigned}
 use Rattle.serde_json.specs.Written.{comma_if, compact_text, items_text, members_text, number_text}

@@ -1,7 +1,7 @@
 -- Each sentence has no newline, and neither has a JSON object.
 use Rattle.std.proofs.Common.{◌≡◌, ◌++◌, ℕ, List, [], ◌∷◌, Option, None, Some, codes, decimal, refl, false}
-use Rattle.serde_json.specs.Data.{Data, Members, array, boolean, null, number, object, string, unsigned, negative, float}
-use Rattle.serde_json.specs.Written.{compact_text, has_float}
+use Rattle.serde_json.specs.Data.{Data, array, boolean, null, number, object, string, unsigned, negative, float}
+use Rattle.serde_json.specs.Written.{has_float}
 use Rattle.node_semver.specs.Versions.{VersionValue, version_text}
 use Rattle.npm_manifests.specs.Mismatches.{MismatchValue, group_text}
 use Rattle.npm_manifests.specs.MismatchJson.{mismatch_data}

@@ -5,7 +5,7 @@ use Rattle.serde_json.specs.Data.{Data}
 use Rattle.serde_json.specs.Find.{get}
 use Rattle.node_semver.specs.Versions.{VersionValue, version_text}
 use Rattle.npm_lock.specs.Findings.{IsChecked}
-use Rattle.npm_lock.specs.Outcomes.{DependencyValue, ProblemValue, UncheckedValue, problem_value, unchecked_value, version_of}
+use Rattle.npm_lock.specs.Outcomes.{DependencyValue, problem_value, unchecked_value, version_of}
 use Rattle.npm_lock.specs.declared.problem.Kind.{Kind}
 use Rattle.npm_lock.specs.declared.problem.Kind.TheVariants.{Engine}
 use Rattle.npm_lock.specs.declared.problem.Problems.{Problems}

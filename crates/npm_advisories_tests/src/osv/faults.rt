@@ -6,10 +6,10 @@ use std::alloc::Global;
 
 // A text, and its fault: its kind, the first installed package that the advisory is about, if there is one, its place and its
 // id. Those with no fault are read.
-const TEXTS: [(&str, &str); 15] = [
+const TEXTS: [(&str, &str); 19] = [
     ("[1]", "Advisory  0"),
     (
-        r#"[{"id": "O"}, {"id": 1, "affected": [{"package": {"ecosystem": "npm", "name": "a"}}]}]"#,
+        r#"[{"id": "O", "affected": []}, {"id": 1, "affected": [{"package": {"ecosystem": "npm", "name": "a"}}]}]"#,
         "OsvId a 1 1",
     ),
     (
@@ -24,8 +24,16 @@ const TEXTS: [(&str, &str); 15] = [
         r#"{"id": "O", "withdrawn": null, "affected": [{"package": {"ecosystem": "npm", "name": "b"}}]}"#,
         "",
     ),
+    // An object without `affected` may be about any package.
+    (r#"[{"id": "O"}, {"id": 1}]"#, "Affected  0 O"),
+    (r#"[{"id": "O", "affected": []}, {"id": 1}]"#, "OsvId  1 1"),
+    (r#"{"id": "O", "affected": null}"#, "Affected  0 O"),
+    (r#"{"id": "O", "withdrawn": 1}"#, "Withdrawn  0 O"),
     // What is about packages that are not installed is not read: `c` is not, nor is one of another ecosystem.
-    (r#"[{"id": "O"}, {"id": 1}, {"withdrawn": 1}]"#, ""),
+    (
+        r#"[{"id": "O", "affected": []}, {"affected": []}, {"withdrawn": 1, "affected": []}]"#,
+        "",
+    ),
     (
         r#"[{"id": 1, "affected": [{"package": {"ecosystem": "npm", "name": "c"}, "ranges": 1}, {"package": null}]}]"#,
         "",

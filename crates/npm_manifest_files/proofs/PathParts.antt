@@ -1,8 +1,7 @@
 -- The last part of a path, and what comes before it.
 use Rattle.std.proofs.Common.{◌≡◌, ◌==◌, ◌||◌, ◌++◌, ℕ, List, [], ◌∷◌, Bool, true, false, ap, codes, eqb→eq, refl, sym}
 use Rattle.std.specs.Str.Pattern.{RFindsText, SplitsAroundMatch}
-use Rattle.npm_lock.specs.Workspaces.{has_slash}
-use Rattle.npm_manifest_files.specs.Paths.{above_part, folder_of, last_part}
+use Rattle.npm_manifest_files.specs.Paths.{above_part, folder_of, has_slash, last_part}
 use Rattle.npm_manifest_files.proofs.FileFolders.{HasNoSlash, cut_at}
 
 -- ---- a path with a slash

@@ -1,6 +1,9 @@
 -- Parts of a path.
-use Rattle.std.specs.Prelude.{◌==◌, ℕ, List, [], ◌∷◌, if◌then◌else◌, codes}
-use Rattle.npm_lock.specs.Workspaces.{has_slash}
+use Rattle.std.specs.Prelude.{◌==◌, ℕ, Bool, List, [], ◌∷◌, if◌then◌else◌, codes}
+use Rattle.std.specs.List.{list_any}
+
+abbrev pub has_slash : (path : List ℕ) → Bool
+has_slash path = list_any (λ b. b == 47) path
 
 -- what comes after the last `/` of a path: `w` of `/p/w`, and all of `w`
 abbrev pub last_part : (path : List ℕ) → List ℕ

@@ -74,7 +74,8 @@ module _ {R : Type 0} (remaining : R → Option (List ℕ)) (old new : WatchedVa
   refused error (inl (inl (fault, is, told))) = rw is (faulty (NoManifest fault) told)
   refused error (inl (inr (inl (name, fault, is, told)))) = rw is (faulty (NoLinked name fault) told)
   refused error (inl (inr (inr is))) = out error is
-  refused error (inr (inl (kind, name, place, is, told))) = rw is (faulty (NoAdvisories kind name place) told)
+  refused error (inr (inl (kind, name, place, shown, is, told))) =
+      rw is (faulty (NoAdvisories kind name place shown) told)
   refused error (inr (inr (inl (fault, is, told)))) = rw is (faulty (NoLockFile fault) told)
   refused error (inr (inr (inr is))) = out error is
 

@@ -84,7 +84,8 @@ fn shown_fault(
         subject: 0,
         rank: 0,
     };
-    ShownPlace::of_path(alloc, text, path)
+    let shown = ShownPlace::of_path(alloc, text, path)?;
+    Ok(shown)
 }
 
 /// The name and the id of the advisory with a fault.

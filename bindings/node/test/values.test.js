@@ -125,6 +125,49 @@ describe('other values are as with npm', () => {
     }
 });
 
+describe('options that throw as they are read', () => {
+    const make = () => ({ get loose() { throw new RangeError('x'); }, get rtl() { throw new RangeError('x'); } });
+    const calls = {
+        parse: (s, x) => s.parse('1.0.0', x),
+        inc: (s, x) => s.inc('1.0.0', 'minor', x),
+        major: (s, x) => s.major('1.0.0', x),
+        prerelease: (s, x) => s.prerelease('1.0.0-a', x),
+        sort: (s, x) => s.sort(['1.0.0', '1.0.1'].map((text) => new s.SemVer(text)), x),
+        coerce: (s, x) => s.coerce('1', x),
+        validRange: (s, x) => s.validRange('*', x),
+        maxSatisfying: (s, x) => s.maxSatisfying(['1.0.0'], '*', x),
+        minSatisfying: (s, x) => s.minSatisfying(['1.0.0'], '*', x),
+        minVersion: (s, x) => s.minVersion('*', x),
+        toComparators: (s, x) => s.toComparators('*', x),
+        outside: (s, x) => s.outside('1.0.0', '^2', '<', x),
+        gtr: (s, x) => s.gtr('3.0.0', '^2', x),
+        intersects: (s, x) => s.intersects('^1', '^2', x),
+        subset: (s, x) => s.subset('^1', '^1.0', x),
+        SemVer: (s, x) => new s.SemVer('1.0.0', x),
+        Range: (s, x) => new s.Range('^1', x),
+        Comparator: (s, x) => new s.Comparator('>1', x),
+    };
+    for (const [name, call] of Object.entries(calls)) {
+        isAsNpm(name, make, call);
+    }
+    // What npm and this package do otherwise.
+    const others = {
+        valid: ['null', "'1.0.0'", (s, x) => s.valid('1.0.0', x)],
+        clean: ['null', "'1.0.0'", (s, x) => s.clean('1.0.0', x)],
+        compare: ['throws', '-1', (s, x) => s.compare('1.0.0', '1.0.1', x)],
+        compareBuild: ['throws', '-1', (s, x) => s.compareBuild('1.0.0', '1.0.1', x)],
+        cmp: ['throws', 'true', (s, x) => s.cmp('1.0.0', '<', '1.0.1', x)],
+        satisfies: ['false', 'throws', (s, x) => s.satisfies('1.0.0', '*', x)],
+        simplifyRange: ["''", 'throws', (s, x) => s.simplifyRange(['1.0.0'], '^1', x)],
+    };
+    for (const [name, [there, here, call]] of Object.entries(others)) {
+        test(name, () => {
+            assert.strictEqual(outcome(() => call(npm, make())), there);
+            assert.strictEqual(outcome(() => call(semver, make())), here);
+        });
+    }
+});
+
 describe('SemVers are compared as with npm', () => {
     const texts = ['1.2.3', '1.2.3+b', '1.2.3+a', '1.2.3-rc.1+b', '1.2.3-rc.1+a', '1.2.3-rc.01', '1.2.3-10', '1.2.3-9.x',
         '0.9.9', '1.2.3+10', '1.2.3+9', '1.2.3-a.b', '1.2.3-a.-', '1.2.3--', '1.2.3-rc'];

@@ -35,7 +35,7 @@ listed text (one ∷ others) = text one ++ after_comma text others
 abbrev pub word_of : Bool → List ℕ
 word_of value = if value then codes "true" else codes "false"
 
--- what stands between the rules and the results of a run: whether it was successful, section 3.20.14, "executionSuccessful
+-- the text between the rules and the results of a run: whether it was successful, section 3.20.14, "executionSuccessful
 -- property", and that columns count characters, section 3.14.17
 abbrev pub run_text : (is_successful : Bool) → List ℕ
 run_text is_successful = codes "]}},\"invocations\":[{\"executionSuccessful\":" ++ (word_of is_successful

@@ -36,7 +36,7 @@ pub fn push_log(
     out.extend_from_slice(b"]}]}\n")
 }
 
-/// Returns what stands between the rules and the results of a run.
+/// Returns the text between the rules and the results of a run.
 fn run_text(is_successful: bool) -> &'static str
     ensures { result.now ≡ Sarif.run_text is_successful }
 {

@@ -44,7 +44,7 @@ shown_in arguments = last_or None (filter_map (λ argument. meaning about_option
 
 -- ---- faults
 
--- the first fault of arguments after others, where this is what is wrong with an argument after those before it
+-- the first fault of the arguments, which come after others; `fault_of` gives the fault of one argument after those before it
 abbrev pub first_fault : {E : Type 0} → (fault_of : (before : List ArgumentValue) → ArgumentValue → Option E)
     → (before arguments : List ArgumentValue) → Option E
 first_fault fault_of before [] = None

@@ -92,7 +92,7 @@ pub fn is_given<O: Options>(words: &[String], word: &str) -> bool
     false
 }
 
-/// Returns the text about the program that the arguments ask for: that of the last option that names one.
+/// Returns the text about the program that the last option of this kind names, or `None` if there is no such option.
 ///
 /// # Memory
 ///
@@ -109,7 +109,7 @@ pub fn shown_in<O: Options>(words: &[String]) -> Option<Shown>
     shown
 }
 
-/// The text that the word asks for, or else the one before it.
+/// The text that the word names, or else the one before it.
 fn later_shown(before: Option<Shown>, word: &str) -> Option<Shown>
     ensures { result ≡ option_or (Given.meaning Given.about_options word.now) before }
 {
@@ -119,7 +119,7 @@ fn later_shown(before: Option<Shown>, word: &str) -> Option<Shown>
     }
 }
 
-/// The text about the program that the word asks for.
+/// The text about the program that the word names.
 fn shown_by(word: &str) -> Option<Shown>
     ensures { result ≡ Given.meaning Given.about_options word.now }
 {

@@ -2,7 +2,7 @@
 //!
 //! - [`value_of`] returns the last value of an option, [`has_value`] whether a text is one of its values, [`is_given`] whether a
 //!   word is an argument.
-//! - [`shown_in`] returns the text about the program that is asked for, by `--help`, `-h`, `--version` or `-V`.
+//! - [`shown_in`] returns the text about the program that `--help`, `-h`, `--version` or `-V` names.
 #![tactic(auto)]
 
 mod given;

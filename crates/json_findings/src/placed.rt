@@ -10,9 +10,9 @@ use annotations::Finding;
 use json_places::{Path, Place, chosen_places};
 use std::alloc::{AllocError, Global};
 
-/// Returns a finding for each draft, in their order, in this file with this JSON text. The line and the column are those of the
-/// name of the member that the draft's first path names which names one, or of the beginning of the text if no path does. The text is
-/// read once, and not at all if there is no draft.
+/// Returns a finding for each draft, in their order, in this file with this JSON text. Of the draft's paths, the first one that leads
+/// to a member gives the line and the column: those of the member's name. If no path does, they are those of the beginning of the
+/// text. The text is read once, and not at all if there is no draft.
 ///
 /// # Errors
 ///

@@ -14,7 +14,7 @@ impl Part {
     pub const NONE: Part = Part { start: 0, end: 0 };
 }
 
-/// Those of a part whose step at this depth is this one.
+/// The paths of a part that have this step at this depth.
 pub fn narrowed(paths: &[Path<'_>], part: Part, depth: usize, step: Step<'_>) -> Part {
     let start = first_index(
         paths,

@@ -70,7 +70,7 @@ pub(crate) fn compared(path: &Path<'_>, depth: usize, step: Step<'_>) -> Orderin
     }
 }
 
-/// Whether this is the same step. It is never so of a member and an item.
+/// Whether the two steps are the same. A member and an item never are.
 pub(crate) fn is_same_step(one: Step<'_>, other: Step<'_>) -> bool
     ensures { result ≡ true → step_value one.entry ≡ step_value other.entry }
 {

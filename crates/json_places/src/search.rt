@@ -11,8 +11,8 @@ use crate::step_at::is_step_at;
 use json::{Reader, Scratch, Token};
 use std::alloc::{AllocError, Global};
 
-/// Returns the places of what paths lead to, in the order of the paths, which have to be sorted. If a member stands several
-/// times in its object, the last one counts, as when the text is read.
+/// Returns the place of the member or item that each path leads to, in the order of the paths, which have to be sorted. If a name
+/// comes several times in an object, the last one counts, as when the text is read.
 ///
 /// The result has `None` for a path that leads to no value, and for one that is out of order. The place of a member is that of its
 /// name's quotation mark, and the place of an item that of its first byte. The text is read once.
@@ -144,7 +144,7 @@ impl Search {
         }
     }
 
-    /// The position of the next item, if the innermost of what is open is a list.
+    /// The position of the next item, if the innermost open value is a list.
     fn next_position(&mut self) -> Option<usize>
         ensures found { self.new.found ≡ self.old.found }
         ensures last { self.new.last ≡ self.old.last }
@@ -164,7 +164,7 @@ impl Search {
         }
     }
 
-    /// Comes to a member or to an item of what is innermost.
+    /// Comes to a member or to an item of the innermost open value.
     fn enter(
         &mut self,
         text: &str,

@@ -78,7 +78,7 @@ fn begins_value(token: Token<'_>) -> bool
     }
 }
 
-/// Returns whether before this offset stand `[` or a comma, and white space after it or none.
+/// Returns whether `[` or a comma comes before this offset, with nothing or only white space between.
 fn is_after_mark(text: &[u8], offset: usize) -> bool
     requires { offset ≤ length text.now }
     ensures { result ≡ true → IsAfterMark text.now offset }

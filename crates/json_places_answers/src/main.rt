@@ -1,8 +1,8 @@
 //! Finds the places of members and of items in a JSON text, for `.ci/json_places`, which compares them with those of another reader.
 //!
 //! The words are the paths, each a JSON array of names and of positions in one word, sorted. The text is standard input. The program
-//! writes a line for each path: the byte offset, the line and the column of what it leads to, or `none`. It exits with status 2 if it
-//! cannot answer.
+//! writes a line for each path: the byte offset, the line and the column of what it leads to, or `none`. It exits with status 2 after
+//! an error.
 #![tactic(auto)]
 
 use json_places::{Path, Place, Step, places_of};

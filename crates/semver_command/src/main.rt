@@ -1,7 +1,6 @@
 //! npm's command `semver`: writes the valid versions that satisfy all ranges, in order of precedence.
 //!
-//! The exit status is 0 if a version was written, 1 if none is left, and 2 if the program could not do what it was asked
-//! for, with a line on standard error.
+//! The exit status is 0 if a version was written, 1 if none is left, and 2 after an error, with a line on standard error.
 #![tactic(auto)]
 
 ghost use Rattle.std.specs.Prelude.{◌≡◌, IfErr, IfOk, false, true};

@@ -51,7 +51,7 @@ fn array_mark(is_first: bool) -> &'static [u8]
     if is_first { b"[" } else { b"," }
 }
 
-/// What stands after the last element.
+/// The text after the last element.
 fn array_end(is_empty: bool) -> &'static [u8]
     ensures { result.now ≡ array_end is_empty }
 {

@@ -43,7 +43,7 @@ pub record IsPlaceIn (text : List ℕ) (steps : List StepValue) (found : ShownPl
 abbrev pub of_file : ShownPlaceValue
 of_file = record { steps = []; line = 1; column = 1 }
 
--- ---- what is written
+-- ---- how they are written
 
 -- a step: `"packages"`, or `[3]` for the item at position 3
 abbrev pub step_words : StepValue → List ℕ

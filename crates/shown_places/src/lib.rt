@@ -9,5 +9,5 @@ mod step;
 pub use place::ShownPlace;
 pub use step::ShownStep;
 
-/// The result of what fails by memory alone.
+/// The result of a call that fails only if an allocation fails.
 type Result<T, E = std::alloc::AllocError> = std::result::Result<T, E>;

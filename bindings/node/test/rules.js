@@ -2,7 +2,7 @@
 // Where this package differs from npm's `semver`: the rows of the README's table. Each has a predicate of the texts
 // that it is about: `version` of a version text, `range` of a range text as npm trims it, and of its options. It is called
 // with the smallest texts that differ, so it describes those and no more. `calls` are the functions that a row
-// is about, where it is not about all. `example` is a call.
+// is about, where it is not about all. `example` is a call, and `why` the reason, for readers of this file.
 'use strict';
 
 // Whether a text has a number that JavaScript has not, or that npm takes for none.

@@ -34,8 +34,7 @@ const escaped = (text) => text.replaceAll('|', '\\|');
 const value = (result) => `\`${typeof result === 'string' ? `'${escaped(result)}'` : result}\``;
 const quoted = (texts) => texts.map((text) => inspect(text)).join(', ');
 const codeOf = ({ example: [call, ...texts] }) => `${call}(${quoted(texts)})`;
-const row = (rule) => `| ${rule.name} | \`${escaped(codeOf(rule))}\` | ${value(rule.npm)} `
-    + `| ${value(rule.here)} |`;
+const row = (rule) => `${rule.name} | \`${escaped(codeOf(rule))}\` | ${value(rule.npm)} | ${value(rule.here)}`;
 
 const trimmed = (range) => range.trim().split(/\s+/).join(' ');
 
@@ -125,7 +124,7 @@ const plain = (result) => result?.version ?? result ?? null;
 
 function checkReadme() {
     const readme = fs.readFileSync(path.join(__dirname, '../README.md'), 'utf8');
-    const begin = readme.indexOf('| text | call | npm | here |');
+    const begin = readme.indexOf('text | call | npm | here\n');
     const table = readme.slice(begin).split('\n\n')[0].split('\n').slice(2);
     assert.deepStrictEqual(table, rules.map(row));
     const call = (semver, { example }) => plain(semver[example[0]](...example.slice(1)));

@@ -3,9 +3,8 @@
  * The calls that tell a fault, with a fault pointer that may be NULL.
  *
  * The proved calls write the fault through a pointer that is not null. Here a fault that nobody reads takes the place
- * of a null pointer. The Makefile gives the proved calls the names that are declared here.
- *
- * See docs/DECISIONS.md, "A null fault pointer is replaced in C".
+ * of a null pointer: with a pointer that may be null, three bodies would have to be proved by hand. The Makefile gives the
+ * proved calls the names that are declared here.
  */
 #include "node_semver.h"
 

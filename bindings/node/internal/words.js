@@ -1,7 +1,7 @@
 // SPDX-License-Identifier: Apache-2.0
 // The comparators of a range text, in the order of the text, as npm prints them. The text is divided into words here,
-// and the library reads each word: its set has the ends that the comparators of the word have.
-// See docs/DECISIONS.md, "The comparators of a range are made when they are asked for".
+// and the library reads each word: its set has the ends that the comparators of the word have. They are made when they are
+// first asked for.
 'use strict';
 
 const native = require('./native.js');

@@ -1,3 +1,4 @@
 pub mod FullPartial
+pub mod UnpaddedNumbers
 pub mod FullDivision
 pub mod FullMeaning

@@ -67,7 +67,7 @@ fn are_strict(text: &[u8]) -> bool
 
 // `12` and `.3` of `12.3`
 #[inline(always)]
-pub(crate) fn read_number_component(loose: bool, text: &[u8]) -> Result<(Option<u64>, &[u8]), Fault>
+fn read_number_component(loose: bool, text: &[u8]) -> Result<(Option<u64>, &[u8]), Fault>
     ensures read { seen result ≡ Texts.number_component loose text.now }
     ensures sound { IfOk result (λ r. IfSome r.0 (λ n. n ≤ MAX_SAFE_INTEGER)) }
 {

@@ -51,6 +51,13 @@ first_fault fault_of before [] = None
 first_fault fault_of before (argument ∷ rest) =
     option_or (fault_of before argument) (first_fault fault_of (before ++ (argument ∷ [])) rest)
 
+-- what is wrong with an argument after others, where only one of certain words may be given
+abbrev pub fault_after : {E : Type 0} → (is_single : (word : List ℕ) → Bool)
+    → (fault_of : ArgumentValue → (is_single_given : Bool) → Option E) → (before : List ArgumentValue) → ArgumentValue
+    → Option E
+fault_after is_single fault_of before argument =
+    fault_of argument (list_any (λ one. is_single one.word) before)
+
 -- this, unless there is a fault
 abbrev pub ok_unless : {T E : Type 0} → (fault : Option E) → T → Result T E
 ok_unless None value = Ok value

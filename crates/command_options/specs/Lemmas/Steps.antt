@@ -40,3 +40,11 @@ module _ {E : Type 0} (fault_of : (before : List ArgumentValue) → ArgumentValu
   pub fault_here : (fault : E) → fault_of before argument ≡ Some fault
       → first_fault fault_of before (argument ∷ rest) ≡ Some fault
   fault_here fault some = rw some refl
+
+-- the same is wrong with each argument, so the first fault is the same
+pub fault_same : {E : Type 0} (one other : (before : List ArgumentValue) → ArgumentValue → Option E)
+    → ((before : List ArgumentValue) (argument : ArgumentValue) → one before argument ≡ other before argument)
+    → (before arguments : List ArgumentValue) → first_fault one before arguments ≡ first_fault other before arguments
+fault_same one other same before [] = refl
+fault_same one other same before (argument ∷ rest) =
+    rw (same before argument, fault_same one other same (before ++ (argument ∷ [])) rest) refl

@@ -130,7 +130,7 @@ impl Range {
         let bytes = text.as_bytes();
         match read_full(bytes) {
             Some((form, major, minor, patch)) => {
-                Ok(Range::of_set(full_set(form, major, minor, patch)))
+                Ok(Range::of_sets(Sets::One(full_set(form, major, minor, patch))))
             }
             None => match Sets::read(alloc, bytes) {
                 Ok(sets) => Ok(Range { sets }),
@@ -163,7 +163,7 @@ impl Range {
         ensures all { IfOk result (λ r. r ≡ all_cuts ∷ []) }
         ensures holds { IfOk result IsRangeValue }
     {
-        Ok(Range::of_set(Span::between(Cut::Start, Cut::End)))
+        Ok(Range::of_sets(Sets::One(Span::between(Cut::Start, Cut::End))))
     }
 
     /// Returns `true` if the version satisfies the range.
@@ -228,17 +228,6 @@ impl Range {
         ensures { result ≡ sets_seen sets }
     {
         Range { sets }
-    }
-
-    // The range of one set.
-    #[inline(always)]
-    fn of_set(set: Span<EndVersion>) -> Range
-        requires { IsRangeSet set }
-        ensures { result ≡ set ∷ [] }
-    {
-        Range {
-            sets: Sets::One(set),
-        }
     }
 
     // The range of the sets, or `None` if there are none.

@@ -29,12 +29,15 @@ use std::process::ExitCode;
 /// that write fails, the line is lost.
 fn main(rt: HostRuntime) -> ExitCode {
     // The first word is the program's name.
-    let outcome = match env::args(&rt).map(|words| words.count()) {
-        Ok(count) if count > 1 => None,
-        Ok(_) => {
-            let mut reader = Gauge::new(rt.stdin());
-            let mut writer = Gauge::new(rt.stdout());
-            Some(run(rt.alloc(), &mut reader, &mut writer))
+    let outcome = match env::args(&rt) {
+        Ok(words) => {
+            if words.count() > 1 {
+                None
+            } else {
+                let mut reader = Gauge::new(rt.stdin());
+                let mut writer = Gauge::new(rt.stdout());
+                Some(run(rt.alloc(), &mut reader, &mut writer))
+            }
         }
         // The words are copied, so memory may be out here too.
         Err(error) => Some(Err(match error.kind() {

@@ -159,5 +159,8 @@ fn append(text: &mut Vec<u8>, bytes: &[u8]) -> Result<(), RunError>
     ensures appended { OnOk result (text.new.items ≡ text.old.items ++ bytes.now) }
     ensures memory { IfErr result (λ e. e ≡ RunError.Memory) }
 {
-    text.extend_from_slice(bytes).map_err(|_| RunError::Memory)
+    match text.extend_from_slice(bytes) {
+        Ok(()) => Ok(()),
+        Err(_) => Err(RunError::Memory),
+    }
 }

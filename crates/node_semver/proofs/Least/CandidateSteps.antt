@@ -111,8 +111,7 @@ module _ (included : Bool) (Wanted : VersionValue → Type 0) where
   sets-more all k set earlier later lt is tried trial = grind (
     arith,
     more-taken (IsSetTried included Wanted later) all k set lt is
-        (all_map (IsSetTried included Wanted earlier) (IsSetTried included Wanted later)
-        (set-kept earlier later trial.step) (take k all) tried.each) trial.tried,
+        (grind (arith, all_map, set-kept)) trial.tried,
   )
 
   pub ends-more : (end : Ends VersionValue → Cut VersionValue) (sets all : List (Ends VersionValue)) (k : ℕ)
@@ -124,13 +123,8 @@ module _ (included : Bool) (Wanted : VersionValue → Type 0) where
       let Earlier : Ends VersionValue → Type 0 = λ s. IsCutTried included Wanted earlier (end s) in
       let Now : Ends VersionValue → Type 0 = λ s. IsCutTried included Wanted later (end s) in
       record {
-        first = record {
-          best = trial.step.best tried.first.best;
-          each = all_map (IsSetTried included Wanted earlier) (IsSetTried included Wanted later)
-              (set-kept earlier later trial.step) sets tried.first.each;
-        };
+        first = grind (arith, all_map, set-kept);
         each = more-taken Now all k set lt is
-            (all_map Earlier Now
-            (λ s cut. all-kept earlier later trial.step (candidates_at included (end s)) cut) (take k all) tried.each)
+            (grind (arith, all_map, all-kept))
             trial.tried;
       }

@@ -79,14 +79,8 @@ module _ {T : Type 0} {cmp : T → T → Ordering} (o : IsTotalOrder cmp) where
                 is'.left cut (record { lower = inside.lower; upper = below_trans o cut c q.upper short in_q.upper })
           ] in
           (is.greatest wider left
-          (λ cut inside. record {
-            lower = at_most_trans o q.lower p.lower cut early inside.lower;
-            upper = inside.upper;
-          })
-          q.lower (record {
-            lower = at_most_refl o q.lower;
-            upper = at_most-below o q.lower c p.upper in_q.lower in_p.upper;
-          })).lower
+          (grind (arith, at_most_trans))
+          q.lower (grind (arith, at_most_refl, at_most-below))).lower
       | inr late ↦ inl late
     ]
 
@@ -105,10 +99,7 @@ module _ {T : Type 0} {cmp : T → T → Ordering} (o : IsTotalOrder cmp) where
           ] in
           let inside : IsInSpan cmp p p.upper =
           is.greatest wider left
-          (λ cut inside. record {
-            lower = inside.lower;
-            upper = below_trans o cut p.upper q.upper inside.upper less;
-          })
+          (grind (arith, below_trans))
           p.upper (record { lower = inl (rising p is); upper = less }) in
           absurd (below_irrefl o p.upper inside.upper)
     ]
@@ -120,8 +111,7 @@ module _ {T : Type 0} {cmp : T → T → Ordering} (o : IsTotalOrder cmp) where
       lower-same p.lower q.lower
           (at_most-both o p.lower q.lower (lower-reach p q c is is' in_p in_q) (lower-reach q p c is' is in_q in_p))
           is.lower is'.lower,
-      upper-same p.upper q.upper (at_most-both o p.upper q.upper
-          (upper-reach q p c is' is in_q in_p) (upper-reach p q c is is' in_p in_q)) is.upper is'.upper,
+      upper-same p.upper q.upper (grind (arith, at_most-both, upper-reach)) is.upper is'.upper,
     )
 
     -- ---- ascending pieces
@@ -150,11 +140,7 @@ module _ {T : Type 0} {cmp : T → T → Ordering} (o : IsTotalOrder cmp) where
       | inr there ↦ elim ((same q.lower).1 (inl (begins q all'.0))) [
         | inl here ↦ touching p q q.lower all.0 all'.0 here (begins q all'.0)
         | inr back ↦
-            let up = below_trans o q.lower q.upper p.lower (rising q all'.0)
-            (later-above q qs p.lower all'.1 apart' there) in
-            let down = below_trans o p.lower p.upper q.lower (rising p all.0)
-            (later-above p ps q.lower all.1 apart back) in
-            absurd (below_irrefl o p.lower (below_trans o p.lower q.lower p.lower down up))
+            grind (arith, below_trans, rising, later-above, below_irrefl)
       ]
     ]
 
@@ -191,5 +177,4 @@ module _ {T : Type 0} {cmp : T → T → Ordering} (o : IsTotalOrder cmp) where
         λ some. are'.3.all cut (pieces-all_left others one are.0 cut are.3.each some),
         λ some. are.3.all cut (pieces-all_left others one are'.0 cut are'.3.each some),
       )) in
-      let later : are.1 ≡ are'.1 = difference-unique ones others are.1 are'.1 are.4 are'.4 in
-      are.2 ∙ (λ i. pieces i ++ later i) ∙ sym are'.2
+      grind (arith, difference-unique ones others are.1 are'.1 are.4 are'.4)

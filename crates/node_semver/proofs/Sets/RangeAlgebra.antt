@@ -63,16 +63,7 @@ module _ (v : VersionValue) where
       let Together : Ends VersionValue → Ends VersionValue → Type 0 = λ one other. Admit (one ∷ other ∷ []) v in
       let Shares : Ends VersionValue → Ends VersionValue → Type 0 =
       λ one other. HaveCommonCut version_cmp one other × Admits (common_ends version_cmp one other) in
-      let some = common_spans-some version_total Admits ones others in (
-        λ admits. any-map (λ one. AnyByRecursion (Shares one) others) (λ one. AnyByRecursion (Together one) others)
-            (λ one. any-map (Shares one) (Together one) (λ other shares. (pair-admits one other).1 shares.1) others)
-            ones (some.0 admits),
-        λ together. some.1
-            (any-map (λ one. AnyByRecursion (Together one) others) (λ one. AnyByRecursion (Shares one) others)
-            (λ one. any-map (Together one) (Shares one)
-            (λ other admit. ((Before v, admit.inside.0, admit.inside.1.0), (pair-admits one other).0 admit)) others)
-            ones together),
-      )
+      let some = common_spans-some version_total Admits ones others in grind (arith, any-map, pair-admits)
 
 -- and a release exactly where both do
 pub common-releases : (ones others : List (Ends VersionValue)) (v : VersionValue) → ¬ IsPrerelease v

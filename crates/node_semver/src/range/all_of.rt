@@ -63,7 +63,13 @@ impl<'a, A: Admits> AllOf<'a, A> {
     pub fn satisfies<V: AsVersion>(&self, version: &V) -> bool
         ensures { IsTrue result ↔ AllAdmit A.admits self.now (V.seen version.now) }
     {
-        each_admits(self.ranges, version)
+        let ranges = self.ranges;
+        'each: for range in ranges {
+            if !range.admits_version(version) {
+                return false;
+            }
+        }
+        true
     }
 
     /// Returns the greatest version of the list that satisfies each of the ranges, or `None` if none does. Of equal
@@ -107,18 +113,6 @@ impl<'a, A: Admits> AllOf<'a, A> {
     {
         least_admitted(versions, self)
     }
-}
-
-// Whether each of the ranges admits the version.
-fn each_admits<A: Admits, V: AsVersion>(ranges: &[A], version: &V) -> bool
-    ensures { IsTrue result ↔ AllAdmit A.admits ranges.now (V.seen version.now) }
-{
-    'each: for range in ranges {
-        if !range.admits_version(version) {
-            return false;
-        }
-    }
-    true
 }
 
 /// What [`Version::satisfies`](crate::Version::satisfies) checks: `version.satisfies(&AllOf::new(&ranges))`.

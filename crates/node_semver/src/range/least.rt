@@ -2,7 +2,7 @@
 //!
 //! `#[inline(always)]`: the usual range has one set that begins just before a release, and its result is then a few
 //! tests and a copy of three numbers. `#[inline(never)]` keeps all else, with its stack, out of that way.
-ghost use Rattle.std.specs.Prelude.{◌≡◌, ◌↔◌, Bool, Some, IsFalse, IsTrue, IfOk, IfSome, IsNone};
+ghost use Rattle.std.specs.Prelude.{◌≡◌, ◌↔◌, Bool, Some, IfOk, IfSome, IsNone};
 ghost use Rattle.std.specs.List.{AllByRecursion};
 ghost use Rattle.semver_texts.specs.Identifier.{values_of};
 ghost use Rattle.semver_sets.specs.RangeSets.{IsRangeSet};
@@ -139,19 +139,13 @@ fn keep_least<'a>(least: &mut Option<Unbuilt<'a>>, set: &'a Span<EndVersion>, in
 fn keep_lesser_end<'a>(least: &mut Option<Unbuilt<'a>>, end: &'a EndVersion)
     ensures { IsLesser least.old (Some end.now) least.new }
 {
-    if is_end_lesser(end, least) {
-        *least = Some(Unbuilt::at_end(end));
-    }
-}
-
-#[inline(always)]
-fn is_end_lesser(end: &EndVersion, least: &Option<Unbuilt<'_>>) -> bool
-    ensures taken { IsTrue result → IsLesser least.now (Some end.now) (Some end.now) }
-    ensures left { IsFalse result → IsLesser least.now (Some end.now) least.now }
-{
-    match least {
-        Some(least) => least.is_above(end),
-        None => true,
+    match &*least {
+        Some(found) => {
+            if found.is_above(end) {
+                *least = Some(Unbuilt::at_end(end));
+            }
+        }
+        None => *least = Some(Unbuilt::at_end(end)),
     }
 }
 
@@ -169,20 +163,14 @@ fn keep_least_inside<'a>(least: &mut Option<Unbuilt<'a>>, set: &'a Span<EndVersi
 fn keep_lesser<'a>(least: &mut Option<Unbuilt<'a>>, later: Option<Unbuilt<'a>>)
     ensures { IsLesser least.old later.entry least.new }
 {
-    if is_lesser(&later, least) {
-        *least = later;
-    }
-}
-
-#[inline(always)]
-fn is_lesser(later: &Option<Unbuilt<'_>>, least: &Option<Unbuilt<'_>>) -> bool
-    ensures taken { IsTrue result → IsLesser least.now later.now later.now }
-    ensures left { IsFalse result → IsLesser least.now later.now least.now }
-{
-    match (later, least) {
-        (Some(later), Some(least)) => later.is_below(least),
-        (Some(_), None) => true,
-        (None, _) => false,
+    match (&later, &*least) {
+        (Some(found), Some(best)) => {
+            if found.is_below(best) {
+                *least = later;
+            }
+        }
+        (Some(_), None) => *least = later,
+        (None, _) => {}
     }
 }
 

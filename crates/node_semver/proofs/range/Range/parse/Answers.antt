@@ -10,8 +10,8 @@ use Rattle.node_semver.proofs.range.Range.parse.Goals as goal
 pub returns-in-Some : goal.returns-in-Some
 returns-in-Some c =
     full-read c.a_text_means_its_sets.ensures c.prints_are_read_back.ensures c.args.text.now _ _ _ _ _
-    c.full_set.result c.of_set.result c.as_bytes-bytes.ensures.value c.in-Some.ensures c.full_set.ensures
-    c.of_set.ensures
+    c.full_set.result c.of_sets.result c.as_bytes-bytes.ensures.value c.in-Some.ensures c.full_set.ensures
+    c.of_sets.ensures
 
 -- any other text
 pub returns-in-Ok : goal.returns-in-Ok

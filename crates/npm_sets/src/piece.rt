@@ -1,5 +1,5 @@
 //! Reading one piece of a range text: nothing, a hyphen range, or words. Comparators are merged as they are read.
-ghost use Rattle.std.specs.Prelude.{◌≡◌, IfSome, None};
+ghost use Rattle.std.specs.Prelude.{◌≡◌, IfSome, None, Some};
 ghost use Rattle.semver_texts.specs.Characters.{BeginsWith, BeginsWithNo};
 ghost use Rattle.semver_texts.specs.Reading.{begins, is_hyphen};
 ghost use Rattle.npm_sets.specs.NpmMeaning as Meaning;
@@ -126,6 +126,16 @@ pub(crate) fn read_hyphen(text: &[u8], options: NpmOptions) -> Option<WordEnds>
         return None;
     }
     let (left, right) = split_sides(text)?;
+    read_sides(left, right, options)
+}
+
+// The ends of the hyphen range with these sides, if both are partials. With this function between, the toolchain clears
+// the places of both only if there are two sides.
+#[inline(always)]
+fn read_sides<'a>(left: &'a [u8], right: &'a [u8], options: NpmOptions) -> Option<WordEnds<'a>>
+    ensures read { hyphen_seen result ≡ Meaning.hyphen_range options (Some (left.now, right.now)) }
+    ensures small { IfSome result (λ ends. AreSmallEnds ends) }
+{
     let Ok(left) = read_side(options.loose, left) else {
         return None;
     };

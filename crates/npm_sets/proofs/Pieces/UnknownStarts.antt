@@ -11,7 +11,7 @@ use Rattle.semver_sets.specs.Comparator.{Comparator}
 use Rattle.npm_sets.specs.NpmMeaning.{alone_or, comparators_of, hyphen_range, piece_comparators, word_comparator}
 use Rattle.npm_sets.specs.PartialTexts.{partial_of}
 use Rattle.npm_sets.specs.Private.ReadViews.{begins_comparator}
-use Rattle.npm_sets.specs.Private.RefusedViews.{IsEndOf, IsPieceEnd}
+use Rattle.npm_sets.specs.Private.RefusedViews.{IsPieceEnd}
 use Rattle.npm_sets.specs.WordTexts.{Word, begins_component, chunks_of, ended, ending_of, is_joined, is_mark, is_solid}
 use Rattle.npm_sets.specs.WordTexts.{is_space, lead_of, sides_of, word_and, words_from, words_of}
 use Rattle.npm_sets.specs.declared.options.NpmOptions.{NpmOptions}

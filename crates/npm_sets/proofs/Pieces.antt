@@ -6,3 +6,4 @@ pub mod PieceDivision
 pub mod SetMeaning
 pub mod TextReading
 pub mod OnePiece
+pub mod UnknownStarts

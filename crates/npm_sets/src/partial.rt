@@ -193,6 +193,7 @@ fn read_components(loose: bool, text: &[u8]) -> Result<(Partial, &[u8]), Fault>
 // ---- the whole operand
 
 // The partial that a whole operand is: `v1.2.x`
+#[inline(always)]
 #[tactic(auto, unfolding(crate::specs::PartialTexts::partial_of))]
 pub(crate) fn read_partial(loose: bool, text: &[u8]) -> Result<Partial, Fault>
     ensures read { result_seen result ≡ Texts.partial_of loose text.now }
@@ -206,4 +207,13 @@ pub(crate) fn read_partial(loose: bool, text: &[u8]) -> Result<Partial, Fault>
         return Err(Fault::TooLong(text.len()));
     }
     Ok(partial)
+}
+
+// The same for the sides of a hyphen range, and for a text that was refused. `inline(never)`: they are few.
+#[inline(never)]
+pub(crate) fn read_side(loose: bool, text: &[u8]) -> Result<Partial, Fault>
+    ensures read { result_seen result ≡ Texts.partial_of loose text.now }
+    ensures sound { IfOk result IsSound }
+{
+    read_partial(loose, text)
 }

@@ -1,14 +1,14 @@
 //! Reading one piece of a range text: nothing, a hyphen range, or words. Comparators are merged as they are read.
-ghost use Rattle.std.specs.Prelude.{◌≡◌, IfSome, None};
+ghost use Rattle.std.specs.Prelude.{◌≡◌, IfSome, None, Some};
 ghost use Rattle.semver_texts.specs.Characters.{BeginsWith, BeginsWithNo};
 ghost use Rattle.semver_texts.specs.Reading.{begins, is_hyphen};
 ghost use Rattle.npm_sets.specs.NpmMeaning as Meaning;
 ghost use Rattle.npm_sets.specs.WordTexts as Texts;
 ghost use Rattle.npm_sets.specs.Private.ReadViews.{AreSmallEnds, IsRead, IsWordRead};
-ghost use Rattle.npm_sets.specs.Private.ReadViews.{hyphen_seen, is_sign, sides_seen};
+ghost use Rattle.npm_sets.specs.Private.ReadViews.{begins_comparator, hyphen_seen, is_sign, sides_seen};
 
 use crate::NpmOptions;
-use crate::partial::read_partial;
+use crate::partial::{read_partial, read_side};
 use crate::rows::{hyphen_ends, lead_ends};
 use crate::words::{Lead, read_word, skip_space, split_chunk};
 use semver_cuts::Cut;
@@ -17,6 +17,21 @@ use semver_sets::read::alternative::CommonSpan;
 use semver_sets::word::ends::WordEnds;
 use semver_texts::parse::Fault;
 use std::alloc::Global;
+
+// Returns `false` only if no comparator begins with the first character. In strict form such a text is refused at once, and
+// not divided into words.
+#[inline(always)]
+pub(crate) fn begins_comparator(text: &[u8]) -> bool
+    ensures { result ≡ begins begins_comparator text.now }
+{
+    match text {
+        [
+            b'0'..=b'9' | b'<'..=b'>' | b'^' | b'~' | b'v' | b'x' | b'X' | b'*',
+            ..
+        ] => true,
+        _ => false,
+    }
+}
 
 // Merges the comparators of a piece. Returns `true` if there are any.
 pub(crate) fn merge_piece(
@@ -32,6 +47,9 @@ pub(crate) fn merge_piece(
     if text.is_empty() {
         common.narrow_to(Cut::Start, Cut::End);
         return Ok(true);
+    }
+    if !options.loose && !begins_comparator(text) {
+        return Err(Unread::Refused);
     }
     match read_hyphen(text, options) {
         Some(ends) => {
@@ -108,10 +126,20 @@ pub(crate) fn read_hyphen(text: &[u8], options: NpmOptions) -> Option<WordEnds>
         return None;
     }
     let (left, right) = split_sides(text)?;
-    let Ok(left) = read_partial(options.loose, left) else {
+    read_sides(left, right, options)
+}
+
+// The ends of the hyphen range with these sides, if both are partials. With this function between, the toolchain clears
+// the places of both only if there are two sides.
+#[inline(always)]
+fn read_sides<'a>(left: &'a [u8], right: &'a [u8], options: NpmOptions) -> Option<WordEnds<'a>>
+    ensures read { hyphen_seen result ≡ Meaning.hyphen_range options (Some (left.now, right.now)) }
+    ensures small { IfSome result (λ ends. AreSmallEnds ends) }
+{
+    let Ok(left) = read_side(options.loose, left) else {
         return None;
     };
-    let Ok(right) = read_partial(options.loose, right) else {
+    let Ok(right) = read_side(options.loose, right) else {
         return None;
     };
     Some(hyphen_ends(options.include_prerelease, left, right))

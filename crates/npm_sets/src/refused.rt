@@ -10,8 +10,8 @@ ghost use Rattle.npm_sets.specs.Private.ReadViews.{some_seen};
 ghost use Rattle.npm_sets.specs.Private.RefusedViews.{IsPieceEnd, IsPlace, IsWordsEnd};
 
 use crate::NpmOptions;
-use crate::partial::read_partial;
-use crate::piece::read_hyphen;
+use crate::partial::read_side;
+use crate::piece::{begins_comparator, read_hyphen};
 use crate::spaces::{length_before, with_plain_spaces};
 use crate::words::{read_word, skip_space};
 use semver_sets::read::first_piece;
@@ -76,6 +76,9 @@ fn refused_end(piece: &[u8], options: NpmOptions) -> Option<&[u8]>
     if text.is_empty() {
         return None;
     }
+    if !begins_comparator(text) {
+        return Some(text);
+    }
     match read_hyphen(text, options) {
         Some(_) => None,
         None => refused_word(piece, options),
@@ -101,7 +104,7 @@ fn refused_word(piece: &[u8], options: NpmOptions) -> Option<&[u8]>
 fn is_comparator(operand: &[u8], options: NpmOptions) -> bool
     ensures { (lead : Lead) → result ≡ is_ok (word_comparator options (lead, operand.now)) }
 {
-    read_partial(options.loose, operand).is_ok()
+    read_side(options.loose, operand).is_ok()
 }
 
 /// A text is refused at one place at most in strict form, and a text with such a place is refused.

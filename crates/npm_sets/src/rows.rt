@@ -122,6 +122,7 @@ fn has_prerelease(extras: &[u8]) -> bool
 }
 
 // `1.2.3`, `1.2`, `1`, `*`
+#[inline(always)]
 fn equal_ends(pre: bool, partial: Partial) -> WordEnds
     requires { IsSound partial }
     ensures ends { let p = partial_seen partial.entry in
@@ -145,6 +146,7 @@ fn equal_ends(pre: bool, partial: Partial) -> WordEnds
 }
 
 // `>=1.2.3`, `>=1.2`, `>=1`, `>=*`
+#[inline(always)]
 fn at_least_ends(pre: bool, partial: Partial) -> WordEnds
     requires { IsSound partial }
     ensures ends { let p = partial_seen partial.entry in
@@ -162,6 +164,7 @@ fn at_least_ends(pre: bool, partial: Partial) -> WordEnds
 }
 
 // `>1.2.3`, `>1.2`, `>1`, `>*`
+#[inline(always)]
 fn above_ends(pre: bool, partial: Partial) -> WordEnds
     requires { IsSound partial }
     ensures ends { let p = partial_seen partial.entry in
@@ -180,6 +183,7 @@ fn above_ends(pre: bool, partial: Partial) -> WordEnds
 }
 
 // `<1.2.3`, `<1.2`, `<1`, `<*`
+#[inline(always)]
 fn below_ends(partial: Partial) -> WordEnds
     requires { IsSound partial }
     ensures ends { let p = partial_seen partial.entry in
@@ -198,6 +202,7 @@ fn below_ends(partial: Partial) -> WordEnds
 }
 
 // `<=1.2.3`, `<=1.2`, `<=1`, `<=*`
+#[inline(always)]
 fn at_most_ends(partial: Partial) -> WordEnds
     requires { IsSound partial }
     ensures ends { let p = partial_seen partial.entry in
@@ -216,6 +221,7 @@ fn at_most_ends(partial: Partial) -> WordEnds
 }
 
 // `~1.2.3`, `~1.2`, `~1`, `~*`
+#[inline(always)]
 fn tilde_ends(partial: Partial) -> WordEnds
     requires { IsSound partial }
     ensures ends { let p = partial_seen partial.entry in
@@ -236,6 +242,7 @@ fn tilde_ends(partial: Partial) -> WordEnds
 }
 
 // `^1.2.3`, `^1.2`, `^1`, `^*`, `^0.2.3`, `^0.0.3`, `^0.2`, `^0`
+#[inline(always)]
 fn caret_ends(pre: bool, partial: Partial) -> WordEnds
     requires { IsSound partial }
     ensures ends { let p = partial_seen partial.entry in
@@ -317,6 +324,7 @@ fn right_cut(pre: bool, partial: Partial) -> WordCut
 // ---- partials
 
 // The ends of the comparator that a lead and a partial give.
+#[inline(always)]
 pub(crate) fn lead_ends<'a>(pre: bool, lead: Lead, partial: Partial<'a>) -> WordEnds<'a>
     requires { IsSound partial }
     ensures ends { ends_seen result ≡ Rows.lead_comparator pre lead (partial_seen partial.entry) }

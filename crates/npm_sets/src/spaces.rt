@@ -20,12 +20,22 @@ use std::alloc::{AllocError, Global};
 /// # Memory
 ///
 /// As [`read_npm`]. A text that is not in ASCII is copied.
+// `inline(always)`: it has one caller, and its sets are built in the place of that caller's result.
+#[inline(always)]
 pub fn read_npm_text(alloc: Global, text: &str, options: NpmOptions) -> Result<Sets, Unread>
     ensures { IsNpmAnswer options (with_plain_spaces text.now) result }
 {
     if text.is_ascii() {
         return read_npm(alloc, text.as_bytes(), options);
     }
+    read_other(alloc, text, options)
+}
+
+// Calls `read_wide`. With this function between, the toolchain clears the place of its result only if it is called.
+#[inline(always)]
+fn read_other(alloc: Global, text: &str, options: NpmOptions) -> Result<Sets, Unread>
+    ensures { IsNpmAnswer options (with_plain_spaces text.now) result }
+{
     read_wide(alloc, text, options)
 }
 

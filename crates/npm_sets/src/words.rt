@@ -43,7 +43,8 @@ fn is_space(byte: u8) -> bool
 fn is_solid(byte: u8) -> bool
     ensures { result ≡ Texts.is_solid byte }
 {
-    !is_space(byte)
+    // Most bytes are above the space.
+    byte > b' ' || !is_space(byte)
 }
 
 // `1.2` of ` 1.2`

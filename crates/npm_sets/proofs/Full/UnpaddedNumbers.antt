@@ -1,6 +1,6 @@
 -- Numbers without a leading zero: they are read alike in strict and in loose form.
-use Rattle.std.proofs.Common.{◌≡◌, ◌<◌, ◌≤◌, ◌-◌, ℕ, Bool, false, List, [], ◌∷◌, Ok, arith, drop, get_or, inl, inr, length}
-use Rattle.std.proofs.Common.{refl, sym, take}
+use Rattle.std.proofs.Common.{◌≡◌, ◌∙◌, ◌<◌, ◌≤◌, ◌-◌, ℕ, Bool, false, List, [], ◌∷◌, Ok, ap, arith, drop, get_or, inl, inr}
+use Rattle.std.proofs.Common.{length, refl, subst, sym, take}
 use Rattle.std.proofs.lemmas.List.{take_all}
 use Rattle.std.proofs.lemmas.Bool.{cases_Bool}
 use Rattle.semver_texts.specs.Characters.{BeginsWithNo, dot, is_digit}
@@ -30,18 +30,35 @@ pub zero-before : (loose : Bool) (rest : List ℕ) → BeginsWithNo is_digit res
 zero-before loose rest ends =
     plain-before loose (48 ∷ rest) rest 0 (zero-alone rest ends) (sym (number-again (48 ∷ []) rest 0 zero-number ends))
 
--- a zero before a dot, as bytes
-pub zero-dotted : (text : List ℕ) → 2 ≤ length text → get_or text 0 0 ≡ 48 → get_or text 1 0 ≡ 46 → (loose : Bool)
-    → IsNumberBefore loose text 0 (dot ∷ take (length text - 2) (drop 2 text))
-zero-dotted [] some first second loose = absurd (omega arith)
-zero-dotted (a ∷ []) some first second loose = absurd (omega arith)
-zero-dotted (a ∷ b ∷ rest) some first second loose =
-    let n : length (a ∷ b ∷ rest) - 2 ≡ length rest = omega arith in
-    rw (first, second, n, take_all (length rest) rest (omega arith)) (zero-before loose (dot ∷ rest) refl)
+-- ---- as bytes
+
+-- the text after its first character
+abbrev pub after : List ℕ → List ℕ
+after text = take (length text - 1) (drop 1 text)
+
+first-then : (text : List ℕ) (b : ℕ) → 1 ≤ length text → get_or text 0 0 ≡ b → text ≡ b ∷ after text
+first-then [] b some is = absurd (omega arith)
+first-then (a ∷ rest) b some is =
+    let n : length (a ∷ rest) - 1 ≡ length rest = omega arith in
+    rw (is, n, take_all (length rest) rest (omega arith)) refl
+
+none-left : (text : List ℕ) → length text < 1 → text ≡ []
+none-left [] short = refl
+none-left (b ∷ text) short = absurd (omega arith)
+
+-- a zero before a dot
+pub zero-dotted : (text : List ℕ) → 1 ≤ length text → get_or text 0 0 ≡ 48 → 1 ≤ length (after text)
+    → get_or (after text) 0 0 ≡ 46 → (loose : Bool) → IsNumberBefore loose text 0 (dot ∷ after (after text))
+zero-dotted text some first more second loose =
+    let whole : text ≡ 48 ∷ dot ∷ after (after text) =
+    first-then text 48 some first ∙ ap (λ (l : List ℕ). 48 ∷ l) (first-then (after text) 46 more second) in
+    subst (λ (t : List ℕ). IsNumberBefore loose t 0 (dot ∷ after (after text))) (sym whole)
+    (zero-before loose (dot ∷ after (after text)) refl)
 
 -- a zero and nothing else
-pub zero-last : (text : List ℕ) → 1 ≤ length text → length text < 2 → get_or text 0 0 ≡ 48 → (loose : Bool)
+pub zero-last : (text : List ℕ) → 1 ≤ length text → get_or text 0 0 ≡ 48 → length (after text) < 1 → (loose : Bool)
     → IsNumberBefore loose text 0 []
-zero-last [] some short first loose = absurd (omega arith)
-zero-last (a ∷ []) some short first loose = rw first (zero-before loose [] tt)
-zero-last (a ∷ b ∷ rest) some short first loose = absurd (omega arith)
+zero-last text some first none loose =
+    let whole : text ≡ 48 ∷ [] =
+    first-then text 48 some first ∙ ap (λ (l : List ℕ). 48 ∷ l) (none-left (after text) none) in
+    subst (λ (t : List ℕ). IsNumberBefore loose t 0 []) (sym whole) (zero-before loose [] tt)

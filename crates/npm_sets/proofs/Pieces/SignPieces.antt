@@ -8,7 +8,7 @@ use Rattle.semver_texts.specs.Lemmas.Public.{rest_of-none}
 use Rattle.semver_texts.specs.Reading.{begins, is_hyphen, missing, prefix_of, read_number}
 use Rattle.npm_sets.specs.NpmMeaning.{hyphen_range}
 use Rattle.npm_sets.specs.PartialTexts.{partial_of}
-use Rattle.npm_sets.specs.WordTexts.{chunks_of, is_dash, is_mark, is_solid, sides_of}
+use Rattle.npm_sets.specs.WordTexts.{begins_component, chunks_of, is_dash, is_mark, is_solid, sides_of}
 use Rattle.npm_sets.specs.declared.options.NpmOptions.{NpmOptions}
 use Rattle.npm_sets.specs.Private.ReadViews.{is_sign}
 use Rattle.npm_sets.proofs.Chunks.ChunkLemmas.{chunk-first, prefix-step}
@@ -16,32 +16,40 @@ use Rattle.npm_sets.proofs.Chunks.ChunkLemmas.{chunk-first, prefix-step}
 sign-no_mark : (b : ℕ) → is_sign b ≡ true → is_mark b ≡ false
 sign-no_mark b sign = grind (arith, nat_tests)
 
-sign-no_x : (b : ℕ) → is_sign b ≡ true → is_x b ≡ false
-sign-no_x b sign = grind (arith, nat_tests)
-
-sign-no_zero : (b : ℕ) → is_sign b ≡ true → (b == 48) ≡ false
-sign-no_zero b sign = grind (arith, nat_tests)
-
-sign-no_digit : (b : ℕ) → is_sign b ≡ true → is_digit b ≡ false
-sign-no_digit b sign = grind (arith, nat_tests)
+sign-no_component : (b : ℕ) → is_sign b ≡ true → begins_component b ≡ false
+sign-no_component b sign = grind (arith, nat_tests)
 
 sign-solid : (b : ℕ) → is_sign b ≡ true → is_solid b ≡ true
 sign-solid b sign = grind (arith, nat_tests)
 
-sign-no_partial : (loose : Bool) (b : ℕ) (rest : List ℕ) → is_sign b ≡ true
+no-x : (b : ℕ) → begins_component b ≡ false → is_x b ≡ false
+no-x b h = grind (arith, nat_tests)
+
+no-zero : (b : ℕ) → begins_component b ≡ false → (b == 48) ≡ false
+no-zero b h = grind (arith, nat_tests)
+
+no-digit : (b : ℕ) → begins_component b ≡ false → is_digit b ≡ false
+no-digit b h = grind (arith, nat_tests)
+
+-- what begins with no mark and no component is no partial
+pub no-partial : (loose : Bool) (b : ℕ) (rest : List ℕ) → is_mark b ≡ false → begins_component b ≡ false
     → partial_of loose (b ∷ rest) ≡ missing (b ∷ rest)
 unfolding partial_of read_number
-sign-no_partial true b rest sign = rw (
-  rest_of-none is_mark (b ∷ rest) (sign-no_mark b sign),
-  sign-no_x b sign,
-  sign-no_digit b sign,
+no-partial true b rest mark other = rw (
+  rest_of-none is_mark (b ∷ rest) mark,
+  no-x b other,
+  no-digit b other,
 ) refl
-sign-no_partial false b rest sign = rw (
-  rest_of-none is_mark (b ∷ rest) (sign-no_mark b sign),
-  sign-no_x b sign,
-  sign-no_zero b sign,
-  sign-no_digit b sign,
+no-partial false b rest mark other = rw (
+  rest_of-none is_mark (b ∷ rest) mark,
+  no-x b other,
+  no-zero b other,
+  no-digit b other,
 ) refl
+
+sign-no_partial : (loose : Bool) (b : ℕ) (rest : List ℕ) → is_sign b ≡ true
+    → partial_of loose (b ∷ rest) ≡ missing (b ∷ rest)
+sign-no_partial loose b rest sign = no-partial loose b rest (sign-no_mark b sign) (sign-no_component b sign)
 
 no-sides : (options : NpmOptions) (b : ℕ) (rest : List ℕ) (chunks : List (List ℕ)) → is_sign b ≡ true
     → hyphen_range options (sides_of ((b ∷ rest) ∷ chunks)) ≡ None

@@ -20,6 +20,7 @@ use Rattle.semver_sets.specs.declared.read.Unread.{Unread}
 use Rattle.semver_sets.specs.declared.read.Unread.TheVariants.{OutOfMemory, Refused}
 use Rattle.npm_sets.specs.NpmMeaning.{is_unknown}
 use Rattle.npm_sets.specs.PartialTexts.{number_component}
+use Rattle.npm_sets.specs.WordTexts.{begins_component, is_mark}
 use Rattle.semver_sets.specs.declared.word.ends.WordEnds.{WordEnds}
 use Rattle.semver_sets.specs.declared.word.ends.WordCut.{WordCut}
 use Rattle.semver_sets.specs.declared.word.ends.WordCut.TheVariants as WordCuts
@@ -41,6 +42,10 @@ result_seen (Err fault) = Err fault
 -- `>`, `<`, `~` and `^`: with these begins no partial
 abbrev pub is_sign : ℕ → Bool
 is_sign b = (b == 62) || (b == 60) || (b == tilde) || (b == caret)
+
+-- with every other character begins no word that is a comparator
+abbrev pub begins_comparator : ℕ → Bool
+begins_comparator b = begins_component b || is_mark b || is_sign b
 
 -- a text that is there or not
 abbrev pub some_seen : Option (Bor (List ℕ)) → Option (List ℕ)

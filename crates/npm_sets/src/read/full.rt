@@ -31,8 +31,10 @@ fn read_dotted(text: &[u8]) -> Option<(u64, &[u8])>
     ensures limit { IfSome result (λ r. r.0 ≤ MAX_SAFE_INTEGER) }
 {
     match text {
-        [b'0', b'.', rest @ ..] => Some((0, rest)),
-        [b'0', ..] => None,
+        [b'0', others @ ..] => match others {
+            [b'.', rest @ ..] => Some((0, rest)),
+            _ => None,
+        },
         _ => match read_number(text) {
             Ok((number, [b'.', rest @ ..])) => Some((number, rest)),
             _ => None,
@@ -47,8 +49,10 @@ fn read_last(text: &[u8]) -> Option<u64>
     ensures limit { IfSome result (λ number. number ≤ MAX_SAFE_INTEGER) }
 {
     match text {
-        [b'0'] => Some(0),
-        [b'0', ..] => None,
+        [b'0', others @ ..] => match others {
+            [] => Some(0),
+            _ => None,
+        },
         _ => match read_number(text) {
             Ok((number, [])) => Some(number),
             _ => None,

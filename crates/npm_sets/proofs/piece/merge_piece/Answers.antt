@@ -4,9 +4,10 @@ use Rattle.semver_sets.specs.Comparator.{Comparator}
 use Rattle.semver_sets.specs.Merging.{all_cuts}
 use Rattle.npm_sets.specs.NpmMeaning.{alone_or, piece_comparators}
 use Rattle.semver_sets.specs.WordEnds.{ends_seen}
-use Rattle.npm_sets.proofs.Chunks.ChunkLemmas.{left-solid, no-bytes_told, solid-told}
+use Rattle.npm_sets.proofs.Chunks.ChunkLemmas.{left-solid, no-bytes_told, not-true, solid-told}
 use Rattle.npm_sets.proofs.Pieces.EndBounds.{small-read}
 use Rattle.npm_sets.proofs.Pieces.PieceReading.{all-bounded, one-read, piece-empty, piece-words}
+use Rattle.npm_sets.proofs.Pieces.UnknownStarts.{unknown-piece}
 use Rattle.npm_sets.proofs.Pieces.WordReading.{text_comparators}
 use Rattle.npm_sets.proofs.piece.merge_piece.Goals as goal
 
@@ -19,6 +20,15 @@ returns-then-is_empty c =
     c.narrow_to.ensures all-bounded
     (piece-empty options piece text c.skip_space-text.ensures
     (no-bytes_told text c.is_empty.result c.is_empty.ensures c.if-is_empty.true))
+
+pub returns-then-not-begins_comparator : goal.returns-then-not-begins_comparator
+returns-then-not-begins_comparator c =
+    let text = c.skip_space-text.result.now in
+    unknown-piece c.args.options c.args.piece.now text (not-true c.args.options.loose c.if-not-options.true)
+    c.skip_space-text.ensures
+    (solid-told text c.is_empty.result c.is_empty.ensures c.if-is_empty.false
+    (left-solid c.args.piece.now text c.skip_space-text.ensures))
+    (sym c.begins_comparator.ensures ∙ c.if-not-begins_comparator.true)
 
 pub read_hyphen-requires : goal.read_hyphen-requires
 read_hyphen-requires c = grind (arith, solid-told, left-solid)

@@ -1,6 +1,8 @@
+use Rattle.std.proofs.Common.{◌∙◌, sym}
 use Rattle.npm_sets.specs.Private.ReadViews.{some_seen}
 use Rattle.semver_sets.specs.WordEnds.{ends_seen}
 use Rattle.npm_sets.proofs.Chunks.ChunkLemmas.{left-solid, no-bytes_told, solid-told}
+use Rattle.npm_sets.proofs.Pieces.UnknownStarts.{unknown-end}
 use Rattle.npm_sets.proofs.Places.RefusedPieces.{end-hyphen, end-nothing, end-words}
 use Rattle.npm_sets.proofs.refused.refused_end.Goals as goal
 
@@ -9,6 +11,14 @@ returns-then-is_empty c =
     let text = c.skip_space-text.result.now in
     end-nothing c.args.options c.args.piece.now text c.skip_space-text.ensures
     (no-bytes_told text c.is_empty.result c.is_empty.ensures c.if-is_empty.true)
+
+pub returns-then-not-begins_comparator : goal.returns-then-not-begins_comparator
+returns-then-not-begins_comparator c =
+    let text = c.skip_space-text.result.now in
+    unknown-end c.args.options c.args.piece.now text c.requires c.skip_space-text.ensures
+    (solid-told text c.is_empty.result c.is_empty.ensures c.if-is_empty.false
+    (left-solid c.args.piece.now text c.skip_space-text.ensures))
+    (sym c.begins_comparator.ensures ∙ c.if-not-begins_comparator.true)
 
 pub read_hyphen-requires : goal.read_hyphen-requires
 read_hyphen-requires c =

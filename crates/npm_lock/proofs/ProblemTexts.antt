@@ -2,8 +2,9 @@
 use Rattle.std.proofs.Common.{◌≡◌, ℕ, List, Bool, None, Option, Some, String, Global, option_and_then, option_map, refl}
 use Rattle.std.proofs.Common.{string_bytes}
 use Rattle.serde_json.specs.View.{view}
-use Rattle.npm_lock.specs.Outcomes.{DependencyValue, ProblemValue, dependency_value, version_of}
+use Rattle.npm_lock.specs.Outcomes.{DependencyValue, ProblemValue, dependency_value}
 use Rattle.npm_packages.specs.PackageValue.{package_value}
+use Rattle.npm_packages.specs.Packages.{version_of}
 use Rattle.npm_packages.specs.declared.place.Package.{Package}
 use Rattle.npm_lock.specs.declared.problem.Kind.{Kind}
 

@@ -14,8 +14,7 @@ use Rattle.npm_texts.specs.ObjectKeys.{keys_of}
 use Rattle.npm_packages.specs.Asked.{AreNames, AskedValue, asked_of}
 use Rattle.npm_packages.specs.Folders.{IsInstalled}
 use Rattle.npm_lock.specs.Outcomes.{IsEngineOutcome, IsOutcome, JudgementValue, ProblemValue, UncheckedValue}
-use Rattle.npm_lock.specs.Outcomes.{dependency_of}
-use Rattle.npm_lock.specs.Outcomes.{fine, problem_value, unchecked_value, unknown, wrong}
+use Rattle.npm_lock.specs.Outcomes.{dependency_of, fine, problem_value, unchecked_value, unknown, wrong}
 use Rattle.npm_packages.specs.Overrides.{overridden}
 use Rattle.npm_packages.specs.Packages.{is_link}
 use Rattle.npm_lock.specs.declared.problem.Problems.{Problems}

@@ -1,11 +1,9 @@
 -- What is wrong with a dependency, and with the version of Node: npm's "npm ls" and "package.json", "engines".
-use Rattle.std.specs.Prelude.{◌≡◌, ◌||◌, not, ℕ, List, Bool, true, false, Option, Some, None, option_and_then}
-use Rattle.std.specs.Prelude.{option_map}
-use Rattle.std.specs.Prelude.{if◌then◌else◌, string_bytes, codes}
+use Rattle.std.specs.Prelude.{◌≡◌, ◌||◌, not, ℕ, List, Bool, true, false, if◌then◌else◌, Option, Some, None}
+use Rattle.std.specs.Prelude.{option_and_then, option_map, string_bytes, codes}
 use Rattle.serde_json.specs.Data.{Data}
 use Rattle.serde_json.specs.Find.{as_str, get}
-use Rattle.node_semver.specs.Versions.{version_text}
-use Rattle.node_semver.specs.Versions.{VersionValue}
+use Rattle.node_semver.specs.Versions.{VersionValue, version_text}
 use Rattle.npm_lock.specs.declared.problem.Kind.{Kind}
 use Rattle.npm_lock.specs.declared.problem.Kind.TheVariants.{Engine, Invalid, Missing, PeerLocal}
 use Rattle.npm_lock.specs.declared.problem.Dependency.{Dependency}
@@ -18,6 +16,7 @@ use Rattle.npm_lock.specs.declared.verdict.Verdict.TheVariants as Verdicts
 use Rattle.npm_packages.specs.Asked.{AskedValue, accepted_of}
 use Rattle.npm_texts.specs.Truth.{has_true}
 use Rattle.npm_packages.specs.Packages.{IsFound, IsFoundIn, Package}
+pub use Rattle.npm_packages.specs.Packages.{version_of}
 use Rattle.npm_lock.specs.Verdict.{IsContained, IsVerdictOfBoth}
 use Rattle.npm_lock.specs.Workspaces.{IsWorkspace}
 use Rattle.npm_lock.specs.declared.workspace.Workspace.TheVariants as Workspaces
@@ -65,10 +64,6 @@ problem_value problem = record { kind = problem.kind; dependency = dependency_va
 abbrev pub unchecked_value : Unchecked → UncheckedValue
 unchecked_value unchecked =
     record { reason = unchecked.reason; dependency = dependency_value unchecked.dependency }
-
--- the version of a package, if it has one
-abbrev pub version_of : (member : Data) → Option (List ℕ)
-version_of member = option_and_then as_str (get (codes "version") member)
 
 -- ---- dependencies
 

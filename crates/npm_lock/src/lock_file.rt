@@ -57,13 +57,13 @@ fn problems_of(lock: Lock<'_>, node: Option<&Version>) -> Result<Problems>
     for (folder, member) in lock.members.iter() {
         let folder = folder.as_str();
         let asker = Package { folder, member };
-        check_package(lock, node, &index, &rules, asker, &mut problems)?;
+        add_problems(lock, node, &index, &rules, asker, &mut problems)?;
     }
     Ok(problems)
 }
 
 /// Adds the problems of one member of `packages`: that with the version of Node, and then those of its dependencies.
-fn check_package<'v>(
+fn add_problems<'v>(
     lock: Lock<'v>,
     node: Option<&Version>,
     index: &Index<'v>,

@@ -17,7 +17,7 @@ use crate::problem::{Dependency, Kind, Problem, Problems, Reason, Unchecked};
 use crate::verdict::{Verdict, is_contained, verdict_of_both};
 use crate::workspace::{Workspace, workspace_of};
 use node_semver::Version;
-use npm_packages::{Asked, Index, Lock, Package};
+use npm_packages::{Asked, Index, Lock, Package, version_of};
 use npm_texts::{copied, has_true};
 use serde_json::Value;
 use std::alloc::Global;
@@ -210,11 +210,4 @@ fn engine_of(member: &Value) -> Option<&str>
         return None;
     }
     member.get("engines")?.get("node")?.as_str()
-}
-
-/// The version of a package, if it has one.
-fn version_of(member: &Value) -> Option<&str>
-    ensures { option_map (λ version. version.now) result ≡ Outcomes.version_of (view member.now) }
-{
-    member.get("version")?.as_str()
 }

@@ -9,7 +9,7 @@ use Rattle.std.specs.Option.{MatchOption}
 use Rattle.std.specs.Str.Pattern.{RFindsChar, SplitsAroundMatch}
 use denote.Ref.{Bor}
 use Rattle.npm_packages.specs.Folders.{place_in}
-use Rattle.npm_packages.specs.Index.{HasNoSlash, IsEnd, IsLast, alone, plain, scoped}
+use Rattle.npm_packages.specs.LastParts.{HasNoSlash, IsEnd, IsLast, alone, plain, scoped}
 
 -- ---- parts
 

@@ -11,7 +11,8 @@ use Rattle.serde_json.specs.Data.{Data, Members, member}
 use Rattle.serde_json.specs.Find.{get, get_member}
 use Rattle.npm_packages.specs.Folders.{place_in}
 use Rattle.npm_packages.specs.Packages.{IsFoundIn, Package, package_at}
-use Rattle.npm_packages.specs.Index.{ArePlacesOf, IsEnd, IsPlain, IsRight, Places, at_place}
+use Rattle.npm_packages.specs.Index.{ArePlacesOf, IsRight, Places, at_place}
+use Rattle.npm_packages.specs.LastParts.{IsEnd, IsPlain}
 use Rattle.npm_packages.specs.Private.Index.{AreByFolder, IsAdded, IsMore}
 use Rattle.npm_packages.specs.PackageValue.{package_value}
 use Rattle.npm_packages.specs.declared.index.Hit.{Hit}

@@ -5,7 +5,8 @@ use Rattle.std.proofs.lemmas.Bool.Decides.{Decides-eqb}
 use Rattle.serde_json.specs.Data.{Data}
 use Rattle.npm_packages.specs.Folders.{IsAbove, is_modules, place_in}
 use Rattle.npm_packages.specs.Packages.{IsFound, IsFoundIn, IsPassed, Package, package_at}
-use Rattle.npm_packages.specs.Index.{ArePlacesOf, IsCovered, IsFront, IsNearestOf, IsPlain, IsRight, Places}
+use Rattle.npm_packages.specs.Index.{ArePlacesOf, IsCovered, IsFront, IsNearestOf, IsRight, Places}
+use Rattle.npm_packages.specs.LastParts.{IsPlain}
 use Rattle.npm_packages.specs.PackageValue.{package_value}
 use Rattle.npm_packages.specs.Lookups.{IsOutermostFrom, IsReached, itself}
 use Rattle.npm_packages.specs.Private.Search.{IsHit, IsNearest}

@@ -2,7 +2,8 @@
 use Rattle.std.proofs.Common.{◌≡◌, ◌∙◌, ◌<◌, ◌≤◌, ◌+◌, ℕ, List, [], ◌∷◌, ◌++◌, ap, append-nil, append_assoc, arith}
 use Rattle.std.proofs.Common.{inl, inr, length, refl, sym}
 use Rattle.std.proofs.lemmas.List.{length-append}
-use Rattle.npm_packages.specs.Index.{HasNoSlash, IsFront, IsOver}
+use Rattle.npm_packages.specs.Index.{IsFront, IsOver}
+use Rattle.npm_packages.specs.LastParts.{HasNoSlash}
 use Rattle.npm_packages.specs.Private.Search.{BeginsWith}
 use Rattle.npm_packages.proofs.Fronts.{has_slash, parted}
 

@@ -3,12 +3,11 @@ use Rattle.std.specs.Prelude.{◌≡◌, ◌↔◌, ℕ, List, [], ◌++◌, Boo
 use Rattle.std.specs.Bool.{MatchBool}
 use Rattle.std.specs.List.{AllZip}
 use Rattle.serde_json.specs.Data.{Data, Members, member, no_members, object}
-use Rattle.serde_json.specs.Find.{as_str, get}
-use Rattle.npm_packages.specs.Asked.{AskedValue, asked_of}
-use Rattle.npm_packages.specs.Asked.{AreNames}
+use Rattle.serde_json.specs.Find.{get}
+use Rattle.npm_packages.specs.Asked.{AreNames, AskedValue, asked_of}
 use Rattle.npm_packages.specs.Folders.{IsInstalled}
 use Rattle.npm_packages.specs.Overrides.{overridden}
-use Rattle.npm_packages.specs.Packages.{IsFound, Package, is_link}
+use Rattle.npm_packages.specs.Packages.{IsFound, Package, is_link, version_of}
 use Rattle.npm_packages.specs.declared.edges.Edge.{Edge}
 
 -- A dependency of the package in a folder: its name and its spec, and the folder and the version of the package that is
@@ -23,10 +22,6 @@ pub record EdgeValue : Type 0 where
   pub is_overridden : Bool
   pub to : Option (List ℕ)
   pub version : Option (List ℕ)
-
--- the version of a package, as the lock file writes it
-abbrev pub version_of : (entry : Data) → Option (List ℕ)
-version_of entry = option_and_then as_str (get (codes "version") entry)
 
 -- the dependency on a name by this spec, for which this package is found
 abbrev pub edge_of : (folder name : List ℕ) → AskedValue → Option Package → EdgeValue

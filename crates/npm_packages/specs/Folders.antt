@@ -1,8 +1,6 @@
 -- Folders of packages, as the keys of `packages` in a lock file write them: npm's "package-lock.json", "packages".
 use Rattle.std.specs.Prelude.{◌≡◌, ◌≢◌, ◌⊎◌, ◌||◌, ◌<◌, ℕ, List, [], ◌∷◌, ◌++◌, Bool, false, true, IsTrue, bytes_eq}
-use Rattle.std.specs.Prelude.{codes}
-use Rattle.std.specs.Prelude.{length}
-use Rattle.std.specs.Prelude.{nat_eq, slice_index}
+use Rattle.std.specs.Prelude.{codes, length, nat_eq, slice_index}
 use Rattle.std.specs.List.{ends_with, starts_with}
 use Rattle.std.specs.Str.Iter.{HasSubslice}
 

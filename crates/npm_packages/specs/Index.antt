@@ -1,42 +1,16 @@
 -- What the index of a lock file has: which package a name has in the `node_modules` of a folder.
-use Rattle.std.specs.Prelude.{◌≡◌, ◌≢◌, ◌<◌, ◌≤◌, ◌⊎◌, ℕ, List, [], ◌∷◌, ◌++◌, Option, IsSome, Some, length, slice_index}
-use Rattle.std.specs.Prelude.{◌==◌, Bool, true, false}
+use Rattle.std.specs.Prelude.{◌≡◌, ◌<◌, ◌≤◌, ◌⊎◌, ℕ, List, [], ◌∷◌, ◌++◌, Option, IsSome, Some, length}
 use Rattle.std.specs.BTreeMap.{BTreeMap, get_by}
 use Rattle.std.specs.Cmp.Lexicographic.{slice_cmp}
 use Rattle.std.specs.Option.{IfSome}
 use Rattle.std.specs.Ordering.{nat_cmp, ordering_then}
 use Rattle.serde_json.specs.Data.{Data}
 use denote.Ref.{Bor}
+use Rattle.npm_packages.specs.LastParts.{IsPlain}
 use Rattle.npm_packages.specs.PackageValue.{package_value}
 use Rattle.npm_packages.specs.Packages.{IsFoundIn, Package}
 use Rattle.npm_packages.specs.declared.index.Hit.{Hit}
 use Rattle.npm_packages.specs.declared.index.Index.{Index}
-
--- ---- the last part of a path
-
-abbrev pub HasNoSlash : List ℕ → Type 0
-HasNoSlash part = (i : ℕ) → i < length part → slice_index part i ≢ 47
-
--- the part after the last `/`: `b` of `a/b`, and `a` of `a`
-pub record IsLast (path last : List ℕ) : Type 0 where
-  pub no_slash : HasNoSlash last
-  pub whole : (path ≡ last) ⊎ ((front : List ℕ) × (path ≡ front ++ (47 ∷ last)))
-
--- a scope of names: `@s` of `@s/b`
-abbrev pub is_scope : List ℕ → Bool
-is_scope part = slice_index part 0 == 64
-
--- the last part, with the scope before it: `b` of `a/b` and of `b`, and `@s/b` of `a/@s/b` and of `@s/b`
-pub data IsEnd (path end : List ℕ) : Type 0 where
-  alone : HasNoSlash path → end ≡ path → IsEnd path end
-  plain : (above part : List ℕ) → path ≡ above ++ (47 ∷ end) → HasNoSlash end → IsLast above part
-      → is_scope part ≡ false → IsEnd path end
-  scoped : (above part last : List ℕ) → path ≡ above ++ (47 ∷ last) → HasNoSlash last → IsLast above part
-      → is_scope part ≡ true → end ≡ part ++ (47 ∷ last) → IsEnd path end
-
--- a name of one part, or of a scope and a part, as npm's names are
-abbrev pub IsPlain : (name : List ℕ) → Type 0
-IsPlain name = IsEnd name name
 
 -- ---- packages by their names and folders
 

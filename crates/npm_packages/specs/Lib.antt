@@ -17,6 +17,7 @@ pub mod PackageValue  -- packages and their dependencies as values
 pub mod Names  -- what a map of names has
 pub mod Rules  -- what a map of rules of `overrides` has
 pub mod Lookups  -- the folders in which names are looked up
+pub mod LastParts  -- the last part of a path
 pub mod Index  -- what the index of the folders has
 -- ---- not part of any public contract: what private functions compute, and lemmas that crates above cite
 pub mod Private

@@ -6,7 +6,7 @@ use Rattle.std.specs.Option.{option_map_or}
 use Rattle.serde_json.specs.Data.{Data, Members, member, no_members, object}
 use Rattle.serde_json.specs.Find.{as_object, as_str, get}
 use Rattle.npm_packages.specs.Asked.{AskedValue}
-use Rattle.npm_texts.specs.RangeText.{is_at_sign}
+use Rattle.npm_texts.specs.SpecGrammar.{is_at_sign}
 
 -- what `overrides` say of a name: the spec that counts in place of others, or that it is not read here
 pub data RuleValue : Type 0 where
@@ -27,12 +27,12 @@ name_of (b ∷ key) = b ∷ before_at_sign key
 
 -- a spec for all versions of a name, as in `{"a": "1.0.0"}`: the key has no range, and the spec is not that of another
 -- name, as `$b` is
-abbrev pub is_plain : (key spec : List ℕ) → Bool
-is_plain key spec = bytes_eq (name_of key) key && not (starts_with nat_eq spec (codes "$"))
+abbrev pub is_plain_rule : (key spec : List ℕ) → Bool
+is_plain_rule key spec = bytes_eq (name_of key) key && not (starts_with nat_eq spec (codes "$"))
 
 -- the rule of a member of `overrides` itself
 abbrev pub rule_of : (key : List ℕ) → (value : Data) → RuleValue
-rule_of key value = option_map_or (λ spec. if is_plain key spec then in_place spec else unread) (as_str value) unread
+rule_of key value = option_map_or (λ spec. if is_plain_rule key spec then in_place spec else unread) (as_str value) unread
 
 -- A rule for this name is inside the object, at any depth: for `b` in `{"b": "1"}` and in `{"a": {"b@2": "3"}}`.
 abbrev mutual

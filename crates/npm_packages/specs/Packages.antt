@@ -11,6 +11,10 @@ pub record Package : Type 0 where
   pub folder : List ℕ
   pub member : Data
 
+-- the version of a package, as the lock file writes it
+abbrev pub version_of : (member : Data) → Option (List ℕ)
+version_of member = option_and_then as_str (get (codes "version") member)
+
 -- a member with `"link": true`, which is no package of its own
 abbrev pub is_link : (member : Data) → Bool
 is_link member = unwrap_or (option_and_then as_bool (get (codes "link") member)) false

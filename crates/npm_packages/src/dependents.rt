@@ -2,7 +2,7 @@
 ghost use Rattle.std.specs.Prelude.{◌≡◌, ◌↔◌, ◌∷◌, ◌++◌, [], ℕ, IfOk, IsErrOf, List, OnOk, Some, cond, bytes_eq, map};
 ghost use Rattle.std.specs.Option.{option_map_or};
 ghost use Rattle.serde_json.specs.View.{members_view, view};
-ghost use Rattle.npm_packages.specs.Dependents.{AreDependents, asked_text, edge_text, texts_at, texts_of};
+ghost use Rattle.npm_packages.specs.Dependents.{AreDependents, AreTextsFor, IsEdgeText, texts_at};
 ghost use Rattle.npm_packages.specs.Edges.{AreEdges, EdgeValue, edge_value};
 ghost use Rattle.npm_packages.specs.Faults as Faults;
 ghost use Rattle.npm_packages.specs.PackageValue.{packages_data};
@@ -64,8 +64,9 @@ impl<'v> Dependents<'v> {
 
     /// Adds the text of a dependency, if a package is found for it.
     fn add_edge(&mut self, alloc: Global, edge: Edge<'v>) -> Result<()>
-        ensures { OnOk result ((folder : List ℕ) → texts_at self.new folder
-            ≡ texts_at self.old folder ++ texts_of folder (edge_value edge.entry ∷ [])) }
+        ensures { OnOk result ((folder : List ℕ) (edges : List EdgeValue)
+            → AreTextsFor folder edges (texts_at self.old folder)
+            → AreTextsFor folder (edges ++ (edge_value edge.entry ∷ [])) (texts_at self.new folder)) }
     {
         match edge.to {
             Some(to) => self.add(alloc, to, edge_text(edge)),
@@ -88,7 +89,7 @@ impl<'v> Dependents<'v> {
 fn dependents_among(lock: Lock<'_>) -> Result<Dependents<'_>>
     ensures { IfOk result (λ dependents. (edges : List EdgeValue)
         × AreEdges (packages_data lock.entry) (members_view lock.entry.members.now.entries) edges
-        × ((folder : List ℕ) → texts_at dependents folder ≡ texts_of folder edges)) }
+        × ((folder : List ℕ) → AreTextsFor folder edges (texts_at dependents folder))) }
 {
     let edges = edges_among(lock)?;
     dependents_of(lock.alloc, &edges)
@@ -97,7 +98,7 @@ fn dependents_among(lock: Lock<'_>) -> Result<Dependents<'_>>
 /// The dependents of the packages that these dependencies lead to.
 fn dependents_of<'v>(alloc: Global, edges: &[Edge<'v>]) -> Result<Dependents<'v>>
     ensures { IfOk result (λ dependents. (folder : List ℕ)
-        → texts_at dependents folder ≡ texts_of folder (map edge_value edges.now)) }
+        → AreTextsFor folder (map edge_value edges.now) (texts_at dependents folder)) }
 {
     let mut dependents = Dependents::new(alloc);
     for edge in edges {
@@ -106,22 +107,14 @@ fn dependents_of<'v>(alloc: Global, edges: &[Edge<'v>]) -> Result<Dependents<'v>
     Ok(dependents)
 }
 
-/// The text of a dependency, or one that is no range if `overrides` change it in a way that is not read here.
+/// The range or the tag of a dependency, or a text that is no range.
 fn edge_text<'v>(edge: Edge<'v>) -> &'v str
-    ensures { result.now ≡ edge_text (edge_value edge.entry) }
+    ensures { IsEdgeText (edge_value edge.entry) result.now }
 {
     if edge.is_overridden {
-        NO_RANGE
-    } else {
-        asked_text(edge.spec)
+        return NO_RANGE;
     }
-}
-
-/// The range or the tag of a spec, or a text that is no range.
-fn asked_text(spec: &str) -> &str
-    ensures { result.now ≡ asked_text spec.now }
-{
-    match spec_of(spec) {
+    match spec_of(edge.spec) {
         Spec::Text(text) => text,
         Spec::Location | Spec::Refused => NO_RANGE,
     }

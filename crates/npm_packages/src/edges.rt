@@ -2,10 +2,11 @@
 ghost use Rattle.std.specs.Prelude.{◌≡◌, ◌↔◌, ◌++◌, Bool, IfOk, IsErrOf, List, OnOk, Some, map, option_and_then, option_map};
 ghost use Rattle.serde_json.specs.View.{members_view, view};
 ghost use Rattle.npm_packages.specs.Asked.{AskedValue, asked_of as asked_by};
-ghost use Rattle.npm_packages.specs.Edges.{AreEdges, AreLockEdges, AreMemberEdges, EdgeValue, IsEdge, edge_value, version_of};
+ghost use Rattle.npm_packages.specs.Edges.{AreEdges, AreLockEdges, AreMemberEdges, EdgeValue, IsEdge, edge_value};
 ghost use Rattle.npm_packages.specs.Faults as Faults;
 ghost use Rattle.npm_packages.specs.Overrides as Overrides;
 ghost use Rattle.npm_packages.specs.Index.{IsIndexOf};
+ghost use Rattle.npm_packages.specs.Packages.{version_of};
 ghost use Rattle.npm_packages.specs.PackageValue.{asked_value, package_value, packages_data};
 ghost use Rattle.npm_packages.specs.Rules.{AreRules};
 ghost use Rattle.npm_packages.specs.Lookups.{IsOutermostFrom};
@@ -17,7 +18,7 @@ use crate::fault::{CheckError, lock_of};
 use crate::folder::is_installed;
 use crate::index::Index;
 use crate::overrides::{Rules, overridden, rules_of};
-use crate::place::{Lock, Package, is_link};
+use crate::place::{Lock, Package, is_link, version_of};
 use crate::search::outermost_of;
 use serde_json::Value;
 use std::alloc::Global;
@@ -142,7 +143,7 @@ fn edge_of<'v>(
         is_dev: asked.is_dev,
         is_overridden: asked.is_overridden,
         to: folder_of(&found),
-        version: version_of(&found),
+        version: found_version(&found),
     })
 }
 
@@ -158,12 +159,12 @@ fn folder_of<'v>(found: &Option<(Package<'v>, bool)>) -> Option<&'v str>
 }
 
 /// The version of a package that is found.
-fn version_of<'v>(found: &Option<(Package<'v>, bool)>) -> Option<&'v str>
+fn found_version<'v>(found: &Option<(Package<'v>, bool)>) -> Option<&'v str>
     ensures { option_map (λ text. text.now) result
         ≡ option_and_then (λ there. version_of there.member) (option_map (λ f. package_value f.0) found.now) }
 {
     match found {
-        Some((found, _)) => found.member.get("version")?.as_str(),
+        Some((found, _)) => version_of(found.member),
         None => None,
     }
 }

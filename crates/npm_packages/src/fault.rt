@@ -78,8 +78,8 @@ pub fn lock_of(alloc: Global, lock: &Value) -> Result<Lock<'_>, Fault>
     Ok(lock)
 }
 
-/// Returns `true` if `lockfileVersion` is 2 or 3.
-fn has_format(lock: &Value) -> bool
+/// Returns `true` if `lockfileVersion` is 2 or 3. Does not allocate.
+pub fn has_format(lock: &Value) -> bool
     ensures { result ≡ Faults.has_format (view lock.now) }
 {
     lock.get("lockfileVersion")
@@ -98,13 +98,23 @@ fn check_member(lock: Lock<'_>, member: &Value) -> Result<(), Fault>
     ensures { result_err result ≡ Faults.member_fault (packages_data lock.entry) (view member.now) }
 {
     member.as_object().ok_or(Fault::Package)?;
-    if is_link(member) {
-        return match lock.target_of(member) {
-            Some(target) if !is_link(target.member) => Ok(()),
-            _ => Err(Fault::Link),
-        };
+    if !is_link(member) {
+        return check_package(member);
     }
-    check_package(member)
+    match link_fault(lock, member) {
+        Some(fault) => Err(fault),
+        None => Ok(()),
+    }
+}
+
+/// Returns the fault of a link: `resolved` names no package that is no link. Does not allocate.
+pub fn link_fault(lock: Lock<'_>, link: &Value) -> Option<Fault>
+    ensures { result ≡ Faults.link_fault (packages_data lock.entry) (view link.now) }
+{
+    match lock.target_of(link) {
+        Some(target) if !is_link(target.member) => None,
+        _ => Some(Fault::Link),
+    }
 }
 
 /// Fails if a package that is no link has a fault.

@@ -4,7 +4,8 @@
 ghost use Rattle.std.specs.Prelude.{◌≡◌, ◌∷◌, ◌++◌, ◌↔◌, List, IfOk, IsTrue, OnOk, Some, ℕ};
 ghost use Rattle.serde_json.specs.Find.{get};
 ghost use Rattle.serde_json.specs.View.{view};
-ghost use Rattle.npm_packages.specs.Index.{ArePlacesOf, IsIndexOf, IsEnd, IsLast, IsPlain};
+ghost use Rattle.npm_packages.specs.Index.{ArePlacesOf, IsIndexOf};
+ghost use Rattle.npm_packages.specs.LastParts.{IsEnd, IsLast, IsPlain};
 ghost use Rattle.npm_packages.specs.Private.Index.{IsAdded, IsMore};
 ghost use Rattle.npm_packages.specs.PackageValue.{packages_data};
 
@@ -94,8 +95,8 @@ pub(crate) fn is_plain(name: &str) -> bool
     end_of(name) == name
 }
 
-/// The last part of a path, with the scope before it.
-fn end_of(path: &str) -> &str
+/// Returns the last part of a path, with the scope before it: `b` of `a/b`, and `@s/b` of `a/@s/b`. Does not allocate.
+pub fn end_of(path: &str) -> &str
     ensures { IsEnd path.now result.now }
 {
     let Some((above, last)) = split_last(path) else {

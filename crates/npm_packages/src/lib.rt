@@ -20,12 +20,15 @@ mod search;
 pub use asked::{Asked, Names, accepted_of, asked_of, is_optional_peer};
 pub use dependents::Dependents;
 pub use edges::{Edge, edges_of};
-pub use fault::{CheckError, Fault, check_package, check_specs, has_text_version, lock_of};
+pub use fault::{
+    CheckError, Fault, check_package, check_specs, has_format, has_text_version, link_fault,
+    lock_of,
+};
 pub use folder::is_installed;
-pub use index::Index;
+pub use index::{Index, end_of};
 pub use linked::{linked_folders, members_of};
 pub use overrides::{Rule, Rules, overridden, rules_of};
-pub use place::{Lock, Package, is_link, linked_folder, place_text};
+pub use place::{Lock, Package, is_link, linked_folder, place_text, version_of};
 pub use search::outermost_of;
 
 /// The result of what fails by memory alone, if no other error is named.

@@ -104,14 +104,14 @@ fn rule_of<'v>(key: &str, value: &'v Value) -> Rule<'v>
     ensures { rule_value result ≡ Overrides.rule_of key.now (view value.now) }
 {
     match value.as_str() {
-        Some(spec) if is_plain(key, spec) => Rule::InPlace(spec),
+        Some(spec) if is_plain_rule(key, spec) => Rule::InPlace(spec),
         _ => Rule::Unread,
     }
 }
 
 /// Returns `true` for a spec that counts for all versions of a name.
-fn is_plain(key: &str, spec: &str) -> bool
-    ensures { result ≡ Overrides.is_plain key.now spec.now }
+fn is_plain_rule(key: &str, spec: &str) -> bool
+    ensures { result ≡ Overrides.is_plain_rule key.now spec.now }
 {
     name_of(key) == key && !spec.starts_with("$")
 }

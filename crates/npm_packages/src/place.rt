@@ -6,7 +6,8 @@ ghost use Rattle.serde_json.specs.View.{view};
 ghost use Rattle.npm_packages.specs.Folders as Folders;
 ghost use Rattle.npm_packages.specs.Packages.{IsFound, IsFoundIn, IsPassed};
 ghost use Rattle.npm_packages.specs.Packages as Packages;
-ghost use Rattle.npm_packages.specs.Index.{IsIndexOf, IsPlain};
+ghost use Rattle.npm_packages.specs.Index.{IsIndexOf};
+ghost use Rattle.npm_packages.specs.LastParts.{IsPlain};
 ghost use Rattle.npm_packages.specs.PackageValue.{package_value, packages_data};
 ghost use Rattle.npm_packages.specs.Lookups.{IsOutermostFrom};
 ghost use Rattle.npm_packages.specs.Private.Search.{IsNearest};
@@ -192,6 +193,13 @@ pub fn place_text(alloc: Global, folder: &str, name: &str) -> Result<String>
     text.push_str("node_modules/")?;
     text.push_str(name)?;
     Ok(text)
+}
+
+/// Returns the version of a package, as the lock file writes it. Does not allocate.
+pub fn version_of(member: &Value) -> Option<&str>
+    ensures { option_map (λ version. version.now) result ≡ Packages.version_of (view member.now) }
+{
+    member.get("version")?.as_str()
 }
 
 /// Returns `true` if a member of `packages` is a link, and no package of its own.

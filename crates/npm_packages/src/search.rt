@@ -2,7 +2,8 @@
 ghost use Rattle.std.specs.Prelude.{◌≡◌, ◌≢◌, ◌<◌, ◌↔◌, ◌++◌, ◌∷◌, ℕ, List, IsTrue, length};
 ghost use Rattle.std.specs.Option.{MatchOption};
 ghost use Rattle.npm_packages.specs.Folders.{IsAbove, IsOutermost, place_in};
-ghost use Rattle.npm_packages.specs.Index.{HasNoSlash, IsFront};
+ghost use Rattle.npm_packages.specs.Index.{IsFront};
+ghost use Rattle.npm_packages.specs.LastParts.{HasNoSlash};
 ghost use Rattle.npm_packages.specs.Lookups.{IsOutermostFrom};
 ghost use Rattle.npm_packages.specs.Private.Search.{BeginsWith};
 

@@ -3,3 +3,4 @@ pub mod Locations
 pub mod Targets
 pub mod Aliases
 pub mod SpecReading
+pub mod RegistrySpecs

@@ -1,7 +1,6 @@
 -- The names that a package depends on are the keys of the map of its dependencies.
 use Rattle.std.proofs.Common.{◌≡◌, ◌∙◌, ℕ, zero, suc, List, [], ◌∷◌, Bool, true, false, cond, Option, Some, BTreeMap}
-use Rattle.std.proofs.Common.{nat_cmp, Less, Ordering, ap, arith}
-use Rattle.std.proofs.Common.{is_eq, map, option_map, refl, sym}
+use Rattle.std.proofs.Common.{nat_cmp, Less, Ordering, ap, arith, is_eq, map, option_map, refl, sym}
 use denote.Ref.{Bor}
 use Rattle.std.specs.BTreeMap.{is_at}
 use Rattle.std.specs.Cmp.Lexicographic.{slice_cmp}

@@ -5,7 +5,8 @@ use Rattle.std.specs.Option.{IfSome}
 use Rattle.std.specs.Ordering.{is_gt, is_lt, nat_cmp}
 use Rattle.serde_json.specs.Data.{Data}
 use Rattle.npm_packages.specs.Folders.{place_in}
-use Rattle.npm_packages.specs.Index.{IsPlain, IsRight, Places, at_place}
+use Rattle.npm_packages.specs.Index.{IsRight, Places, at_place}
+use Rattle.npm_packages.specs.LastParts.{IsPlain}
 use Rattle.npm_packages.specs.Packages.{IsFoundIn, Package}
 use Rattle.npm_packages.specs.declared.index.Hit.{Hit}
 

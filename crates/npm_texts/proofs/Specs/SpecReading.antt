@@ -59,7 +59,7 @@ aliased-value text target range name is named =
     (alias-again text target is)
     ∙ ap alias_value (target-read target name range named).1
 
-no-target : (text : List ℕ) (o : Option (List ℕ)) → alias_target text ≡ o → ((target : List ℕ) → ¬ IsAlias text target)
+pub no-target : (text : List ℕ) (o : Option (List ℕ)) → alias_target text ≡ o → ((target : List ℕ) → ¬ IsAlias text target)
     → o ≡ None
 no-target text None is no_alias = refl
 no-target text (Some target) is no_alias = absurd (no_alias target (alias-takes text target is))

@@ -9,7 +9,7 @@ loop-folder-init c = λ later new are adds. (later, are, adds [] c.new-problems.
 
 pub loop-folder-preserved : goal.loop-folder-preserved
 loop-folder-preserved c = λ later new are adds.
-    let here = c.in_ok-check_package.ensures in
+    let here = c.in_ok-add_problems.ensures in
     let of_member = rw c.as_str-folder.ensures.value at here.1 in
     c.loop-folder.invariant (here.0 ++ later) new
     (rw c.in-Some.ensures.steps (here.0, later, of_member, are, refl))

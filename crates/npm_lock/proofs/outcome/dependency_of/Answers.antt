@@ -1,7 +1,7 @@
 -- Each field is a copy.
 use Rattle.std.proofs.Common.{◌≡◌, ◌∙◌, option_and_then, option_map, rules}
 use Rattle.serde_json.specs.View.{view}
-use Rattle.npm_lock.specs.Outcomes.{version_of}
+use Rattle.npm_packages.specs.Packages.{version_of}
 use Rattle.npm_lock.proofs.ProblemTexts.{copied, folder_of, version_in}
 use Rattle.npm_lock.proofs.outcome.dependency_of.Goals as goal
 

@@ -1,9 +1,9 @@
 -- The map has the texts of the dependencies so far.
-use Rattle.std.proofs.Common.{◌≡◌, ℕ, List, map, take}
-use Rattle.npm_packages.specs.Dependents.{texts_at, texts_of}
+use Rattle.std.proofs.Common.{ℕ, List, map, take}
+use Rattle.npm_packages.specs.Dependents.{AreTextsFor, texts_at}
 use Rattle.npm_packages.specs.Edges.{edge_value}
 use Rattle.npm_packages.proofs.dependents.dependents_of.Given as goal
 
 abbrev pub invariant-loop-edge : goal.invariant-loop-edge
 invariant-loop-edge l = (folder : List ℕ)
-    → texts_at l.dependents folder ≡ texts_of folder (map edge_value (take l.edge-index l.edges))
+    → AreTextsFor folder (map edge_value (take l.edge-index l.edges)) (texts_at l.dependents folder)

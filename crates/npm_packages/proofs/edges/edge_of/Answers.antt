@@ -2,9 +2,9 @@
 use Rattle.std.proofs.Common.{◌≡◌, ℕ, List, Bool, Option, Some, option_and_then, option_map}
 use Rattle.serde_json.specs.Data.{Data}
 use Rattle.npm_packages.specs.Asked.{AskedValue, asked_of}
-use Rattle.npm_packages.specs.Edges.{IsEdge, dependency, version_of}
+use Rattle.npm_packages.specs.Edges.{IsEdge, dependency}
 use Rattle.npm_packages.specs.Overrides.{overridden}
-use Rattle.npm_packages.specs.Packages.{IsFound, Package}
+use Rattle.npm_packages.specs.Packages.{IsFound, Package, version_of}
 use Rattle.npm_packages.proofs.edges.edge_of.Goals as goal
 
 made : (packages : Data) (folder : List ℕ) (asker : Data) (is_installed : Bool) (name : List ℕ)
@@ -28,4 +28,4 @@ made packages folder asker is_installed name before changed found to version sam
 
 pub returns : goal.returns
 returns c = λ is_installed before asked same.
-    made _ _ _ is_installed _ before _ _ _ _ same c.folder_of.ensures c.version_of.ensures asked c.in_ok-found.ensures.found
+    made _ _ _ is_installed _ before _ _ _ _ same c.folder_of.ensures c.found_version.ensures asked c.in_ok-found.ensures.found

@@ -8,7 +8,8 @@ use Rattle.serde_json.specs.Find.{get_member}
 use Rattle.serde_json.specs.View.{members_view}
 use Rattle.npm_packages.specs.Folders.{place_in}
 use Rattle.npm_packages.specs.Packages.{IsFoundIn, Package}
-use Rattle.npm_packages.specs.Index.{IsPlain, IsRight, at_place}
+use Rattle.npm_packages.specs.Index.{IsRight, at_place}
+use Rattle.npm_packages.specs.LastParts.{IsPlain}
 use Rattle.npm_packages.specs.PackageValue.{packages_data}
 use Rattle.npm_packages.proofs.index.places_of.Given as goal
 

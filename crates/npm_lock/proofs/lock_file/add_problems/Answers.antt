@@ -9,7 +9,7 @@ use Rattle.npm_packages.specs.PackageValue.{asked_value, packages_data}
 use Rattle.npm_lock.proofs.MoreFindings.{member_found}
 use Rattle.npm_packages.specs.Lemmas.NameLists.{all_asked, are_names}
 use Rattle.npm_lock.proofs.Reports.{adds_both, adds_none}
-use Rattle.npm_lock.proofs.lock_file.check_package.Goals as goal
+use Rattle.npm_lock.proofs.lock_file.add_problems.Goals as goal
 
 pub loop-name-init : goal.loop-name-init
 loop-name-init c =

@@ -7,7 +7,7 @@ use Rattle.npm_lock.specs.Private.Adding.{Adds}
 use Rattle.npm_packages.specs.Lemmas.NameLists.{AreAsked, names_of}
 use Rattle.npm_packages.specs.PackageValue.{packages_data}
 use Rattle.npm_lock.specs.declared.problem.Problems.{Problems}
-use Rattle.npm_lock.proofs.lock_file.check_package.Given as goal
+use Rattle.npm_lock.proofs.lock_file.add_problems.Given as goal
 
 abbrev pub invariant-loop-name : goal.invariant-loop-name
 invariant-loop-name l = record {

@@ -18,7 +18,8 @@ SCRIPTS = {"memory_trials": "makes the calls", "node_semver_callers": "examples"
            "command_lines": "all runs", "npm_lock_sentences": "runs with --format text",
            "npm_lock_faults": "runs on lock files and manifests with faults", "npm_lock_reports": "all runs",
            "npm_manifest_files": "runs with --manifest",
-           "npm_pick_reports": "all runs"}
+           "npm_pick_errors": "runs on files that are refused", "npm_pick_outdated": "runs with --outdated",
+           "npm_pick_mirrors": "runs with --keep", "npm_pick_reports": "all runs"}
 
 # A function, and the call that makes it.
 THROUGH = {
@@ -51,6 +52,9 @@ THROUGH = {
     "npm_sets::read_npm": "npm_semver::parse_range",
     "npm_sets::read_npm_text": "npm_semver::parse_range",
     "npm_sets::refused_offset": "npm_semver::parse_range",
+    "npm_pick_ranks::avoided": "npm_pick::pick",
+    "npm_pick_ranks::best_of": "npm_pick::pick",
+    "Asked::fits": "npm_pick::pick",
     "npm_texts::range_of": "npm_lock::check",
     "npm_texts::copied": "npm_lock::check",
     "npm_texts::put_text": "npm_lock::check",

@@ -1,5 +1,4 @@
 pub mod Examples
-pub mod Ranked
 pub mod Reading
 pub mod Late
 pub mod Added

@@ -8,12 +8,12 @@ use Rattle.node_semver.specs.Versions.{VersionValue, version_text, without_build
 use Rattle.npm_texts.specs.InstalledVersions.{IsInstalledVersion}
 use Rattle.npm_texts.specs.RangeText.{is_tag}
 use Rattle.npm_texts.specs.Admission.{Admits, IsNoRange, of_dependencies}
-use Rattle.npm_pick.specs.Packument.{Release, candidate_of, candidates_of, is_restricted, is_staged, manifest_of, tagged}
-use Rattle.npm_pick.specs.Rank.{FitsEngines, HasNone, IsAvoided, IsBest, Rank, is_deprecated}
-use Rattle.npm_pick.specs.Times.{is_published}
+use Rattle.npm_pick_ranks.specs.Packument.{Release, candidate_of, candidates_of, is_restricted, is_staged, manifest_of, tagged}
+use Rattle.npm_pick_ranks.specs.Rank.{FitsEngines, HasNone, IsAvoided, IsBest, Rank, is_deprecated}
+use Rattle.npm_pick_ranks.specs.Times.{is_published}
 use Rattle.npm_pick.specs.declared.error.PickError.{PickError}
 use Rattle.npm_pick.specs.declared.error.PickError.TheVariants as Errors
-use Rattle.npm_pick.specs.declared.options.Options.{Options}
+use Rattle.npm_pick_ranks.specs.declared.options.Options.{Options}
 use Rattle.npm_pick.specs.declared.picked.Picked.{Picked}
 
 -- The version that is picked: its key, its manifest, and whether it should be avoided. `is_outside` means that it

@@ -1,4 +1,3 @@
 -- What private functions compute.
-pub mod Ranking
 pub mod Picking
 pub mod Keeping

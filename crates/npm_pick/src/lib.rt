@@ -5,22 +5,16 @@
 #![tactic(auto)]
 
 mod admitted;
-mod asked;
-mod best;
 mod error;
 mod kept;
 mod key;
-mod member;
-mod options;
 mod picked;
 mod ranged;
-mod rank;
 mod strict;
-mod time;
 
 pub use error::PickError;
 pub use kept::keep;
-pub use options::Options;
+pub use npm_pick_ranks::Options;
 pub use picked::{Picked, pick};
 
 /// The result of what fails by memory alone, if no other error is named.

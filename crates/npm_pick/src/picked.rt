@@ -7,12 +7,10 @@ ghost use Rattle.npm_pick.specs.Pick as Picks;
 ghost use Rattle.npm_pick.specs.Pick.{IsAnswer, IsChosen, IsPicked, IsPickedAt, IsPickedByTag, IsPickedFor, answer_value};
 
 use crate::error::PickError;
-use crate::member::{is_restricted, tagged};
-use crate::options::Options;
 use crate::ranged::{pick_at, pick_in};
 use crate::strict::pick_strictly;
-use crate::time::is_published;
 use node_semver::VersionRef;
+use npm_pick_ranks::{Options, is_published, is_restricted, tagged};
 use npm_texts::{OF_DEPENDENCIES, filled, installed_version, is_tag, range_of};
 use serde_json::Value;
 use std::alloc::{AllocError, Global};

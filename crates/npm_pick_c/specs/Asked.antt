@@ -3,7 +3,7 @@ use Rattle.std.specs.Prelude.{◌≡◌, ◌∷◌, ℕ, List, [], Bool, Option,
 use Rattle.jiff.specs.Words.{parse_timestamp}
 use Rattle.jiff_core.specs.declared.timestamp.Timestamp.{Timestamp}
 use Rattle.node_semver.specs.Versions.{IsVersionText, VersionValue}
-use Rattle.npm_pick.specs.declared.options.Options.{Options}
+use Rattle.npm_pick.specs.PickOptions.{Options}
 use Rattle.npm_pick_c.specs.declared.asked.Texts as declared
 
 -- the texts of the options

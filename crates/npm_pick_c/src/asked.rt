@@ -1,6 +1,6 @@
 //! What C asks: texts, and two marks.
 ghost use Rattle.std.specs.Prelude.{◌≡◌, IfErr, IfNone, IfOk, IfSome, IsUtf8, option_map};
-ghost use Rattle.npm_pick.specs.declared.options.Options.{Options};
+ghost use Rattle.npm_pick.specs.PickOptions.{Options};
 ghost use Rattle.node_semver.specs.Versions.{VersionValue};
 ghost use Rattle.jiff_core.specs.declared.timestamp.Timestamp.{Timestamp};
 ghost use Rattle.std.specs.Prelude.{Option};

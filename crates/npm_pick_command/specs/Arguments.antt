@@ -12,8 +12,7 @@ use Rattle.command_lines.specs.Arguments.{ArgumentValue}
 use Rattle.command_lines.specs.declared.argument.TheConstants.{MAX_WORDS}
 use Rattle.command_options.specs.Given.{first_fault, is_among, is_given, meaning, ok_unless, shown_in, value_of, values_of}
 use Rattle.command_options.specs.declared.given.Shown.{Shown}
-use Rattle.npm_pick_reports.specs.declared.format.Format.{Format}
-use Rattle.npm_pick_reports.specs.declared.format.Format.TheVariants.{Json, Text}
+use Rattle.npm_pick_reports.specs.Formats.{Format, Json, Text}
 use Rattle.npm_pick_command.specs.declared.argument_error.ArgumentError.{ArgumentError}
 use Rattle.npm_pick_command.specs.declared.argument_error.ArgumentError.TheVariants as Errors
 use Rattle.npm_pick_command.specs.declared.arguments.Arguments.{Arguments}

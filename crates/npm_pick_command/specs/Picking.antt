@@ -2,7 +2,7 @@
 use Rattle.std.specs.Prelude.{◌≡◌, ℕ, List, Option, Some, None, codes, option_map, string_bytes, unwrap_or}
 use Rattle.jiff_core.specs.declared.timestamp.Timestamp.{Timestamp}
 use Rattle.node_semver.specs.Versions.{IsVersionText, VersionValue}
-use Rattle.npm_pick.specs.declared.options.Options.{Options}
+use Rattle.npm_pick.specs.PickOptions.{Options}
 use Rattle.npm_pick_command.specs.Arguments.{ArgumentsValue}
 use Rattle.npm_pick_command.specs.Given.{IsVersionGiven, time_given}
 use Rattle.npm_pick_command.specs.declared.picking.Values.{Values}

@@ -1,2 +1,1 @@
-pub mod MirrorExamples
 pub mod LineExamples

@@ -1,16 +1,15 @@
 //! The line of the version that is picked.
 ghost use Rattle.std.specs.Prelude.{◌≡◌, ◌++◌, IfOk, OnOk};
-ghost use Rattle.serde_json.specs.Data.{boolean, string};
+ghost use Rattle.serde_json.specs.Data.{boolean, put as with_member, string};
 ghost use Rattle.serde_json.specs.View.{members_view, view};
 ghost use Rattle.npm_pick.specs.Pick.{picked_value};
 ghost use Rattle.npm_pick_reports.specs.PickedLine as Lines;
 
-use crate::format::Format;
-use crate::members::put_bool;
 use command_lines::push_shown;
 use npm_pick::Picked;
+use npm_pick_errors::Format;
 use npm_texts::put_text;
-use serde_json::{Map, Value};
+use serde_json::{Map, Value, put};
 use std::alloc::{AllocError, Global};
 
 /// Returns the line of a version, with its newline.
@@ -37,4 +36,17 @@ fn picked_json(alloc: Global, picked: Picked<'_>) -> Result<Value, AllocError>
     put_bool(&mut members, alloc, "avoided", picked.is_avoided)?;
     put_text(&mut members, alloc, "version", picked.key)?;
     Ok(Value::Object(members))
+}
+
+/// Adds a member whose value is `true` or `false`.
+fn put_bool(
+    members: &mut Map<String, Value>,
+    alloc: Global,
+    name: &str,
+    value: bool,
+) -> Result<(), AllocError>
+    ensures { OnOk result (members_view members.new.entries
+        ≡ with_member name.now (boolean value) (members_view members.old.entries)) }
+{
+    put(members, alloc, name, Value::Bool(value))
 }

@@ -1,8 +1,8 @@
 -- What is found out about the dependencies of the lock file, its lines and its counts.
 use Rattle.std.proofs.Common.{◌∙◌, Err, Some, ap, inl, map, sym}
 use Rattle.npm_packages.specs.Edges.{edge_value}
-use Rattle.npm_pick_reports.specs.Outdated.{outcome_value}
-use Rattle.npm_pick_reports.proofs.Outcomes.{compared_ending}
+use Rattle.npm_pick_outdated.specs.Outdated.{outcome_value}
+use Rattle.npm_pick_reports.proofs.Replies.{compared_ending}
 use Rattle.npm_pick_reports.proofs.reply.outdated_reply.Goals as goal
 
 pub returns-clause-reply : goal.returns-clause-reply

@@ -1,7 +1,7 @@
 -- The line of the version that is picked, or nothing and the reason.
 use Rattle.npm_pick.specs.Pick.{picked_value}
 use Rattle.serde_json.specs.View.{view}
-use Rattle.npm_pick_reports.proofs.Outcomes.{nothing_reply, picked_reply}
+use Rattle.npm_pick_reports.proofs.Replies.{nothing_reply, picked_reply}
 use Rattle.npm_pick_reports.proofs.reply.pick_reply.Goals as goal
 
 pub returns-in_ok-picked_line-in-Ok-clause-reply : goal.returns-in_ok-picked_line-in-Ok-clause-reply

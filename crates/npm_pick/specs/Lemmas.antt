@@ -1,0 +1,3 @@
+-- Lemmas that crates above cite. A reader need not trust them: the checker proves them.
+
+pub mod Answers  -- what holds of a pick if no allocation failed

@@ -1,0 +1,2 @@
+-- The options of a pick. They are defined in `npm_pick_ranks` and handed on here, so a caller lists `npm_pick` alone.
+pub use Rattle.npm_pick_ranks.specs.declared.options.Options.{Options}

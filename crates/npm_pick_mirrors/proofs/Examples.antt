@@ -1,0 +1,2 @@
+pub mod MirrorExamples
+pub mod MirrorLineExamples

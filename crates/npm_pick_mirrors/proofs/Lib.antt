@@ -1,0 +1,5 @@
+pub mod TextOrder
+pub mod Gathering
+pub mod Grouping
+pub mod Mirrors
+pub mod Examples

@@ -1,0 +1,2 @@
+-- What private functions compute.
+pub mod Comparing

@@ -17,6 +17,7 @@ SCRIPTS = {"memory_trials": "makes the calls", "node_semver_callers": "examples"
            "npm_lock_annotations": "runs with --format github and sarif, with each kind of finding",
            "command_lines": "all runs", "npm_lock_sentences": "runs with --format text",
            "npm_lock_faults": "runs on lock files and manifests with faults", "npm_lock_reports": "all runs",
+           "npm_advisory_files": "calls of npm_advisories",
            "npm_manifest_files": "runs with --manifest",
            "npm_pick_errors": "runs on files that are refused", "npm_pick_outdated": "runs with --outdated",
            "npm_pick_mirrors": "runs with --keep", "npm_pick_reports": "all runs"}

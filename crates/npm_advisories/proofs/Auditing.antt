@@ -1,19 +1,19 @@
 -- An audit, one installed package after another.
-use Rattle.std.proofs.Common.{◌≡◌, ◌||◌, ◌++◌, ◌<◌, ◌+◌, ℕ, List, [], ◌∷◌, Bool, None, Option, Some, true, false, ap, arith}
-use Rattle.std.proofs.Common.{bytes_eq, cond, get_or, is_some, length, map, refl, suc, sym, take, zero}
+use Rattle.std.proofs.Common.{◌≡◌, ◌||◌, ◌++◌, ◌<◌, ◌+◌, ℕ, List, [], ◌∷◌, Bool, Option, true, false, ap, arith}
+use Rattle.std.proofs.Common.{bytes_eq, get_or, length, map, refl, suc, sym, take, zero}
 use Rattle.std.specs.Prelude.{◌==◌, ◌≢◌}
 use Rattle.std.proofs.lemmas.Bool.{eqb-true}
 use Rattle.std.proofs.lemmas.List.{map-append, nil_from_length, take_more}
 use Rattle.std.proofs.lemmas.Slice.Eq.{bytes_eq-Decides}
 use Rattle.node_semver.specs.Versions.{VersionValue}
-use Rattle.npm_advisories.specs.Advisories.{AdvisoryValue, about_name}
+use Rattle.npm_advisory_files.specs.Advisories.{AdvisoryValue, about_name}
 use Rattle.npm_advisories.specs.Audit.{FoundValue, InstalledValue, IsAudit, IsFound, IsSpared, found_value, hit}
 use Rattle.npm_advisories.specs.Audit.{installed_value, names_of, none, spared}
 use Rattle.npm_advisories.specs.Files.{is_among}
 use Rattle.npm_advisories.specs.Private.Auditing.{IsFoundOf}
 use Rattle.npm_advisories.specs.declared.found.Found.{Found}
 use Rattle.npm_advisories.specs.declared.found.Installed.{Installed}
-use Rattle.npm_advisories.specs.declared.severity.Severity.{Severity}
+use Rattle.npm_advisory_files.specs.declared.severity.Severity.{Severity}
 
 module _ (level : Severity) (values : List AdvisoryValue) (one : InstalledValue) where
   one-spared : (before : List InstalledValue) (found : List FoundValue) → IsAudit level values before found
@@ -78,14 +78,6 @@ among-at (x ∷ others) zero one lt is =
 among-at (x ∷ others) (suc i) one lt is =
     or-right (bytes_eq x.name.now one.name.now) (is_among (names_of (map installed_value others)) one.name.now)
     (among-at others i one (omega arith) is)
-
--- one name more
-pub name-more : {X : Type 0} (here : Bool) (made : X) (old new : Option X) → new ≡ cond here (Some made) old
-    → is_some new ≡ (is_some old || here)
-name-more true made None new is = rw is refl
-name-more true made (Some x) new is = rw is refl
-name-more false made None new is = rw is refl
-name-more false made (Some x) new is = rw is refl
 
 -- ---- the list of hits
 

@@ -1,2 +1,1 @@
 pub mod FormExamples
-pub mod OsvExamples

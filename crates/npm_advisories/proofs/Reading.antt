@@ -1,20 +1,24 @@
 -- The fault of an advisory at its place, and lists of advisories of which some are read.
-use Rattle.std.proofs.Common.{◌≡◌, ◌∙◌, ◌++◌, ◌<◌, ◌+◌, ◌≤◌, ℕ, List, [], ◌∷◌, Option, None, add-one, ap, drop}
-use Rattle.std.proofs.Common.{drop-cons, get_or, length, option_map, refl, sym}
-use Rattle.std.proofs.lemmas.List.{append_assoc, drop_all}
+use Rattle.std.proofs.Common.{◌≡◌, ◌∙◌, ◌++◌, ◌<◌, ◌+◌, ℕ, List, [], ◌∷◌, Bool, Option, None, ap, drop}
+use Rattle.std.proofs.Common.{get_or, length, option_map, refl, sym}
+use Rattle.std.proofs.lemmas.List.{append_assoc}
 use Rattle.std.specs.Option.{option_or}
-use Rattle.serde_json.specs.Data.{Data, item, no_items}
+use Rattle.serde_json.specs.Data.{Data}
 use Rattle.serde_json.specs.View.{items_view, view}
 use Rattle.serde_json.specs.declared.value.Value.{Value}
-use Rattle.npm_advisories.specs.Advisories.{AdvisoryValue, npm_advisory, npm_list}
-use Rattle.npm_advisories.specs.Faults.{FaultValue, fault_at, list_fault}
-use Rattle.npm_advisories.specs.Ids.{IdValue, id_in}
-use Rattle.npm_advisories.specs.Private.Reading.{IsErrorAt, IsErrorOf, IsUnreadAs}
-use Rattle.npm_advisories.specs.declared.fault.AuditError.{AuditError}
-use Rattle.npm_advisories.specs.declared.fault.AuditError.TheVariants as Errors
-use Rattle.npm_advisories.specs.declared.fault.FaultKind.{FaultKind}
-use Rattle.npm_advisories.specs.declared.fault.Unread.{Unread}
-use Rattle.npm_advisories.specs.declared.fault.Unread.TheVariants.{Memory, Refused}
+use Rattle.npm_advisory_files.specs.Advisories.{AdvisoryValue, npm_advisory, npm_list}
+use Rattle.npm_advisory_files.specs.Faults.{FaultValue, fault_at, list_fault}
+use Rattle.npm_advisory_files.specs.Ids.{IdValue, id_in}
+use Rattle.npm_advisory_files.specs.Lemmas.Items.{left}
+use Rattle.npm_advisory_files.specs.OsvFaults.{osv_fault, osv_list_fault}
+use Rattle.npm_advisory_files.specs.OsvPackages.{told_name}
+use Rattle.npm_advisory_files.specs.Private.Reading.{IsErrorAt, IsErrorOf, IsUnreadAs, at_place}
+use Rattle.npm_advisory_files.specs.Private.VersionTest.{is_version}
+use Rattle.npm_advisory_files.specs.declared.fault.AuditError.{AuditError}
+use Rattle.npm_advisory_files.specs.declared.fault.AuditError.TheVariants as Errors
+use Rattle.npm_advisory_files.specs.declared.fault.FaultKind.{FaultKind}
+use Rattle.npm_advisory_files.specs.declared.fault.Unread.{Unread}
+use Rattle.npm_advisory_files.specs.declared.fault.Unread.TheVariants.{Memory, Refused}
 
 -- the error of the first advisory that is not read is that of the list
 pub error-of : (unread : Unread) (name : List ℕ) (place : ℕ) (id : Option IdValue) (error : AuditError)
@@ -32,14 +36,11 @@ error-first fault rest whole Errors.Memory is before = tt
 -- the list of an advisory and others
 module _ (name : List ℕ) (entries : List Value) (i : ℕ) (one : Value) (lt : i < length entries)
     (is : one ≡ get_or entries i one) where
-  pub left : items_view (drop i entries) ≡ item (view one) (items_view (drop (i + 1) entries))
-  left = rw (add-one, drop-cons entries i one lt, ← is) refl
-
   -- the fault of those from a place on
   pub fault-next : (fault_of : Data → Option FaultKind) → list_fault fault_of name i (items_view (drop i entries))
       ≡ option_or (option_map (fault_at name i (id_in (view one))) (fault_of (view one)))
       (list_fault fault_of name (i + 1) (items_view (drop (i + 1) entries)))
-  fault-next fault_of = rw left refl
+  fault-next fault_of = rw (left entries i one lt is) refl
 
   pub fault-none : (fault_of : Data → Option FaultKind) → fault_of (view one) ≡ None
       → list_fault fault_of name i (items_view (drop i entries))
@@ -49,9 +50,25 @@ module _ (name : List ℕ) (entries : List Value) (i : ℕ) (one : Value) (lt : 
   pub read-next : (front : List AdvisoryValue) → front ++ npm_list name (items_view (drop i entries))
       ≡ (front ++ npm_advisory name (view one) ∷ []) ++ npm_list name (items_view (drop (i + 1) entries))
   read-next front =
-      ap (λ items. front ++ npm_list name items) left
+      ap (λ items. front ++ npm_list name items) (left entries i one lt is)
       ∙ sym (append_assoc front (npm_advisory name (view one) ∷ []) (npm_list name (items_view (drop (i + 1) entries))))
 
--- nothing is left
-pub left-none : (entries : List Value) (i : ℕ) → length entries ≤ i → items_view (drop i entries) ≡ no_items
-left-none entries i done = rw (drop_all i entries done) refl
+-- the objects of a list, one after another
+module _ (entries : List Value) (i : ℕ) (one : Value) (lt : i < length entries)
+    (is_at : one ≡ get_or entries i one) where
+  -- one object without a fault
+  pub osv-passed : (is_wanted : List ℕ → Bool) (whole : Option FaultValue)
+      → osv_fault is_version is_wanted (view one) ≡ None
+      → whole ≡ osv_list_fault is_version is_wanted i (items_view (drop i entries))
+      → whole ≡ osv_list_fault is_version is_wanted (i + 1) (items_view (drop (i + 1) entries))
+  osv-passed is_wanted whole none before =
+      before ∙ ap (osv_list_fault is_version is_wanted i) (left entries i one lt is_at) ∙ (rw none refl)
+
+  -- the first one with a fault
+  pub osv-found : (is_wanted : List ℕ → Bool) (whole : Option FaultValue) (error : AuditError)
+      → IsErrorOf (at_place (told_name is_wanted (view one)) i (id_in (view one))
+      (osv_fault is_version is_wanted (view one))) error
+      → whole ≡ osv_list_fault is_version is_wanted i (items_view (drop i entries)) → IsErrorOf whole error
+  osv-found is_wanted whole (Errors.Refused at) is before =
+      before ∙ ap (osv_list_fault is_version is_wanted i) (left entries i one lt is_at) ∙ (rw is refl)
+  osv-found is_wanted whole Errors.Memory is before = tt

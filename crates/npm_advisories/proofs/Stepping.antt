@@ -6,8 +6,8 @@ use Rattle.serde_json.specs.View.{items_view, view}
 use Rattle.serde_json.specs.declared.value.Value.{Value}
 use Rattle.json_places.specs.Steps.{StepValue, to_item}
 use Rattle.npm_advisories.specs.FaultSteps.{steps_among}
-use Rattle.npm_advisories.specs.declared.fault.FaultKind.{FaultKind}
-use Rattle.npm_advisories.proofs.Reading.{left, left-none}
+use Rattle.npm_advisory_files.specs.declared.fault.FaultKind.{FaultKind}
+use Rattle.npm_advisory_files.specs.Lemmas.Items.{left, left-none}
 
 module _ (fault_of : Data → Option FaultKind) (steps_of : Data → List StepValue) (entries : List Value) (i : ℕ)
     (whole : List StepValue) (before : whole ≡ steps_among fault_of steps_of i (items_view (drop i entries))) where
@@ -15,12 +15,12 @@ module _ (fault_of : Data → Option FaultKind) (steps_of : Data → List StepVa
     -- an item without a fault
     pub among-passed : false ≡ is_some (fault_of (view one))
         → whole ≡ steps_among fault_of steps_of (i + 1) (items_view (drop (i + 1) entries))
-    among-passed none = before ∙ ap (steps_among fault_of steps_of i) (left [] entries i one lt is_at) ∙
+    among-passed none = before ∙ ap (steps_among fault_of steps_of i) (left entries i one lt is_at) ∙
         (rw (sym none) refl)
 
     -- the first one with a fault
     pub among-found : true ≡ is_some (fault_of (view one)) → whole ≡ to_item i ∷ steps_of (view one)
-    among-found some = before ∙ ap (steps_among fault_of steps_of i) (left [] entries i one lt is_at) ∙
+    among-found some = before ∙ ap (steps_among fault_of steps_of i) (left entries i one lt is_at) ∙
         (rw (sym some) refl)
 
   -- no item is left

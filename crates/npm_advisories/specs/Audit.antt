@@ -1,13 +1,13 @@
 -- What an audit finds: npm's "npm audit".
 use Rattle.std.specs.Prelude.{◌≡◌, ◌≢◌, ℕ, List, [], ◌∷◌, Option, Some, None, map}
-use Rattle.node_semver.specs.Versions.{IsVersionText, VersionValue, least_of}
-use Rattle.npm_texts.specs.InstalledVersions.{IsInstalledVersion}
-use Rattle.npm_advisories.specs.Advisories.{AboutValue, AdvisoryValue, about_name, about_value}
+use Rattle.node_semver.specs.Versions.{VersionValue, least_of}
+use Rattle.npm_advisory_files.specs.Advisories.{AboutValue, AdvisoryValue, about_name, about_value}
+use Rattle.npm_advisory_files.specs.ReadVersions.{IsReadAs}
 use Rattle.npm_advisories.specs.Hits.{AreHits}
 use Rattle.npm_advisories.specs.Offers.{IsAdmitted, IsLeastOrNone, IsUnhit}
 use Rattle.npm_advisories.specs.declared.found.Found.{Found}
 use Rattle.npm_advisories.specs.declared.found.Installed.{Installed}
-use Rattle.npm_advisories.specs.declared.severity.Severity.{Severity}
+use Rattle.npm_advisory_files.specs.declared.severity.Severity.{Severity}
 
 -- an installed package: the text of its version, and the range texts of its dependents
 pub record InstalledValue : Type 0 where
@@ -49,17 +49,6 @@ found_value found = record {
 }
 
 -- ---- one package
-
--- npm reads no version in the text
-abbrev pub IsUnread : (text : List ℕ) → Type 0
-IsUnread text = (v : VersionValue) → ¬ IsInstalledVersion text v
-
--- What the text of an installed version is read as: the version that npm reads, as 1.2.3 of `=1.2.3`; or else the version that the
--- text is, as 1.2.3 of `V1.2.3`; or else none
-pub data IsReadAs (text : List ℕ) : Option VersionValue → Type 0 where
-  by_npm : (v : VersionValue) → IsInstalledVersion text v → IsReadAs text (Some v)
-  as_text : (v : VersionValue) → IsUnread text → IsVersionText text v → IsReadAs text (Some v)
-  unread : IsUnread text → ((v : VersionValue) → ¬ IsVersionText text v) → IsReadAs text None
 
 -- Versions above this one are offered: above the installed version, and above 0.0.0-0, so each release, if its text is no
 -- version

@@ -1,16 +1,10 @@
--- What the contracts of this crate say: all of it that is trusted, in reading order.
+-- What the contracts of this crate say: all of it that is trusted, in reading order. What an advisory says, and what is wrong with
+-- one, the crate `npm_advisory_files` says.
 -- `IsAudit` of Audit is the claim of `audit`, `file_fault` of Files says what it refuses, and `found_data` of FoundJson
 -- is the JSON object for a package. All other words are there for these three.
 
--- ---- the advisories of a file
-pub mod Severities  -- how severe an advisory is
-pub mod OsvRanges  -- which versions the ranges of OSV's form have
-pub mod Advisories  -- what an advisory says, and which versions it is about; npm's form
-pub mod Ids  -- what an error calls an advisory
-pub mod Faults  -- which values are no advisories in npm's form
-pub mod OsvForm  -- OSV's form
-pub mod OsvFaults  -- which values are no advisories in OSV's form
-pub mod Files  -- which form a file has
+-- ---- a file of advisories
+pub mod Files  -- which form it has, its advisories, and its fault
 -- ---- one installed package
 pub mod Hits  -- the advisories that hit a version
 pub mod Offers  -- the versions that are offered in place of one that is hit
@@ -18,7 +12,6 @@ pub mod Offers  -- the versions that are offered in place of one that is hit
 pub mod Audit  -- those that are hit, in their order
 pub mod FoundJson  -- a package that is hit as a JSON object
 -- ---- a lock file
-pub mod FolderNames  -- the names of packages by their folders
 pub mod LockFile  -- its installed packages
 pub mod LockFaults  -- why there is no audit of it
 pub mod FaultSteps  -- where in a file of advisories a fault is

@@ -4,16 +4,16 @@ use Rattle.serde_json.specs.Data.{Data, Members, member, no_members, object}
 use Rattle.serde_json.specs.Find.{get}
 use Rattle.npm_packages.specs.Dependents.{AreDependents}
 use Rattle.npm_packages.specs.Packages.{is_link}
-use Rattle.npm_advisories.specs.Advisories.{text_of}
+use Rattle.npm_advisory_files.specs.Advisories.{text_of}
 use Rattle.npm_advisories.specs.Audit.{InstalledValue}
-use Rattle.npm_advisories.specs.FolderNames.{IsFolderName}
+use Rattle.npm_packages.specs.Index.{IsEnd}
 
 -- The name of a package: its member `name`, which an alias has, or else what npm names it by its folder: `@s/a` in
 -- `b/node_modules/@s/a`, and `w` in `packages/w`, a workspace. An empty name counts as none
 pub data IsName (folder : List ℕ) (entry : Data) : List ℕ → Type 0 where
   said : (name : List ℕ) → text_of (codes "name") entry ≡ Some name → name ≢ [] → IsName folder entry name
   placed : (name : List ℕ) → (text_of (codes "name") entry ≡ None) ⊎ (text_of (codes "name") entry ≡ Some [])
-      → IsFolderName folder name → IsName folder entry name
+      → IsEnd folder name → IsName folder entry name
 
 -- the package in a folder, which is neither the root nor a link, and has a version
 pub record IsInstalledAs (texts_at : (folder : List ℕ) → List (List ℕ)) (folder : List ℕ) (entry : Data)

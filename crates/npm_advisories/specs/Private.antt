@@ -1,7 +1,3 @@
-pub mod Reading  -- the value of an advisory
-pub mod VersionTest  -- the test for version texts
-pub mod OsvReading  -- the value of an element of OSV's `affected`
-pub mod Index  -- the advisories by name
 pub mod Spans  -- the versions that advisories are about
 pub mod Covering  -- releases that spans contain
 pub mod Halves  -- lists of advisories in halves

@@ -3,28 +3,20 @@ ghost use Rattle.std.specs.Prelude.{◌≡◌, List, IfErr, IfOk, None, OnOk, Op
 ghost use Rattle.std.specs.List.{AllZip};
 ghost use Rattle.std.specs.Option.{MatchOption};
 ghost use Rattle.serde_json.specs.View.{view};
-ghost use Rattle.node_semver.specs.Ranges.{IsRangeEnd};
-ghost use Rattle.node_semver.specs.Versions.{VersionValue};
-ghost use Rattle.npm_advisories.specs.Advisories.{AdvisoryValue, about_name};
-ghost use Rattle.npm_advisories.specs.Audit.{IsAudit, IsReadAs, IsSpared, found_value, installed_value, names_of};
-ghost use Rattle.npm_advisories.specs.Audit.{version_or_least};
+ghost use Rattle.npm_advisory_files.specs.Advisories.{AdvisoryValue, about_name};
+ghost use Rattle.npm_advisories.specs.Audit.{IsAudit, IsSpared, found_value, installed_value, names_of};
 ghost use Rattle.npm_advisories.specs.Files.{IsAuditError, IsFileFault, advisories_of, is_among};
 ghost use Rattle.npm_advisories.specs.Private.Auditing.{IsFoundOf};
-ghost use Rattle.npm_advisories.specs.Private.Index.{IsIndex, at_name};
-ghost use Rattle.npm_advisories.specs.Private.Reading.{IsAdvisory};
+ghost use Rattle.npm_advisory_files.specs.Index.{IsAdvisory, IsIndex, at_name};
 ghost use Rattle.npm_advisories.specs.Private.Unions.{IsKnown};
 
 use crate::Result;
-use crate::advisory::About;
-use crate::fault::AuditError;
-use crate::index::Index;
-use crate::names::Names;
+use crate::names::names_of;
 use crate::offer::offer_above;
 use crate::read::read_file;
-use crate::severity::Severity;
 use crate::unions::Unions;
-use node_semver::{Version, VersionRef};
-use npm_texts::installed_version;
+use node_semver::Version;
+use npm_advisory_files::{About, AuditError, Index, Severity, read_version};
 use serde_json::Value;
 use std::alloc::Global;
 
@@ -86,7 +78,7 @@ pub fn audit<'f, 'v>(
     ensures refused { IfErr result
         (IsAuditError (names_of (map installed_value installed.now)) (view file.now)) }
 {
-    let names = Names::of_installed(alloc, installed)?;
+    let names = names_of(alloc, installed)?;
     let index = read_file(alloc, &names, file)?;
     Ok(found_in(alloc, &index, level, installed)?)
 }
@@ -148,19 +140,4 @@ fn found_of<'f, 'v>(
         least: offer.least,
         admitted: offer.admitted,
     }))
-}
-
-/// What an installed version is read as, if it is a version.
-fn read_version(text: &str) -> Option<VersionRef<'_>>
-    ensures read { IsReadAs text.now result }
-    ensures only { (v : Option VersionValue) → IsReadAs text.now v → v ≡ result }
-    ensures end { IsRangeEnd (version_or_least result) }
-{
-    if let Some(version) = installed_version(text) {
-        return Some(version);
-    }
-    match VersionRef::parse(text) {
-        Ok(version) => Some(version),
-        Err(_) => None,
-    }
 }

@@ -1,34 +1,24 @@
 //! Which installed packages security advisories hit, and the least version that they do not hit.
 #![tactic(auto)]
 
-mod advisory;
 mod covered;
-mod fault;
 mod found;
 mod halves;
 mod hits;
-mod id;
-mod index;
 mod json;
 mod lock;
-mod member;
 mod name;
 mod names;
 mod offer;
-mod osv;
 mod read;
 mod release;
-mod severity;
 mod spans;
 mod steps;
 mod unions;
 
-pub use advisory::About;
-pub use fault::{AuditError, Fault, FaultKind};
 pub use found::{Found, Installed, audit};
-pub use id::AdvisoryId;
 pub use lock::{LockError, audit_lock};
-pub use severity::Severity;
+pub use npm_advisory_files::{About, AdvisoryId, AuditError, Fault, FaultKind, Severity};
 pub use steps::fault_steps;
 
 /// The result of what fails by memory alone, if no other error is named.

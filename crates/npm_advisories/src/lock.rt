@@ -8,16 +8,14 @@ ghost use Rattle.npm_packages.specs.Faults.{lock_fault};
 ghost use Rattle.npm_packages.specs.Packages.{is_link};
 ghost use Rattle.npm_advisories.specs.Audit.{InstalledValue, IsAudit, found_value, installed_value};
 ghost use Rattle.npm_advisories.specs.Files.{advisories_of};
-ghost use Rattle.npm_advisories.specs.FolderNames.{IsFolderName};
+ghost use Rattle.npm_packages.specs.Index.{IsEnd};
 ghost use Rattle.npm_advisories.specs.LockFaults.{IsFileFaultBeside, IsLockError};
 ghost use Rattle.npm_advisories.specs.LockFile.{AreInstalled, AreInstalledOf, IsInstalledAs, IsName, IsOther};
 
 use crate::Result;
-use crate::fault::{AuditError, Fault};
 use crate::found::{Found, Installed, audit};
-use crate::member::text_at;
 use crate::name::folder_name;
-use crate::severity::Severity;
+use npm_advisory_files::{AuditError, Fault, Severity, text_at};
 use npm_packages::{CheckError, Dependents};
 use serde_json::{Map, Value};
 use std::alloc::Global;
@@ -154,7 +152,7 @@ fn name_of<'v>(folder: &'v str, entry: &'v Value) -> &'v str
 /// The name that is said, or that of the folder if it is empty.
 fn said_or_placed<'v>(folder: &'v str, said: &'v str) -> &'v str
     ensures { ((result.now ≡ said.now) × (said.now ≢ []))
-        ⊎ ((said.now ≡ []) × IsFolderName folder.now result.now) }
+        ⊎ ((said.now ≡ []) × IsEnd folder.now result.now) }
 {
     if said.is_empty() {
         folder_name(folder)

@@ -1,11 +1,11 @@
 //! The names of packages by their folders.
 ghost use Rattle.std.specs.Prelude.{◌≡◌, ◌≢◌, ◌++◌, ◌∷◌, ℕ, List};
 ghost use Rattle.std.specs.Option.{MatchOption};
-ghost use Rattle.npm_advisories.specs.FolderNames.{HasNoSlash, IsFolderName, IsLast};
+ghost use Rattle.npm_packages.specs.Index.{HasNoSlash, IsEnd, IsLast};
 
 /// The last part of a folder, with the scope before it.
 pub(crate) fn folder_name(folder: &str) -> &str
-    ensures { IsFolderName folder.now result.now }
+    ensures { IsEnd folder.now result.now }
 {
     let Some((above, last)) = split_last(folder) else {
         return folder;

@@ -167,11 +167,17 @@ fn members_of(alloc: Global, events: &str) -> Result<String, AllocError> {
 }
 
 // members; versions that are hit; versions that are not
-const MEMBERS: [(&str, &str, &str); 5] = [
+const MEMBERS: [(&str, &str, &str); 6] = [
     (
         r#""versions": ["1.2.3", "no version", 7, "v2.0.0+x"]"#,
         "1.2.3 1.2.3+b 2.0.0",
         "1.2.4 1.2.3-a 1.9.9",
+    ),
+    // They are read as versions of packages are.
+    (
+        r#""versions": ["=4.17.11", "V2.0.0", " v3.0.0 ", "1.2"]"#,
+        "4.17.11 =4.17.11 4.17.11+b 2.0.0 3.0.0",
+        "4.17.10 4.17.12 1.2.0",
     ),
     (
         r#""ranges": [{"type": "SEMVER", "events": [{"introduced": "3.0.0"}]}], "versions": ["1.0.0"]"#,
@@ -242,6 +248,49 @@ fn is_answered(alloc: Global, text: &str, wanted: &str) -> bool {
         Ok(file) => answer(alloc, file, "1.0.0") == wanted,
         Err(_) => false,
     }
+}
+
+// What `withdrawn` is, and whether 1.0.0 of `a` is hit. RFC 3339, section 5.6, in UTC, as the OSV schema says.
+const WITHDRAWN: [(&str, &str); 19] = [
+    (r#""2022-01-31T23:59:59Z""#, "spared"),
+    (r#""2022-01-31T23:59:59.5Z""#, "spared"),
+    (r#""2022-01-31T23:59:59.123456789Z""#, "spared"),
+    ("null", "hit"),
+    (r#""""#, "refused"),
+    (r#"" ""#, "refused"),
+    (r#""Z""#, "refused"),
+    (r#""no""#, "refused"),
+    (r#""2022-01-31""#, "refused"),
+    (r#""2022-01-31T23:59Z""#, "refused"),
+    (r#""2022-01-31T23:59:59""#, "refused"),
+    (r#""2022-01-31 23:59:59Z""#, "refused"),
+    (r#""2022-01-31T23:59:59.Z""#, "refused"),
+    (r#""2022-01-31T23:59:59.5""#, "refused"),
+    (r#""2022-01-31T23:59:59.5aZ""#, "refused"),
+    (r#""2022-01-31T23:59:59ZZ""#, "refused"),
+    (r#""2022-01-31T23:59:59+00:00""#, "refused"),
+    (r#""2O22-01-31T23:59:59Z""#, "refused"),
+    ("false", "refused"),
+];
+
+#[test]
+fn passes_over_what_was_withdrawn_at_a_time(rt: HostRuntime) {
+    for (withdrawn, wanted) in &WITHDRAWN {
+        assert!(rt; is_withdrawn(rt.alloc(), withdrawn, wanted), "{withdrawn}");
+    }
+}
+
+fn is_withdrawn(alloc: Global, withdrawn: &str, wanted: &str) -> bool {
+    match &withdrawn_at(alloc, withdrawn) {
+        Ok(text) => is_answered(alloc, text, wanted),
+        Err(_) => false,
+    }
+}
+
+fn withdrawn_at(alloc: Global, withdrawn: &str) -> Result<String, AllocError> {
+    format!(in alloc;
+        r#"[{{"id": "O", "affected": [{{"package": {{"ecosystem": "npm", "name": "a"}}, "versions": ["1.0.0"]}}], "withdrawn": {withdrawn}}}]"#
+    )
 }
 
 /// Two advisories as GitHub's database has them, shortened.

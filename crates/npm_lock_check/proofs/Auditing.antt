@@ -2,7 +2,7 @@
 use Rattle.std.proofs.Common.{◌≡◌, ◌∙◌, ℕ, List, None, Option, Some, ap, inl, inr, is_some, length, map, option_map, refl}
 use Rattle.std.proofs.lemmas.List.{length-map}
 use Rattle.serde_json.specs.Data.{Data}
-use Rattle.npm_advisories.specs.Faults.{FaultValue}
+use Rattle.npm_advisory_files.specs.Faults.{FaultValue}
 use Rattle.npm_advisories.specs.LockFaults.{IsFileFaultBeside}
 use Rattle.npm_packages.specs.Faults.{lock_fault}
 use Rattle.npm_lock_version_one.specs.VersionOne.{any_fault, converted}

@@ -14,11 +14,11 @@ use Rattle.npm_advisories.specs.Audit.{FoundValue}
 use Rattle.json_places.specs.Steps.{StepValue}
 use Rattle.shown_places.specs.ShownPlaces.{IsPlaceIn, shown_place_value}
 use Rattle.shown_places.specs.declared.place.ShownPlace.{ShownPlace}
-use Rattle.npm_advisories.specs.Faults.{FaultValue, fault_at}
+use Rattle.npm_advisory_files.specs.Faults.{FaultValue, fault_at}
 use Rattle.npm_advisories.specs.FaultSteps.{AreFaultStepsBeside}
-use Rattle.npm_advisories.specs.Ids.{IdValue}
 use Rattle.npm_advisories.specs.LockFaults.{IsFileFaultBeside}
-use Rattle.npm_advisories.specs.declared.fault.FaultKind.{FaultKind}
+use Rattle.npm_advisory_files.specs.Ids.{IdValue}
+use Rattle.npm_advisory_files.specs.declared.fault.FaultKind.{FaultKind}
 use Rattle.npm_manifest_files.specs.Linked.{LinkedValue, LoadedValue}
 use Rattle.command_lines.specs.Inputs as Inputs
 use Rattle.command_lines.specs.Inputs.{IsInput, IsInputText, IsWholeInput}

@@ -22,7 +22,7 @@ use Rattle.npm_lock.specs.declared.problem.Problems.{Problems}
 use Rattle.npm_advisories.specs.Files.{advisories_of}
 use Rattle.npm_advisories.specs.Audit.{FoundValue, InstalledValue, IsAudit}
 use Rattle.npm_advisories.specs.LockFile.{AreInstalledOf}
-use Rattle.npm_advisories.specs.declared.severity.Severity.{Severity}
+use Rattle.npm_advisory_files.specs.declared.severity.Severity.{Severity}
 use Rattle.npm_lock_reports.specs.Report.{folder_text}
 use Rattle.npm_lock_reports.specs.declared.report.Report.{Report}
 use Rattle.npm_lock_check.specs.Kinds.{has}

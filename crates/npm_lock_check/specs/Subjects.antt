@@ -1,9 +1,9 @@
 -- What the line of an error begins with: the input that the error is about.
 use Rattle.std.specs.Prelude.{ℕ, List, [], ◌∷◌, ◌++◌, Option, Some, None, codes, decimal, if◌then◌else◌}
 use Rattle.std.specs.Str.{bytes_eq}
-use Rattle.npm_advisories.specs.Ids.{IdValue, number, text}
-use Rattle.npm_advisories.specs.declared.fault.FaultKind.{FaultKind}
-use Rattle.npm_advisories.specs.declared.fault.FaultKind.TheVariants as FaultKinds
+use Rattle.npm_advisory_files.specs.Ids.{IdValue, number, text}
+use Rattle.npm_advisory_files.specs.declared.fault.FaultKind.{FaultKind}
+use Rattle.npm_advisory_files.specs.declared.fault.FaultKind.TheVariants as FaultKinds
 use Rattle.command_lines.specs.declared.input_error.InputError.TheVariants as Inputs
 use Rattle.npm_lock_check.specs.Arguments.{ArgumentsValue}
 use Rattle.command_lines.specs.Shown.{quoted}

@@ -2,8 +2,8 @@
 ghost use Rattle.std.specs.Prelude.{◌≡◌, IfErr, IfOk, map, option_map, string_bytes};
 ghost use Rattle.serde_json.specs.View.{view};
 ghost use Rattle.npm_advisories.specs.Audit.{found_value};
-ghost use Rattle.npm_advisories.specs.Faults.{fault_value};
-ghost use Rattle.npm_advisories.specs.Ids.{id_value};
+ghost use Rattle.npm_advisory_files.specs.Faults.{fault_value};
+ghost use Rattle.npm_advisory_files.specs.Ids.{id_value};
 ghost use Rattle.npm_lock_check.specs.Output.{IsFaultShown};
 ghost use Rattle.npm_lock_check.specs.Subjects.{id_text};
 ghost use Rattle.npm_lock_check.specs.Private.Refusals.{AreRefusedAs, IsAuditRefused, IsNameOf};

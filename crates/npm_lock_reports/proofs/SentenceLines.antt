@@ -13,12 +13,12 @@ use Rattle.npm_lock.specs.declared.problem.Kind.{Kind}
 use Rattle.npm_lock.specs.declared.problem.Kind.TheVariants.{Engine, Invalid, Missing, PeerLocal}
 use Rattle.npm_lock.specs.declared.problem.Reason.{Reason}
 use Rattle.npm_lock.specs.declared.problem.Reason.TheVariants.{Location, Override, Tag, Workspace}
-use Rattle.npm_advisories.specs.Advisories.{AboutValue}
+use Rattle.npm_advisory_files.specs.Advisories.{AboutValue}
 use Rattle.npm_advisories.specs.Audit.{FoundValue}
 use Rattle.npm_advisories.specs.FoundJson.{found_data}
-use Rattle.npm_advisories.specs.Severities.{word_of}
-use Rattle.npm_advisories.specs.declared.severity.Severity.{Severity}
-use Rattle.npm_advisories.specs.declared.severity.Severity.TheVariants as Severities
+use Rattle.npm_advisory_files.specs.Severities.{word_of}
+use Rattle.npm_advisory_files.specs.declared.severity.Severity.{Severity}
+use Rattle.npm_advisory_files.specs.declared.severity.Severity.TheVariants as Severities
 use Rattle.npm_lock_sentences.specs.Sentence.{after, asker, last_name, manifest_words, mismatch_sentence, named_asker, reason, said}
 use Rattle.npm_lock_sentences.specs.Sentence.{sentence, shown_spec, spec_words, unchecked_sentence, verdict}
 use Rattle.command_lines.specs.Shown.{shown}

@@ -4,10 +4,10 @@ use Rattle.std.specs.List.{AllByRecursion, AllZip, slice_split}
 use Rattle.serde_json.specs.Written.{has_float}
 use Rattle.npm_manifests.specs.Mismatches.{mismatch_value}
 use Rattle.npm_lock.specs.Outcomes.{problem_value, unchecked_value}
-use Rattle.npm_advisories.specs.Advisories.{AdvisoryValue}
+use Rattle.npm_advisory_files.specs.Advisories.{AdvisoryValue}
 use Rattle.npm_advisories.specs.Audit.{FoundValue, InstalledValue, IsAudit}
 use Rattle.npm_advisories.specs.FoundJson.{found_data}
-use Rattle.npm_advisories.specs.declared.severity.Severity.{Severity}
+use Rattle.npm_advisory_files.specs.declared.severity.Severity.{Severity}
 use Rattle.npm_lock_reports.specs.Report.{IsHitLine, IsReportText, folder_text, line_text, mismatch_text, unchecked_text, unread_text}
 use Rattle.npm_lock_reports.specs.Style.{StyleValue}
 use Rattle.npm_lock_reports.specs.declared.report.Report.{Report}

@@ -1,17 +1,22 @@
 -- The advisories of some files in npm's form and in OSV's, and the faults of others.
-use Rattle.std.proofs.Common.{◌≡◌, ◌∷◌, [], List, ℕ, Some, None, codes, false, map, refl, true}
+use Rattle.std.proofs.Common.{◌≡◌, ◌∷◌, [], List, ℕ, Some, None, arith, codes, false, map, refl, true}
 use Rattle.serde_json.specs.Data.{Data, Items, array, item, member, no_items, no_members, null, number, object, string}
 use Rattle.serde_json.specs.Data.{unsigned}
-use Rattle.node_semver.specs.Versions.{release}
-use Rattle.npm_advisories.specs.Advisories.{AboutValue, in_osv, range_text}
-use Rattle.npm_advisories.specs.Faults.{fault_at}
+use Rattle.semver_versions.specs.Lemmas.Public.{is-version_in, version_in}
+use Rattle.node_semver.specs.Versions.{IsVersionText, release}
+use Rattle.npm_advisory_files.specs.Advisories.{AboutValue, in_osv, range_text}
+use Rattle.npm_advisory_files.specs.Faults.{fault_at}
 use Rattle.npm_advisories.specs.Files.{IsFileFault, advisories_of}
-use Rattle.npm_advisories.specs.Ids.{id_in, number as id_number, text as id_text}
-use Rattle.npm_advisories.specs.OsvRanges.{fixed, introduced}
-use Rattle.npm_advisories.specs.Severities.{is_at_least, severity_of_text}
-use Rattle.npm_advisories.specs.declared.fault.FaultKind.TheVariants as Faults
-use Rattle.npm_advisories.specs.declared.severity.Severity.TheVariants.{Critical, High, Info, Low, Moderate, Unknown}
-use Rattle.npm_advisories.proofs.Examples.OsvExamples.{two}
+use Rattle.npm_advisory_files.specs.Ids.{id_in, number as id_number, text as id_text}
+use Rattle.npm_advisory_files.specs.OsvRanges.{fixed, introduced}
+use Rattle.npm_advisory_files.specs.Severities.{is_at_least, severity_of_text}
+use Rattle.npm_advisory_files.specs.Timestamps.{is_timestamp}
+use Rattle.npm_advisory_files.specs.declared.fault.FaultKind.TheVariants as Faults
+use Rattle.npm_advisory_files.specs.declared.severity.Severity.TheVariants.{Critical, High, Info, Low, Moderate, Unknown}
+
+two : IsVersionText (codes "2.0.0") (release 2 0 0)
+unfolding version_in
+two = is-version_in _ _ (omega arith) refl
 
 -- an object with one member
 abbrev only : (key : List ℕ) → Data → Data
@@ -101,6 +106,16 @@ pub a_withdrawn_advisory_is_none : advisories_of (object (member (codes "affecte
     no_members)))) ≡ []
 a_withdrawn_advisory_is_none = refl
 
+-- ---- times
+
+pub times : map is_timestamp (codes "2022-01-31T23:59:59Z" ∷ codes "2022-01-31T23:59:59.5Z" ∷ []) ≡ true ∷ true ∷ []
+times = refl
+
+pub no_times : map is_timestamp ([] ∷ codes "2022-01-31" ∷ codes "2022-01-31T23:59:59" ∷ codes "2022-01-31 23:59:59Z"
+    ∷ codes "2022-01-31T23:59:59.Z" ∷ codes "2022-01-31T23:59:59ZZ" ∷ [])
+    ≡ false ∷ false ∷ false ∷ false ∷ false ∷ false ∷ []
+no_times = refl
+
 -- ---- severities
 
 pub the_words_of_npm : map severity_of_text (codes "low" ∷ codes "moderate" ∷ codes "high" ∷ codes "critical" ∷ [])
@@ -183,6 +198,12 @@ affected_is_missing is_version told = refl
 pub a_withdrawn_advisory_needs_none : IsFileFault [] (array (item (object (member (codes "id") (string (codes "O"))
     (member (codes "withdrawn") (string (codes "2022-01-01T00:00:00Z")) no_members))) no_items)) None
 a_withdrawn_advisory_needs_none is_version told = refl
+
+-- `withdrawn` says at which time: in `[{"id": "O", "withdrawn": ""}]` it does not
+pub no_time_is_a_fault : IsFileFault [] (array (item (object (member (codes "id") (string (codes "O"))
+    (member (codes "withdrawn") (string []) no_members))) no_items))
+    (Some (fault_at [] 0 (Some (id_text (codes "O"))) Faults.Withdrawn))
+no_time_is_a_fault is_version told = refl
 
 -- under each name stands a list: in `{"a": ""}`, where `a` is not installed
 pub no_list_under_any_name :

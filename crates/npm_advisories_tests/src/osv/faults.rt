@@ -6,7 +6,7 @@ use std::alloc::Global;
 
 // A text, and its fault: its kind, the first installed package that the advisory is about, if there is one, its place and its
 // id. Those with no fault are read.
-const TEXTS: [(&str, &str); 19] = [
+const TEXTS: [(&str, &str); 21] = [
     ("[1]", "Advisory  0"),
     (
         r#"[{"id": "O", "affected": []}, {"id": 1, "affected": [{"package": {"ecosystem": "npm", "name": "a"}}]}]"#,
@@ -22,6 +22,14 @@ const TEXTS: [(&str, &str); 19] = [
     ),
     (
         r#"{"id": "O", "withdrawn": null, "affected": [{"package": {"ecosystem": "npm", "name": "b"}}]}"#,
+        "",
+    ),
+    (
+        r#"{"id": "O", "withdrawn": "", "affected": [{"package": {"ecosystem": "npm", "name": "a"}}]}"#,
+        "Withdrawn a 0 O",
+    ),
+    (
+        r#"{"id": "O", "withdrawn": "", "affected": [{"package": {"ecosystem": "npm", "name": "c"}}]}"#,
         "",
     ),
     // An object without `affected` may be about any package.

@@ -2,7 +2,7 @@
 use Rattle.std.proofs.Common.{◌≡◌, ◌∷◌, [], Err, Ok, Some, codes, false, map, refl, true}
 use Rattle.command_options.specs.Given.{is_among}
 use Rattle.command_options.specs.declared.given.Shown.TheVariants.{Help, Version}
-use Rattle.npm_advisories.specs.declared.severity.Severity.TheVariants.{High}
+use Rattle.npm_advisory_files.specs.declared.severity.Severity.TheVariants.{High}
 use Rattle.npm_lock.specs.declared.problem.Kind.TheVariants.{Engine, Invalid, Missing, PeerLocal}
 use Rattle.npm_lock_check.specs.Arguments.{ArgumentsValue, asked_by, files_of, many_files, no_kind, no_severity, no_value, read_arguments, second_input, unknown_option}
 use Rattle.npm_lock_check.specs.Kinds.{has, kind_words, kinds_of}

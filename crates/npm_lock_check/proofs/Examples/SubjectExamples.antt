@@ -1,8 +1,8 @@
 -- What the definitions say of the beginnings of lines.
 use Rattle.std.proofs.Common.{◌≡◌, ◌∷◌, [], None, Some, codes, refl}
 use Rattle.std.specs.Fmt.{digits}
-use Rattle.npm_advisories.specs.declared.fault.FaultKind.TheVariants as FaultKinds
-use Rattle.npm_advisories.specs.declared.fault.FaultKind.TheVariants.{File, Range}
+use Rattle.npm_advisory_files.specs.declared.fault.FaultKind.TheVariants as FaultKinds
+use Rattle.npm_advisory_files.specs.declared.fault.FaultKind.TheVariants.{File, Range}
 use Rattle.npm_lock_check.specs.Arguments.{ArgumentsValue, asked_by}
 use Rattle.command_lines.specs.Shown.{quoted}
 use Rattle.command_lines.specs.declared.input_error.InputError.TheVariants as Inputs

@@ -7,8 +7,8 @@ use Rattle.npm_manifests.specs.Mismatches.{manifest_fault}
 use Rattle.npm_lock_version_one.specs.VersionOne.{converted}
 use Rattle.npm_packages.specs.declared.fault.Fault.{Fault}
 use Rattle.npm_lock_faults.specs.declared.fault_place.FaultPlace.{FaultPlace}
-use Rattle.npm_advisories.specs.Faults.{FaultValue}
-use Rattle.npm_advisories.specs.declared.fault.FaultKind.{FaultKind}
+use Rattle.npm_advisory_files.specs.Faults.{FaultValue}
+use Rattle.npm_advisory_files.specs.declared.fault.FaultKind.{FaultKind}
 use Rattle.npm_manifest_files.specs.Linked.{LinkedValue}
 use Rattle.npm_lock_check.specs.Output.{AreNoAdvisories, IsFaultShown, IsNoLinked, IsNoLockFile, IsNoManifest}
 use Rattle.shown_places.specs.declared.place.ShownPlace.{ShownPlace}

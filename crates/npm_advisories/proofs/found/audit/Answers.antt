@@ -2,8 +2,8 @@
 use Rattle.std.proofs.Common.{map, rules}
 use Rattle.serde_json.specs.View.{view}
 use Rattle.npm_advisories.specs.Audit.{installed_value, names_of}
-use Rattle.npm_advisories.specs.Private.Index.{has_name}
-use Rattle.npm_advisories.proofs.VersionTests.{audit-error, fault-each}
+use Rattle.npm_advisory_files.specs.Index.{has_name}
+use Rattle.npm_advisories.proofs.FileFaults.{audit-error, fault-each}
 use Rattle.npm_advisories.proofs.found.audit.Goals as goal
 
 pub returns-clause-sound : goal.returns-clause-sound

@@ -1,13 +1,14 @@
 -- The advisories of the index about the name were read of those of the file.
 use Rattle.std.proofs.Common.{◌≡◌, ◌∙◌, [], map, refl, subst, sym}
 use Rattle.std.specs.List.{AllZip}
-use Rattle.npm_advisories.specs.Advisories.{about_name, about_value}
+use Rattle.npm_advisory_files.specs.Advisories.{about_name, about_value}
 use Rattle.npm_advisories.specs.Audit.{version_or_least}
 use Rattle.npm_advisories.specs.Hits.{AreHits, none}
 use Rattle.npm_advisories.specs.Private.Covering.{AreCovered}
-use Rattle.npm_advisories.specs.Private.Reading.{IsAdvisory}
+use Rattle.npm_advisory_files.specs.Index.{IsAdvisory}
 use Rattle.npm_advisories.specs.Private.Spans.{IsInRange}
 use Rattle.npm_advisories.proofs.Auditing.{empty-of, some-of}
+use Rattle.npm_advisories.proofs.LeastVersion.{end-or_least}
 use Rattle.npm_advisories.proofs.Keeping.{admitted-same, hits-same, unhit-same}
 use Rattle.npm_advisories.proofs.Results.{same-offer}
 use Rattle.npm_advisories.proofs.Uniting.{known-empty, known-union}
@@ -47,7 +48,7 @@ pub offer_above-requires : goal.offer_above-requires
 offer_above-requires c =
     let name = c.args.installed.now.name.now in
     let known = known-union c.args.index.now name _ c.in-Some-at.union.now (sym c.in-Some-at.ensures) c.requires in
-    record { end = c.read_version-version.ensures.end; covered = rw c.covered.ensures known.covered.steps }
+    record { end = end-or_least c.read_version-version.result c.read_version-version.ensures.end; covered = rw c.covered.ensures known.covered.steps }
 
 pub returns : goal.returns
 returns c = λ values are.

@@ -1,10 +1,11 @@
 -- One object more is read, or is at fault.
 use Rattle.std.proofs.Common.{◌++◌, refl, rules}
 use Rattle.serde_json.specs.View.{view}
-use Rattle.npm_advisories.specs.OsvForm.{osv_advisories, osv_list}
-use Rattle.npm_advisories.specs.Private.Index.{has_name}
-use Rattle.npm_advisories.proofs.Indexing.{adds-both}
-use Rattle.npm_advisories.proofs.Walking.{osv-found, osv-passed, read-passed}
+use Rattle.npm_advisory_files.specs.OsvForm.{osv_advisories, osv_list}
+use Rattle.npm_advisory_files.specs.Index.{has_name}
+use Rattle.npm_advisory_files.specs.Lemmas.Adding.{adds-both}
+use Rattle.npm_advisory_files.specs.Lemmas.Items.{read-passed}
+use Rattle.npm_advisories.proofs.Reading.{osv-found, osv-passed}
 use Rattle.npm_advisories.proofs.read.add_osv_list.Goals as goal
 
 pub loop-place-preserved : goal.loop-place-preserved

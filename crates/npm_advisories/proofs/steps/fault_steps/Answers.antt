@@ -5,12 +5,12 @@ use Rattle.serde_json.specs.Data.{Data}
 use Rattle.serde_json.specs.View.{view}
 use Rattle.json_places.specs.Steps.{StepValue, steps_seen}
 use Rattle.npm_advisories.specs.Audit.{installed_value, names_of}
-use Rattle.npm_advisories.specs.Faults.{FaultValue, fault_value}
+use Rattle.npm_advisory_files.specs.Faults.{FaultValue, fault_value}
 use Rattle.npm_advisories.specs.FaultSteps.{AreFaultSteps, fault_steps}
 use Rattle.npm_advisories.specs.Files.{is_among}
-use Rattle.npm_advisories.specs.Private.Index.{has_name}
-use Rattle.npm_advisories.specs.Private.VersionTest.{is_version}
-use Rattle.npm_advisories.proofs.VersionTests.{only-test}
+use Rattle.npm_advisory_files.specs.Index.{has_name}
+use Rattle.npm_advisory_files.specs.Private.VersionTest.{is_version}
+use Rattle.npm_advisory_files.specs.Lemmas.VersionTests.{only-test}
 use Rattle.npm_advisories.proofs.steps.fault_steps.Goals as goal
 
 each : (names : List (List ℕ)) (is_wanted : List ℕ → Bool) → ((name : List ℕ) → is_wanted name ≡ is_among names name)
@@ -25,10 +25,10 @@ returns-in-Err-clause-refused c = c.in-Err.ensures.refused (view c.args.file.now
 
 pub returns-in-Ok-steps_of-clause-found : goal.returns-in-Ok-steps_of-clause-found
 returns-in-Ok-steps_of-clause-found c =
-    let same = rw c.deref.ensures.value at c.in-Ok-of_installed.ensures in (
+    let same = rw c.deref.ensures.value at c.in-Ok-names_of.ensures in (
       map installed_value c.in-Ok.installed.items,
       c.in-Ok.ensures.found,
-      each (names_of (map installed_value c.in-Ok.installed.items)) (has_name c.in-Ok-of_installed.names) same
+      each (names_of (map installed_value c.in-Ok.installed.items)) (has_name c.in-Ok-names_of.names) same
           (view c.args.file.now) (fault_value c.args.fault) (steps_seen c.in-Ok-steps_of.steps.items)
           c.in-Ok-steps_of.ensures,
     )

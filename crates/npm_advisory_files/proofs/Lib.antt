@@ -1,0 +1,6 @@
+pub mod Examples
+pub mod OsvSpans
+pub mod OsvMarks
+pub mod OsvEnds
+pub mod OsvBetween
+pub mod ReadVersions

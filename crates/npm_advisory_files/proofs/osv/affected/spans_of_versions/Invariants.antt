@@ -1,0 +1,15 @@
+-- The spans are those of the versions so far.
+use Rattle.std.proofs.Common.{◌≡◌, ◌++◌, ℕ, List, drop}
+use Rattle.serde_json.specs.View.{items_view}
+use Rattle.node_semver.specs.Ranges.{AnyByRecursion}
+use Rattle.npm_advisory_files.specs.OsvForm.{texts_of}
+use Rattle.npm_advisory_files.specs.OsvRanges.{IsTextOfSame}
+use Rattle.npm_advisory_files.specs.Lemmas.Spans.{Have}
+use Rattle.npm_advisory_files.proofs.osv.affected.spans_of_versions.Given as goal
+
+abbrev pub invariant-loop-value : goal.invariant-loop-value
+invariant-loop-value l = record {
+  front : List (List ℕ);
+  have : Have l.spans.items (λ v. AnyByRecursion (λ text. IsTextOfSame text v) front);
+  rest : texts_of (items_view l.versions) ≡ front ++ texts_of (items_view (drop l.value-index l.versions));
+}

@@ -1,0 +1,117 @@
+//! The versions that an element of `affected` is about.
+ghost use Rattle.std.specs.Prelude.{◌≡◌, [], ◌∷◌, IfErr, IfOk, None, OnOk, Some, codes, if◌then◌else◌, is_some};
+ghost use Rattle.std.specs.Option.{option_map_or, option_or};
+ghost use Rattle.std.specs.Result.{result_err};
+ghost use Rattle.serde_json.specs.Find.{as_str};
+ghost use Rattle.serde_json.specs.View.{items_view, view};
+ghost use Rattle.node_semver.specs.Ranges.{AnyByRecursion};
+ghost use Rattle.npm_advisory_files.specs.Faults.{first_fault, items_fault};
+ghost use Rattle.npm_advisory_files.specs.OsvFaults as Faults;
+ghost use Rattle.npm_advisory_files.specs.OsvForm as Form;
+ghost use Rattle.npm_advisory_files.specs.OsvRanges.{IsInEvents, IsTextOfSame};
+ghost use Rattle.npm_advisory_files.specs.Lemmas.Spans.{Have, span_list};
+ghost use Rattle.npm_advisory_files.specs.Index.{IsRangeOf};
+ghost use Rattle.npm_advisory_files.specs.Private.Reading.{IsUnreadAs};
+ghost use Rattle.npm_advisory_files.specs.Private.VersionTest.{is_version};
+ghost use Rattle.npm_advisory_files.specs.declared.fault.FaultKind.TheVariants as Kinds;
+
+use crate::Result;
+use crate::fault::{FaultKind, Unread};
+use crate::member::{items_at, text_at};
+use crate::osv::between::spans_of_marks;
+use crate::osv::events::marks_of;
+use crate::version::read_version;
+use node_semver::{Range, Version};
+use semver_cuts::{Cut, Span};
+use serde_json::Value;
+use std::alloc::Global;
+
+/// The versions that an element of `affected` is about, if there are any.
+pub fn range_of(alloc: Global, one: &Value) -> Result<Option<Range>, Unread>
+    ensures range { IfOk result (IsRangeOf (Form.osv_affected (view one.now))) }
+    ensures sound { OnOk result (option_or (Faults.ranges_fault is_version (view one.now))
+        (items_fault (codes "versions") Kinds.Versions (view one.now)) ≡ None) }
+    ensures refused { IfErr result (IsUnreadAs (option_or (Faults.ranges_fault is_version (view one.now))
+        (items_fault (codes "versions") Kinds.Versions (view one.now)))) }
+{
+    let ranges = items_at(one, "ranges", FaultKind::Ranges)?;
+    let mut spans = spans_of_ranges(alloc, ranges)?;
+    let versions = items_at(one, "versions", FaultKind::Versions)?;
+    let mut listed = spans_of_versions(alloc, versions)?;
+    spans.append(&mut listed)?;
+    Ok(Range::from_sets(alloc, &spans)?)
+}
+
+/// The spans of all ranges that have versions.
+pub fn spans_of_ranges(alloc: Global, ranges: &[Value]) -> Result<Vec<Span<Version>>, Unread>
+    ensures read { IfOk result (λ spans. Have spans.items
+        (λ v. AnyByRecursion (λ events. IsInEvents events v) (Form.ranges_of (items_view ranges.now)))) }
+    ensures sound { OnOk result (first_fault (Faults.osv_range_fault is_version) (items_view ranges.now) ≡ None) }
+    ensures refused { IfErr result
+        (IsUnreadAs (first_fault (Faults.osv_range_fault is_version) (items_view ranges.now))) }
+{
+    let mut spans = Vec::new(alloc);
+    for range in ranges {
+        let mut more = spans_of_range(alloc, range)?;
+        spans.append(&mut more)?;
+    }
+    Ok(spans)
+}
+
+/// The spans of a range; none if it has no versions.
+pub fn spans_of_range(alloc: Global, range: &Value) -> Result<Vec<Span<Version>>, Unread>
+    ensures read { IfOk result (λ spans. Have spans.items (λ v. AnyByRecursion (λ events. IsInEvents events v)
+        (if Form.has_versions (view range.now) then Form.events_of (Form.items_at (codes "events") (view range.now)) ∷ []
+        else []))) }
+    ensures sound { OnOk result (Faults.osv_range_fault is_version (view range.now) ≡ None) }
+    ensures refused { IfErr result (IsUnreadAs (Faults.osv_range_fault is_version (view range.now))) }
+{
+    if !has_versions(range)? {
+        return Ok(Vec::new(alloc));
+    }
+    let events = items_at(range, "events", FaultKind::Events)?;
+    let marks = marks_of(alloc, events)?;
+    Ok(spans_of_marks(alloc, marks)?)
+}
+
+/// Returns `true` if a range has versions, and not commits.
+pub fn has_versions(range: &Value) -> Result<bool, FaultKind>
+    ensures versions { IfOk result (λ has. has ≡ Form.has_versions (view range.now)) }
+    ensures fault { result_err result ≡ Faults.type_fault (view range.now) }
+{
+    match text_at(range, "type") {
+        Some("SEMVER" | "ECOSYSTEM") => Ok(true),
+        Some("GIT") => Ok(false),
+        _ => Err(FaultKind::Type),
+    }
+}
+
+/// The spans of the versions of a list.
+fn spans_of_versions(alloc: Global, versions: &[Value]) -> Result<Vec<Span<Version>>>
+    ensures { IfOk result (λ spans. Have spans.items
+        (λ v. AnyByRecursion (λ text. IsTextOfSame text v) (Form.texts_of (items_view versions.now)))) }
+{
+    let mut spans = Vec::new(alloc);
+    for value in versions {
+        if let Some(span) = span_of_version(alloc, value)? {
+            spans.push(span)?;
+        }
+    }
+    Ok(spans)
+}
+
+/// The span of a version, if the value is the text of one: `1.2.3`, and `=1.2.3` too.
+fn span_of_version(alloc: Global, value: &Value) -> Result<Option<Span<Version>>>
+    ensures { IfOk result (λ span. Have (span_list span) (λ v. AnyByRecursion (λ text. IsTextOfSame text v)
+        (option_map_or (λ text. text ∷ []) (as_str (view value.now)) []))) }
+{
+    let Some(text) = value.as_str() else {
+        return Ok(None);
+    };
+    let Some(version) = read_version(text) else {
+        return Ok(None);
+    };
+    let lower = Cut::Before(version.to_version(alloc)?);
+    let upper = Cut::After(version.to_version(alloc)?);
+    Ok(Some(Span::between(lower, upper)))
+}

@@ -18,6 +18,7 @@ SCRIPTS = {"memory_trials": "makes the calls", "node_semver_callers": "examples"
            "command_lines": "all runs", "npm_lock_sentences": "runs with --format text",
            "npm_lock_faults": "runs on lock files and manifests with faults", "npm_lock_reports": "all runs",
            "npm_manifest_files": "runs with --manifest",
+           "npm_lock_file_checks": "all runs", "npm_lock_arguments": "all runs", "npm_lock_runs": "all runs",
            "npm_pick_reports": "all runs"}
 
 # A function, and the call that makes it.

@@ -6,53 +6,25 @@
 //! why. It is also 2 if that line, or the one that counts, is not written.
 #![tactic(auto)]
 
-mod argument_error;
-mod arguments;
-mod files;
-mod format;
-mod help;
-mod hits;
-mod kinds;
-mod list_name;
-mod lock_files;
-mod node;
-mod output;
-mod outputs;
 mod program_error;
-mod refused;
-mod run_error;
-mod status;
-mod subject;
-mod sync;
-mod wanted;
-mod workspace_problems;
-mod written;
 
-use argument_error::ArgumentError;
-use arguments::{Arguments, read_arguments};
 use command_lines::{Quoted, Watched, open_error, read_json_with_text, words_of};
 use command_options::Shown;
-use files::files_of;
-use format::Format;
-use help::{HELP, VERSION};
-use lock_files::{Writing, run, stop_text};
-use node::node_of;
 use node_semver::Version;
+use npm_lock_arguments::{
+    ArgumentError, Arguments, HELP, VERSION, files_of, node_of, read_arguments,
+};
+use npm_lock_file_checks::{Format, Output, RunError, StopError, Wanted, checked_in};
 use npm_lock_reports::{Report, ReportFormat};
+use npm_lock_runs::{Writing, lock_subject, run, status_of, stop_text, subject_of};
 use npm_manifest_files::{
     ManifestError, folder_of, manifest_in, manifests_of, read_faultless, with_workspaces,
 };
-use output::checked_in;
-use outputs::Output;
 use program_error::ProgramError;
-use run_error::{RunError, StopError};
 use serde_json::Value;
-use status::status_of;
 use std::fs::File;
 use std::io::{IsTerminal, Read, Write};
 use std::process::ExitCode;
-use subject::{lock_subject, subject_of};
-use wanted::Wanted;
 
 /// A file of advisories.
 #[derive(Drop)]

@@ -40,13 +40,12 @@ struct Inputs {
     advisories: Option<Advisories>,
 }
 
-/// What a lock file is checked with.
-#[derive(Clone, Copy, Drop)]
+/// What each lock file is checked with.
+#[derive(Drop)]
 struct Beside<'a> {
     writing: Writing<'a>,
-    node: Option<&'a Version>,
-    manifest: Option<&'a Value>,
-    advisories: Option<&'a Advisories>,
+    node: Option<Version>,
+    inputs: Inputs,
 }
 
 /// Ends with the status of the run, or with 2 if it did not begin.
@@ -90,9 +89,8 @@ fn answered<'a>(rt: &HostRuntime, words: &'a [String]) -> Result<u8, ProgramErro
     };
     let beside = Beside {
         writing,
-        node: node.as_ref(),
-        manifest: inputs.manifest.as_ref(),
-        advisories: inputs.advisories.as_ref(),
+        node,
+        inputs,
     };
     checked_all(rt, beside, &files).map_err(|error| stopped(asked, error))
 }
@@ -124,17 +122,19 @@ fn write_stop(rt: &HostRuntime, writing: Writing<'_>, error: &StopError) {
     }
 }
 
-/// Checks the lock files, and writes the output and the lines. Returns the exit status.
+/// Checks the lock files, and writes the output and the lines. Returns the exit status. What they are checked with is dropped after
+/// the last one is checked, before the output is written.
 fn checked_all(rt: &HostRuntime, beside: Beside<'_>, files: &[&str]) -> Result<u8, RunError> {
+    let writing = beside.writing;
     let mut writer = Watched::new(rt.stdout());
     let outcomes = run(
         rt.alloc(),
         &mut writer,
         files,
-        beside.writing,
-        |file| opened(rt, beside, file),
+        writing,
+        move |file| opened(rt, &beside, file),
     )?;
-    let is_said = said(rt, beside.writing.asked, files, &outcomes);
+    let is_said = said(rt, writing.asked, files, &outcomes);
     Ok(status_of(&outcomes, is_said))
 }
 
@@ -195,7 +195,7 @@ fn node_asked<'a>(
 /// Opens a lock file and checks it.
 fn opened<'f>(
     rt: &HostRuntime,
-    beside: Beside<'_>,
+    beside: &Beside<'_>,
     file: &'f str,
 ) -> Result<(Report, Output<'f>), StopError> {
     if file == "-" {
@@ -211,7 +211,7 @@ fn opened<'f>(
 fn checked<'f, R: Read + Drop>(
     rt: &HostRuntime,
     reader: R,
-    beside: Beside<'_>,
+    beside: &Beside<'_>,
     file: &'f str,
 ) -> Result<(Report, Output<'f>), StopError> {
     let Writing {
@@ -219,14 +219,15 @@ fn checked<'f, R: Read + Drop>(
         asked,
         outer,
     } = beside.writing;
-    let manifest = beside.manifest;
+    let manifest = beside.inputs.manifest.as_ref();
+    let advisories = beside.inputs.advisories.as_ref();
     let wanted = Wanted {
         manifest,
         exact: asked.exact,
-        advisories: beside.advisories.map(|file| &file.value),
-        advisories_text: beside.advisories.map_or("", |file| file.text.as_str()),
+        advisories: advisories.map(|file| &file.value),
+        advisories_text: advisories.map_or("", |file| file.text.as_str()),
         level: asked.level,
-        node: beside.node,
+        node: beside.node.as_ref(),
         ignored: asked.ignored,
         unchecked: asked.unchecked,
         format,

@@ -11,7 +11,7 @@ PLACES = (
     ("bindings/c/include/npm_pick.h", r'#define NPM_PICK_LIBRARY_VERSION "([^"]*)"'),
     ("bindings/python/src/node_semver/__init__.py", r'^__version__ = "([^"]*)"'),
     ("bindings/node/package.json", r'^  "version": "([^"]*)"'),
-    ("crates/npm_lock_check/src/help.rt", r'"npm_lock_check ([^"\\]*)\\n"'),
+    ("crates/npm_lock_arguments/src/help.rt", r'"(?:npm_lock_check )?(\d[^"\\]*)(?:\\n)?"'),
     ("crates/npm_pick_command/src/help.rt", r'"npm_pick ([^"\\]*)\\n"'),
     ("README.md", r"denimscree-semver-([0-9][0-9.]*)\.tgz"),
 )

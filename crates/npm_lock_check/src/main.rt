@@ -6,53 +6,25 @@
 //! why. It is also 2 if that line, or the one that counts, is not written.
 #![tactic(auto)]
 
-mod argument_error;
-mod arguments;
-mod files;
-mod format;
-mod help;
-mod hits;
-mod kinds;
-mod list_name;
-mod lock_files;
-mod node;
-mod output;
-mod outputs;
 mod program_error;
-mod refused;
-mod run_error;
-mod status;
-mod subject;
-mod sync;
-mod wanted;
-mod workspace_problems;
-mod written;
 
-use argument_error::ArgumentError;
-use arguments::{Arguments, read_arguments};
 use command_lines::{Quoted, Watched, open_error, read_json_with_text, words_of};
 use command_options::Shown;
-use files::files_of;
-use format::Format;
-use help::{HELP, VERSION};
-use lock_files::{Writing, run, stop_text};
-use node::node_of;
 use node_semver::Version;
+use npm_lock_arguments::{
+    ArgumentError, Arguments, HELP, VERSION, files_of, node_of, read_arguments,
+};
+use npm_lock_file_checks::{Format, Output, RunError, StopError, Wanted, checked_in};
 use npm_lock_reports::{Report, ReportFormat};
+use npm_lock_runs::{Writing, lock_subject, run, status_of, stop_text, subject_of};
 use npm_manifest_files::{
     ManifestError, folder_of, manifest_in, manifests_of, read_faultless, with_workspaces,
 };
-use output::checked_in;
-use outputs::Output;
 use program_error::ProgramError;
-use run_error::{RunError, StopError};
 use serde_json::Value;
-use status::status_of;
 use std::fs::File;
 use std::io::{IsTerminal, Read, Write};
 use std::process::ExitCode;
-use subject::{lock_subject, subject_of};
-use wanted::Wanted;
 
 /// A file of advisories.
 #[derive(Drop)]
@@ -68,13 +40,12 @@ struct Inputs {
     advisories: Option<Advisories>,
 }
 
-/// What a lock file is checked with.
-#[derive(Clone, Copy, Drop)]
+/// What each lock file is checked with.
+#[derive(Drop)]
 struct Beside<'a> {
     writing: Writing<'a>,
-    node: Option<&'a Version>,
-    manifest: Option<&'a Value>,
-    advisories: Option<&'a Advisories>,
+    node: Option<Version>,
+    inputs: Inputs,
 }
 
 /// Ends with the status of the run, or with 2 if it did not begin.
@@ -118,9 +89,8 @@ fn answered<'a>(rt: &HostRuntime, words: &'a [String]) -> Result<u8, ProgramErro
     };
     let beside = Beside {
         writing,
-        node: node.as_ref(),
-        manifest: inputs.manifest.as_ref(),
-        advisories: inputs.advisories.as_ref(),
+        node,
+        inputs,
     };
     checked_all(rt, beside, &files).map_err(|error| stopped(asked, error))
 }
@@ -152,17 +122,19 @@ fn write_stop(rt: &HostRuntime, writing: Writing<'_>, error: &StopError) {
     }
 }
 
-/// Checks the lock files, and writes the output and the lines. Returns the exit status.
+/// Checks the lock files, and writes the output and the lines. Returns the exit status. What they are checked with is dropped after
+/// the last one is checked, before the output is written.
 fn checked_all(rt: &HostRuntime, beside: Beside<'_>, files: &[&str]) -> Result<u8, RunError> {
+    let writing = beside.writing;
     let mut writer = Watched::new(rt.stdout());
     let outcomes = run(
         rt.alloc(),
         &mut writer,
         files,
-        beside.writing,
-        |file| opened(rt, beside, file),
+        writing,
+        move |file| opened(rt, &beside, file),
     )?;
-    let is_said = said(rt, beside.writing.asked, files, &outcomes);
+    let is_said = said(rt, writing.asked, files, &outcomes);
     Ok(status_of(&outcomes, is_said))
 }
 
@@ -223,7 +195,7 @@ fn node_asked<'a>(
 /// Opens a lock file and checks it.
 fn opened<'f>(
     rt: &HostRuntime,
-    beside: Beside<'_>,
+    beside: &Beside<'_>,
     file: &'f str,
 ) -> Result<(Report, Output<'f>), StopError> {
     if file == "-" {
@@ -239,7 +211,7 @@ fn opened<'f>(
 fn checked<'f, R: Read + Drop>(
     rt: &HostRuntime,
     reader: R,
-    beside: Beside<'_>,
+    beside: &Beside<'_>,
     file: &'f str,
 ) -> Result<(Report, Output<'f>), StopError> {
     let Writing {
@@ -247,14 +219,15 @@ fn checked<'f, R: Read + Drop>(
         asked,
         outer,
     } = beside.writing;
-    let manifest = beside.manifest;
+    let manifest = beside.inputs.manifest.as_ref();
+    let advisories = beside.inputs.advisories.as_ref();
     let wanted = Wanted {
         manifest,
         exact: asked.exact,
-        advisories: beside.advisories.map(|file| &file.value),
-        advisories_text: beside.advisories.map_or("", |file| file.text.as_str()),
+        advisories: advisories.map(|file| &file.value),
+        advisories_text: advisories.map_or("", |file| file.text.as_str()),
         level: asked.level,
-        node: beside.node,
+        node: beside.node.as_ref(),
         ignored: asked.ignored,
         unchecked: asked.unchecked,
         format,

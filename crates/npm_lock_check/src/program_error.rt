@@ -1,8 +1,8 @@
 //! Why the program ends with status 2.
-use crate::argument_error::ArgumentError;
-use crate::run_error::StopError;
-use crate::subject::Subject;
 use command_lines::WordsError;
+use npm_lock_arguments::ArgumentError;
+use npm_lock_file_checks::StopError;
+use npm_lock_runs::Subject;
 use thiserror::Error;
 
 /// Why the program ends with status 2.

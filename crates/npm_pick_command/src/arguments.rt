@@ -1,15 +1,15 @@
 //! Reads the arguments of the program.
-ghost use Rattle.std.specs.Prelude.{◌≡◌, ◌||◌, [], codes, is_some, map, option_map, string_bytes};
+ghost use Rattle.std.specs.Prelude.{◌≡◌, [], codes, is_some, map, option_map, string_bytes};
 ghost use Rattle.std.specs.Option.{option_or};
 ghost use Rattle.command_lines.specs.Arguments.{argument_value};
 ghost use Rattle.command_options.specs.Given.{first_fault, is_among, meaning, value_of};
 ghost use Rattle.npm_pick_command.specs.Arguments as ArgumentRules;
-ghost use Rattle.npm_pick_command.specs.Arguments.{argument_error_value, arguments_of, arguments_result, arguments_value};
-ghost use Rattle.npm_pick_command.specs.Arguments.{fault_of, flags, formats, text_value, valued};
+ghost use Rattle.npm_pick_command.specs.Arguments.{ArgumentErrorValue, argument_error_value, arguments_of, arguments_result};
+ghost use Rattle.npm_pick_command.specs.Arguments.{arguments_value, fault_of, flags, formats, text_value, valued};
 
 use crate::argument_error::ArgumentError;
 use command_lines::{Argument, MAX_WORDS, Options, Quoted, first_argument};
-use command_options::{Shown, is_given, shown_in, value_of};
+use command_options::{Faults, Shown, is_given, shown_in, value_of};
 use npm_pick_reports::Format;
 
 /// What the arguments mean. A text is the value of the last option of its name.
@@ -174,37 +174,36 @@ fn first_fault<'a>(words: &'a [String]) -> Option<ArgumentError<'a>>
     ensures { option_map argument_error_value result
         ≡ first_fault fault_of [] (arguments_of (map string_bytes words.now)) }
 {
-    let mut is_spec_given = false;
-    let mut left = words;
-    'words: while let Some((argument, rest)) = first_argument::<PickOptions>(left) {
-        if let Some(error) = argument_fault(argument, is_spec_given) {
-            return Some(error);
+    command_options::first_fault::<PickOptions>(words)
+}
+
+impl<'a> Faults<'a> for PickOptions {
+    type Fault = ArgumentError<'a>;
+
+    ghost FaultValue = { ArgumentErrorValue };
+    ghost fault_value = { argument_error_value };
+    ghost is_single = { λ word. is_some (ArgumentRules.spec_of word) };
+    ghost fault_of = { ArgumentRules.argument_fault };
+
+    /// Returns `true` if the word is no option: the version, the tag or the range, which is given once.
+    fn is_single(word: &str) -> bool
+        ensures { result ≡ is_some (ArgumentRules.spec_of word.now) }
+    {
+        spec_of(word).is_some()
+    }
+
+    fn fault_of(argument: Argument<'a>, is_spec_given: bool) -> Option<ArgumentError<'a>>
+        ensures { option_map argument_error_value result
+            ≡ ArgumentRules.argument_fault (argument_value argument.entry) is_spec_given }
+    {
+        if PickOptions::takes_value(argument.word) {
+            return value_fault(argument.word, argument.value);
         }
-        is_spec_given = is_spec_by(is_spec_given, argument.word);
-        left = rest;
+        if is_flag(argument.word) {
+            return None;
+        }
+        word_fault(argument.word, is_spec_given)
     }
-    None
-}
-
-/// Returns `true` if a word that is no option was given before a word, or is this word.
-fn is_spec_by(is_spec_given: bool, word: &str) -> bool
-    ensures { result ≡ (is_spec_given || is_some (ArgumentRules.spec_of word.now)) }
-{
-    is_spec_given || spec_of(word).is_some()
-}
-
-/// What is wrong with an argument. A word that is no option may be given before it.
-fn argument_fault<'a>(argument: Argument<'a>, is_spec_given: bool) -> Option<ArgumentError<'a>>
-    ensures { option_map argument_error_value result
-        ≡ ArgumentRules.argument_fault (argument_value argument.entry) is_spec_given }
-{
-    if PickOptions::takes_value(argument.word) {
-        return value_fault(argument.word, argument.value);
-    }
-    if is_flag(argument.word) {
-        return None;
-    }
-    word_fault(argument.word, is_spec_given)
 }
 
 /// What is wrong with the value of an option.

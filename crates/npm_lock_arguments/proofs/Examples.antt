@@ -1,0 +1,2 @@
+pub mod ArgumentExamples
+pub mod NodeExamples

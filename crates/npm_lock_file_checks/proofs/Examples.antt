@@ -1,0 +1,4 @@
+pub mod InputExamples
+pub mod LinkedExamples
+pub mod ListNameExamples
+pub mod MismatchExamples

@@ -1,0 +1,5 @@
+pub mod Auditing
+pub mod Examples
+pub mod FoundOnDisk
+pub mod LinkedManifests
+pub mod Stopping

@@ -1,0 +1,2 @@
+pub mod CheckedFiles
+pub mod Examples

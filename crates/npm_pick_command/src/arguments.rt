@@ -181,8 +181,11 @@ impl<'a> Faults<'a> for PickOptions {
     type Fault = ArgumentError<'a>;
 
     ghost FaultValue = { ArgumentErrorValue };
+
     ghost fault_value = { argument_error_value };
+
     ghost is_single = { λ word. is_some (ArgumentRules.spec_of word) };
+
     ghost fault_of = { ArgumentRules.argument_fault };
 
     /// Returns `true` if the word is no option: the version, the tag or the range, which is given once.

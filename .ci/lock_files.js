@@ -206,7 +206,15 @@ const oldRows = [
   ...['npm:c@1.2.0', 'npm:@s/c@1.2.0', '1.2.0'].flatMap(version => ['^1', 'npm:c@^1', 'npm:c@^2'].map(spec =>
     [asks(spec), { a: at(version, { integrity: 'sha512-' + 'A'.repeat(86) + '==' }) }])),
   ...['git+ssh://git@github.com/b/b.git#0123456789012345678901234567890123456789', 'github:b/b#0123'].map(version =>
-    [asks('^1'), { a: at(version, { from: 'github:b/b' }) }])
+    [asks('^1'), { a: at(version, { from: 'github:b/b' }) }]),
+  // Tarballs: the address says the version, in `version`, or in `resolved` if neither `integrity` nor `from` confirms that.
+  ...['https://r.example/a/-/a-1.2.0.tgz', 'https://r.example/npm/@s/c/-/c-1.2.0.tgz', 'https://r.example/@s%2fc/-/c-2.0.0.tgz', 'file:a-1.2.0.tgz',
+    'https://r.example/a-1.2.0.tgz', 'https://r.example/c-1.2.0.tgz', 'https://r.example/a/-/a-1.2.0.tar.gz', 'file:../a-2.0.0-b.tgz'].flatMap(version =>
+    [{}, { integrity: 'sha512-' + 'A'.repeat(86) + '==' }, { from: 'a@^1' }].map(more => [asks('^1'), { a: at(version, more) }])),
+  ...[{}, { integrity: 'sha512-' + 'A'.repeat(86) + '==' }, { from: '^1' }, { from: 'a@^1' }, { from: 'https://r.example/c' }].flatMap(more =>
+    ['1.2.0', '2.0.0', ...more.from === 'a@^1' ? [] : [undefined]].map(version =>
+      [asks('^1'), { a: at(version, { resolved: 'https://r.example/c/-/c-1.2.0.tgz', ...more }) }])),
+  [asks('^1'), { a: at('1.0.0', { requires: { '@s/b': '^1' } }), '@s/b': at('https://r.example/b-1.2.0.tgz') }]
 ]
 
 // Rows with a manifest: the manifest, and the members of `packages`.

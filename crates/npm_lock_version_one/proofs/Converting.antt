@@ -16,7 +16,8 @@ use Rattle.npm_lock_version_one.specs.VersionOne as VersionOne
 use Rattle.npm_lock_version_one.specs.VersionOne.{any_fault, converted, entry_fault, file_of, has_named, is_version_one}
 use Rattle.npm_lock_version_one.specs.VersionOne.{manifest_fault, member_of, packages_below, packages_of, required_of}
 use Rattle.npm_lock_version_one.specs.VersionOne.{requires_fault}
-use Rattle.npm_lock_version_one.specs.VersionOne.{name_in, version_in, version_one_fault, with_packages, with_some}
+use Rattle.npm_lock_version_one.specs.VersionOne.{version_one_fault, with_packages, with_some}
+use Rattle.npm_lock_version_one.specs.Identity.{name_in, version_in}
 use Rattle.npm_packages.specs.declared.fault.Fault.{Fault}
 use Rattle.npm_packages.specs.declared.fault.Fault.TheVariants as Faults
 
@@ -80,9 +81,10 @@ last false false true x y z rest is = cc is
 last false true c x y z rest is = cc is
 last true b c x y z rest is = cc is
 
-entry_sound : (packages entry : Data) → entry_fault entry ≡ None → member_fault packages (member_of entry) ≡ None
-entry_sound packages entry none =
-    made_sound packages (version_in entry) (name_in entry) (get (codes "optional") entry) (get (codes "dev") entry) (required_of entry)
+entry_sound : (packages entry : Data) (folder : List ℕ) → entry_fault entry ≡ None
+    → member_fault packages (member_of folder entry) ≡ None
+entry_sound packages entry folder none =
+    made_sound packages (version_in folder entry) (name_in folder entry) (get (codes "optional") entry) (get (codes "dev") entry) (required_of entry)
     ∙ last (not (is_some (as_object entry))) (not (has_text_version entry)) (not (has_named entry)) Faults.Entry
     Faults.PackageVersion Faults.Dependencies (requires_fault entry) none
 
@@ -124,10 +126,10 @@ all_sound : (packages : Data) (list : List Package) (base : Members) → Version
     → members_fault packages base ≡ None → members_fault packages (with_packages list base) ≡ None
 all_sound packages [] base none sound = sound
 all_sound packages (p ∷ list) base none sound =
-    all_sound packages list (put p.folder (member_of p.member) base)
+    all_sound packages list (put p.folder (member_of p.folder p.member) base)
     (later_none (entry_fault p.member) (VersionOne.packages_fault list) none)
-    (put_sound packages p.folder (member_of p.member) base
-    (entry_sound packages p.member (first_none (entry_fault p.member) (VersionOne.packages_fault list) none)) sound)
+    (put_sound packages p.folder (member_of p.folder p.member) base
+    (entry_sound packages p.member p.folder (first_none (entry_fault p.member) (VersionOne.packages_fault list) none)) sound)
 
 -- ---- the root
 

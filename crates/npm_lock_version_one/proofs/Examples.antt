@@ -1,1 +1,2 @@
+pub mod TarballExamples
 pub mod VersionOneExamples

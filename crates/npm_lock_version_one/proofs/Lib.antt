@@ -1,3 +1,4 @@
 pub mod Converting
 pub mod Examples
+pub mod LastParts
 pub mod PackageLists

@@ -89,12 +89,12 @@ module _ (folder name : List ℕ) (entry : Data) (others : Members) where
       ∙ fault_of_both (packages_below (place_in folder name) entry) (packages_of_entries folder others)
       ∙ ap (λ f. option_or f (packages_fault (packages_of_entries folder others))) (sym some)
 
-  pub entry_added : (place key : List ℕ) (made : Data) (base with_it after : Members)
-      → place ≡ place_in folder name → key ≡ place → made ≡ member_of entry → with_it ≡ put place made base
-      → after ≡ with_packages (packages_below key entry) with_it
+  pub entry_added : (place : List ℕ) (made : Data) (base with_it after : Members)
+      → place ≡ place_in folder name → made ≡ member_of place entry → with_it ≡ put place made base
+      → after ≡ with_packages (packages_below place entry) with_it
       → with_packages (packages_of_entries folder others) after
       ≡ with_packages (packages_of_entries folder (member name entry others)) base
-  entry_added place key made base with_it after is same is_made is_with is_after =
-      rw (is_after, same, is_with, is_made, is)
+  entry_added place made base with_it after is is_made is_with is_after =
+      rw (is_after, is_with, is_made, is)
       (sym (with_both (packages_below (place_in folder name) entry) (packages_of_entries folder others)
-      (put (place_in folder name) (member_of entry) base)))
+      (put (place_in folder name) (member_of (place_in folder name) entry) base)))

@@ -9,7 +9,7 @@ use Rattle.serde_json.specs.Find.{as_bool, as_null, as_number, as_object, as_str
 use Rattle.npm_packages.specs.Faults.{has_text_version, lock_fault, package_fault, specs_fault}
 use Rattle.npm_packages.specs.Folders.{place_in}
 use Rattle.npm_packages.specs.Packages.{Package, is_link}
-use Rattle.npm_texts.specs.RangeText.{SpecValue, aliased_name, in_registry, location, refused, spec_of}
+use Rattle.npm_lock_version_one.specs.Identity.{name_in, version_in}
 use Rattle.npm_packages.specs.declared.fault.Fault.{Fault}
 use Rattle.npm_packages.specs.declared.fault.Fault.TheVariants as Faults
 
@@ -56,21 +56,6 @@ abbrev mutual
 
 -- ---- the members of `packages` that they become
 
--- the text of a spec that names a version of a registry
-abbrev pub registry_text : SpecValue → Option (List ℕ)
-registry_text (in_registry text) = Some text
-registry_text location = None
-registry_text refused = None
-
--- the version of a package: `1.0.0` of `1.0.0` and `npm:a@1.0.0`, and none of a URL, a repository, a file or a folder
-unfoldable pub version_in : (entry : Data) → Option (List ℕ)
-version_in entry = option_and_then (λ version. registry_text (spec_of version))
-    (option_and_then as_str (get (codes "version") entry))
-
--- the name of the package behind an alias: `a` of `npm:a@1.0.0`
-unfoldable pub name_in : (entry : Data) → Option (List ℕ)
-name_in entry = option_and_then aliased_name (option_and_then as_str (get (codes "version") entry))
-
 -- what a package depends on: its `requires`, unless that is `true` or `false`
 abbrev pub required_of : (entry : Data) → Option Data
 required_of entry = option_and_then
@@ -82,12 +67,12 @@ with_some key None members = members
 with_some key (Some value) members = put key value members
 
 -- A package as a member of `packages`: `{"version": "1.0.0", "dependencies": {"b": "^1"}}` of
--- `{"version": "1.0.0", "requires": {"b": "^1"}}`, with `dev` and `optional` as they are. An alias also has the `name`
--- of the package behind it.
-abbrev pub member_of : (entry : Data) → Data
-member_of entry = object (with_some (codes "version") (option_map string (version_in entry))
+-- `{"version": "1.0.0", "requires": {"b": "^1"}}`, with `dev` and `optional` as they are. An alias and a tarball also have the
+-- `name` of the package.
+abbrev pub member_of : (folder : List ℕ) → (entry : Data) → Data
+member_of folder entry = object (with_some (codes "version") (option_map string (version_in folder entry))
     (with_some (codes "optional") (get (codes "optional") entry)
-    (with_some (codes "name") (option_map string (name_in entry))
+    (with_some (codes "name") (option_map string (name_in folder entry))
     (with_some (codes "dev") (get (codes "dev") entry)
     (with_some (codes "dependencies") (required_of entry) no_members)))))
 
@@ -95,7 +80,7 @@ member_of entry = object (with_some (codes "version") (option_map string (versio
 abbrev pub with_packages : List Package → Members → Members
 with_packages [] members = members
 with_packages (first ∷ others) members =
-    with_packages others (put first.folder (member_of first.member) members)
+    with_packages others (put first.folder (member_of first.folder first.member) members)
 
 -- The `packages` that a file of version 1 becomes. The file does not say what the root depends on: that is in the
 -- manifest, `package.json`. With no manifest the root has no dependencies.

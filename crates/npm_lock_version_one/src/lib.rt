@@ -2,6 +2,8 @@
 #![tactic(auto)]
 
 mod any_version;
+mod identity;
+mod tarball;
 mod version_one;
 mod version_one_fault;
 

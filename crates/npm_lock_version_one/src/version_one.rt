@@ -1,13 +1,13 @@
 //! Lock files of version 1, which npm 5 and 6 wrote: the `packages` that they become.
-ghost use Rattle.std.specs.Prelude.{◌≡◌, IfOk, OnOk, option_map};
+ghost use Rattle.std.specs.Prelude.{◌≡◌, IfOk, OnOk, codes, option_map, string_bytes};
 ghost use Rattle.serde_json.specs.Data.{object, string};
 ghost use Rattle.serde_json.specs.View.{members_view, view};
 ghost use Rattle.npm_lock_version_one.specs.VersionOne as VersionOne;
 ghost use Rattle.npm_lock_version_one.specs.VersionOne.{packages_below, packages_named, with_packages, with_some};
 
 use crate::Result;
+use crate::identity::{name_in, version_in};
 use npm_lock::place_text;
-use npm_texts::{Spec, aliased_name, spec_of};
 use serde_json::{Map, Value, put};
 use std::alloc::Global;
 
@@ -83,24 +83,26 @@ fn add_named(
 {
     if let Value::Object(entries) = dependencies {
         for (name, entry) in entries.iter() {
-            let place = place_text(alloc, folder, name.as_str())?;
-            put(packages, alloc, place.as_str(), member_of(alloc, entry)?)?;
-            add_below(entry, place.as_str(), packages, alloc)?;
+            let text = place_text(alloc, folder, name.as_str())?;
+            let place = text.as_str();
+            let member = member_of(alloc, place, entry)?;
+            put(packages, alloc, place, member)?;
+            add_below(entry, place, packages, alloc)?;
         }
     }
     Ok(())
 }
 
-/// Returns a package as a member of `packages`.
-fn member_of(alloc: Global, entry: &Value) -> Result<Value>
-    ensures { IfOk result (λ member. view member ≡ VersionOne.member_of (view entry.now)) }
+/// Returns the package in a folder as a member of `packages`.
+fn member_of(alloc: Global, folder: &str, entry: &Value) -> Result<Value>
+    ensures { IfOk result (λ member. view member ≡ VersionOne.member_of folder.now (view entry.now)) }
 {
     let mut members = Map::new(alloc);
     put_copy(&mut members, alloc, "dependencies", required_of(entry))?;
     put_copy(&mut members, alloc, "dev", entry.get("dev"))?;
-    put_text(&mut members, alloc, "name", name_in(entry))?;
+    put_name(&mut members, alloc, name_in(alloc, folder, entry)?)?;
     put_copy(&mut members, alloc, "optional", entry.get("optional"))?;
-    put_text(&mut members, alloc, "version", version_in(entry))?;
+    put_text(&mut members, alloc, "version", version_in(folder, entry))?;
     Ok(Value::Object(members))
 }
 
@@ -136,22 +138,14 @@ fn put_text(
     }
 }
 
-/// Returns the name of the package behind an alias: `a` of `npm:a@1.0.0`.
-#[tactic(auto, unfolding(crate::specs::VersionOne::name_in))]
-fn name_in(entry: &Value) -> Option<&str>
-    ensures { option_map (λ name. name.now) result ≡ VersionOne.name_in (view entry.now) }
+/// Adds the name of a package, if it has one.
+fn put_name(members: &mut Map<String, Value>, alloc: Global, name: Option<String>) -> Result<()>
+    ensures { OnOk result (members_view members.new.entries ≡ with_some (codes "name")
+        (option_map string (option_map string_bytes name)) (members_view members.old.entries)) }
 {
-    aliased_name(entry.get("version")?.as_str()?)
-}
-
-/// Returns the version of a package: that of `npm:NAME@VERSION`, and none of a URL, a repository, a file or a folder.
-#[tactic(auto, unfolding(crate::specs::VersionOne::version_in))]
-fn version_in(entry: &Value) -> Option<&str>
-    ensures { option_map (λ version. version.now) result ≡ VersionOne.version_in (view entry.now) }
-{
-    match spec_of(entry.get("version")?.as_str()?) {
-        Spec::Text(text) => Some(text),
-        Spec::Location | Spec::Refused => None,
+    match name {
+        Some(name) => put(members, alloc, "name", Value::String(name)),
+        None => Ok(()),
     }
 }
 

@@ -9,7 +9,7 @@ use std::alloc::{AllocError, Global};
 
 // Each row has the members of `dependencies`, the manifest, and the problems: each is a kind, a name, and the folder of the
 // package that asks if that is not the root.
-const ROWS: [(&str, &str, &str); 16] = [
+const ROWS: [(&str, &str, &str); 18] = [
     ("", "{}", ""),
     // The dependencies of the root are in the manifest alone.
     (r#""a": {"version": "1.0.0"}"#, "{}", ""),
@@ -69,7 +69,8 @@ const ROWS: [(&str, &str, &str); 16] = [
         "{}",
         "invalid b of node_modules/a",
     ),
-    // The version of an alias is after its name; a URL, a repository and a folder have none.
+    // The version of an alias is after its name. That of a tarball is in its address, if that says one. A repository and a
+    // folder have none.
     (
         r#""a": {"version": "npm:c@1.2.0"}, "b": {"version": "npm:@s/c@2.0.0"}"#,
         r#"{"dependencies": {"a": "npm:c@^1", "b": "npm:@s/c@^1"}}"#,
@@ -79,6 +80,21 @@ const ROWS: [(&str, &str, &str); 16] = [
         r#""a": {"version": "https://r/a-1.0.0.tgz"}, "b": {"version": "github:b/b#0"}, "c": {"version": "file:c"}"#,
         r#"{"dependencies": {"a": "https://r/a-1.0.0.tgz", "b": "b/b", "c": "file:c"}}"#,
         "",
+    ),
+    (
+        r#""a": {"version": "https://r/a-1.0.0.tgz"}, "b": {"version": "https://r/c/-/c-2.0.0.tgz", "integrity": "sha512-"},
+            "c": {"version": "https://r/b-1.0.0.tgz"}"#,
+        r#"{"dependencies": {"a": "^1", "b": "^1", "c": "^1"}}"#,
+        "invalid b, invalid c",
+    ),
+    // npm believes `resolved` more than a version that neither `integrity` nor `from` confirms.
+    (
+        r#""a": {"version": "1.0.0", "resolved": "https://r/a/-/a-2.0.0.tgz"},
+            "b": {"version": "1.0.0", "resolved": "https://r/a/-/b-2.0.0.tgz", "from": "b@^1"},
+            "c": {"version": "1.0.0", "resolved": "https://r/c/-/c-2.0.0.tgz", "integrity": "sha512-"},
+            "d": {"version": "1.0.0", "resolved": "https://r/d"}"#,
+        r#"{"dependencies": {"a": "^1", "b": "^1", "c": "^1", "d": "^1"}}"#,
+        "invalid a",
     ),
     (
         r#""a": {"version": "file:a", "requires": {"b": "^1"}}"#,
@@ -283,7 +299,7 @@ const CONVERTED: &str =
     r#"{"lockfileVersion":3,"packages":{"":{"dependencies":{"a":"^1"}},"node_modules/a":{"dependencies":{"b":"^2"},"dev":true,"version":"1.0.0"},"node_modules/a/node_modules/b":{"name":"c","version":"1.0.0"}}}"#;
 
 // A lock file, its manifest, the file that it becomes or the fault, and what a check of that file finds.
-const CONVERSIONS: [(&str, &str, &str, &str); 4] = [
+const CONVERSIONS: [(&str, &str, &str, &str); 6] = [
     (OLD, MANIFEST, CONVERTED, "invalid b of node_modules/a"),
     // Aliases: with a scope, of a name alone, of no name, and of a package in no registry.
     (
@@ -291,6 +307,28 @@ const CONVERSIONS: [(&str, &str, &str, &str); 4] = [
             "d": {"version": "npm:@s/c"}, "e": {"version": "NPM:c@"}, "f": {"version": "npm:c@github:b/c"}}}"#,
         "",
         r#"{"lockfileVersion":3,"packages":{"":{},"node_modules/a":{"name":"@s/c","version":"1.0.0"},"node_modules/b":{"name":"c","version":"*"},"node_modules/c":{"version":"^1"},"node_modules/d":{"name":"@s/c","version":"*"},"node_modules/e":{"name":"c","version":"*"},"node_modules/f":{}}}"#,
+        "",
+    ),
+    // Tarballs: of a registry, with a scope and without, of another place, with no version, and of no npm package.
+    (
+        r#"{"dependencies": {"a": {"version": "https://registry.npmjs.org/lodash/-/lodash-4.17.11.tgz"},
+            "b": {"version": "https://r/npm/@s%2fc/-/c-1.0.0.tgz"}, "@s/d": {"version": "file:../d-1.0.0-b.tgz"},
+            "e": {"version": "https://r/f-1.0.0.tgz"}, "f": {"version": "https://r/f/-/f-1.0.0.tar.gz"},
+            "g": {"version": "https://r/@s%2Fh/-/h-.tgz"}}}"#,
+        "",
+        r#"{"lockfileVersion":3,"packages":{"":{},"node_modules/@s/d":{"name":"@s/d","version":"1.0.0-b"},"node_modules/a":{"name":"lodash","version":"4.17.11"},"node_modules/b":{"name":"@s/c","version":"1.0.0"},"node_modules/e":{},"node_modules/f":{},"node_modules/g":{"name":"@s/h","version":""}}}"#,
+        "",
+    ),
+    // `resolved`: with no version, with one that nothing confirms, and with one that `from` confirms or not.
+    (
+        r#"{"dependencies": {"a": {"resolved": "https://r/b/-/b-1.0.0.tgz", "integrity": "sha512-"},
+            "c": {"version": "npm:b@2.0.0", "resolved": "https://r/b/-/b-1.0.0.tgz", "integrity": ""},
+            "d": {"version": "2.0.0", "resolved": "https://r/b/-/b-1.0.0.tgz", "from": "^2"},
+            "e": {"version": "2.0.0", "resolved": "https://r/b/-/b-1.0.0.tgz", "from": "https://r/b/-/b-1.0.0.tgz"},
+            "f": {"version": "2.0.0", "resolved": "https://r/b/-/b-1.0.0.tgz", "from": ""},
+            "g": {"version": "2.0.0", "from": "https://r/g-1.0.0.tgz"}}}"#,
+        "",
+        r#"{"lockfileVersion":3,"packages":{"":{},"node_modules/a":{"name":"b","version":"1.0.0"},"node_modules/c":{"name":"b","version":"1.0.0"},"node_modules/d":{"version":"2.0.0"},"node_modules/e":{"name":"b","version":"1.0.0"},"node_modules/f":{"name":"b","version":"1.0.0"},"node_modules/g":{"name":"g","version":"1.0.0"}}}"#,
         "",
     ),
     (

@@ -1,12 +1,13 @@
 -- What the definitions say of some lock files of version 1.
 use Rattle.std.proofs.Common.{◌≡◌, ℕ, List, [], ◌∷◌, true, false, codes, refl, Some, None}
 use Rattle.std.specs.Float.Ieee.{eq, of_int}
+use Rattle.std.specs.Path.{rsplit_once}
 use Rattle.serde_json.specs.Data.{Data, array, boolean, member, no_items, no_members, null, number, object, string}
 use Rattle.serde_json.specs.Data.{unsigned}
 use Rattle.npm_lock_version_one.specs.VersionOne.{any_fault, converted, entry_fault, is_version_one, manifest_fault}
 use Rattle.npm_lock_version_one.specs.VersionOne.{member_of}
-use Rattle.npm_lock_version_one.specs.VersionOne.{name_in}
-use Rattle.npm_lock_version_one.specs.VersionOne.{packages_below, packages_of, requires_fault, version_in}
+use Rattle.npm_lock_version_one.specs.Identity.{name_in, version_in}
+use Rattle.npm_lock_version_one.specs.VersionOne.{packages_below, packages_of, requires_fault}
 use Rattle.npm_lock_version_one.specs.VersionOne.{version_one_fault}
 use Rattle.npm_packages.specs.declared.fault.Fault.TheVariants.{Dependencies, Entry, Manifest, PackageVersion, Spec}
 use Rattle.npm_packages.specs.declared.fault.Fault.TheVariants.{Version}
@@ -40,15 +41,15 @@ a_package_comes_before_those_inside_it = refl
 pub a_member_of_another_name_names_none : packages_below [] (one (codes "requires") (one (codes "a") a)) ≡ []
 a_member_of_another_name_names_none = refl
 
-pub a_package_asks_for_what_it_requires : member_of a ≡ object (member (codes "dependencies")
+pub a_package_asks_for_what_it_requires : member_of (codes "node_modules/a") a ≡ object (member (codes "dependencies")
     (one (codes "b") (string (codes "^1"))) (member (codes "version") (string (codes "1.0.0")) no_members))
-unfolding name_in version_in
+unfolding name_in rsplit_once version_in
 a_package_asks_for_what_it_requires = refl
 
 pub the_root_is_the_manifest : packages_of lock (Some manifest) ≡ object (member (codes "") manifest
-    (member (codes "node_modules/a") (member_of a)
-    (member (codes "node_modules/a/node_modules/b") (member_of b) no_members)))
-unfolding name_in version_in
+    (member (codes "node_modules/a") (member_of (codes "node_modules/a") a)
+    (member (codes "node_modules/a/node_modules/b") (member_of (codes "node_modules/a/node_modules/b") b) no_members)))
+unfolding name_in rsplit_once version_in
 the_root_is_the_manifest = refl
 
 pub with_no_manifest_the_root_has_nothing : packages_of (one (codes "dependencies") (object no_members)) None
@@ -61,39 +62,64 @@ pub the_later_of_one_folder_counts : packages_of (one (codes "dependencies")
     (member (codes "a/node_modules/b") (object no_members) no_members)))) None
     ≡ object (member (codes "") (object no_members) (member (codes "node_modules/a") (object no_members)
     (member (codes "node_modules/a/node_modules/b") (object no_members) no_members)))
-unfolding name_in version_in
+unfolding name_in rsplit_once version_in
 the_later_of_one_folder_counts = refl
 
 -- ---- members of a package
 
-pub true_asks_for_nothing : member_of (one (codes "requires") (boolean true)) ≡ object no_members
-unfolding name_in version_in
+pub true_asks_for_nothing : member_of (codes "a") (one (codes "requires") (boolean true)) ≡ object no_members
+unfolding name_in rsplit_once version_in
 true_asks_for_nothing = refl
 
-pub marks_stay : member_of (one (codes "dev") (boolean true)) ≡ one (codes "dev") (boolean true)
-unfolding name_in version_in
+pub marks_stay : member_of (codes "a") (one (codes "dev") (boolean true)) ≡ one (codes "dev") (boolean true)
+unfolding name_in rsplit_once version_in
 marks_stay = refl
 
-pub an_alias_has_a_version : version_in (one (codes "version") (string (codes "npm:@s/c@1.0.0"))) ≡ Some (codes "1.0.0")
-unfolding version_in
+pub an_alias_has_a_version : version_in (codes "b") (one (codes "version") (string (codes "npm:@s/c@1.0.0"))) ≡ Some (codes "1.0.0")
+unfolding rsplit_once version_in
 an_alias_has_a_version = refl
 
-pub an_alias_has_a_name : name_in (one (codes "version") (string (codes "npm:@s/c@1.0.0"))) ≡ Some (codes "@s/c")
-unfolding name_in
+pub an_alias_has_a_name : name_in (codes "b") (one (codes "version") (string (codes "npm:@s/c@1.0.0"))) ≡ Some (codes "@s/c")
+unfolding name_in rsplit_once
 an_alias_has_a_name = refl
 
-pub an_alias_is_named : member_of (one (codes "version") (string (codes "npm:c@1.0.0")))
+pub an_alias_is_named : member_of (codes "b") (one (codes "version") (string (codes "npm:c@1.0.0")))
     ≡ object (member (codes "name") (string (codes "c")) (member (codes "version") (string (codes "1.0.0")) no_members))
-unfolding name_in version_in
+unfolding name_in rsplit_once version_in
 an_alias_is_named = refl
 
-pub a_version_has_no_name : name_in (one (codes "version") (string (codes "1.0.0"))) ≡ None
-unfolding name_in
+pub a_version_has_no_name : name_in (codes "b") (one (codes "version") (string (codes "1.0.0"))) ≡ None
+unfolding name_in rsplit_once
 a_version_has_no_name = refl
 
-pub a_repository_has_none : version_in (one (codes "version") (string (codes "git+ssh://git@host/c.git#0"))) ≡ None
-unfolding version_in
+pub a_repository_has_none : version_in (codes "b") (one (codes "version") (string (codes "git+ssh://git@host/c.git#0")))
+    ≡ None
+unfolding rsplit_once version_in
 a_repository_has_none = refl
+
+-- ---- tarballs
+
+-- `c` of version 1.2.0, where a registry has it
+abbrev tarball : Data
+tarball = string (codes "https://r/c/-/c-1.2.0.tgz")
+
+pub a_tarball_is_named : member_of (codes "node_modules/b") (one (codes "version") tarball)
+    ≡ object (member (codes "name") (string (codes "c")) (member (codes "version") (string (codes "1.2.0")) no_members))
+unfolding name_in rsplit_once version_in
+a_tarball_is_named = refl
+
+pub it_is_where_npm_finds_it : member_of (codes "node_modules/b")
+    (object (member (codes "resolved") tarball (member (codes "version") (string (codes "1.0.0")) no_members)))
+    ≡ object (member (codes "name") (string (codes "c")) (member (codes "version") (string (codes "1.2.0")) no_members))
+unfolding name_in rsplit_once version_in
+it_is_where_npm_finds_it = refl
+
+pub a_confirmed_version_counts : member_of (codes "node_modules/b")
+    (object (member (codes "integrity") (string (codes "sha512-")) (member (codes "resolved") tarball
+    (member (codes "version") (string (codes "1.0.0")) no_members))))
+    ≡ one (codes "version") (string (codes "1.0.0"))
+unfolding name_in rsplit_once version_in
+a_confirmed_version_counts = refl
 
 -- ---- which lock files these are
 

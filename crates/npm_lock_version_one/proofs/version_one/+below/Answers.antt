@@ -25,14 +25,13 @@ add_below-returns-in-None t c =
 pub add_named-loop-name-preserved : goal.add_named-loop-name-preserved
 add_named-loop-name-preserved t c =
     let first = rw c.in-Some.ensures.steps at c.loop-name.invariant in
-    let place : string_bytes c.in_ok-place.place ≡ place_in c.args.folder.now (string_bytes c.in-Some.name.now) =
-    c.in_ok-place.ensures ∙ ap (place_in c.args.folder.now) c.as_str.ensures.value in
+    let place : string_bytes c.in_ok-text.text ≡ place_in c.args.folder.now (string_bytes c.in-Some.name.now) =
+    c.in_ok-text.ensures ∙ ap (place_in c.args.folder.now) c.as_str.ensures.value in
     entry_added c.args.folder.now (string_bytes c.in-Some.name.now) (view c.in-Some.entry.now)
-    (members_view c.next.new.self) c.as_str-in-loop-name.result.now c.as_str-in-loop-name-2.result.now
-    (view c.in_ok-member_of.field-0) (members_view c.loop-name.packages.entries) (members_view c.put.new.map.entries)
-    (members_view c.add_below.new.packages.entries) (c.as_str-in-loop-name.ensures.value ∙ place)
-    (c.as_str-in-loop-name-2.ensures.value ∙ sym c.as_str-in-loop-name.ensures.value)
-    c.in_ok-member_of.ensures c.in_ok-put.ensures.ok c.in_ok-add_below.ensures ∙ first
+    (members_view c.next.new.self) c.as_str-place.result.now (view c.in_ok-member.member)
+    (members_view c.loop-name.packages.entries) (members_view c.put.new.map.entries)
+    (members_view c.add_below.new.packages.entries) (c.as_str-place.ensures.value ∙ place)
+    c.in_ok-member.ensures c.in_ok-put.ensures.ok c.in_ok-add_below.ensures ∙ first
 
 pub add_named-returns-in-None : goal.add_named-returns-in-None
 add_named-returns-in-None t c =

@@ -8,7 +8,7 @@ RULES = {
     "engine": ("error", "The version of Node does not satisfy engines.node of a package."),
     "mismatch": ("warning", "A manifest and the lock file do not ask for the same."),
     "advisory": ("error", "A security advisory hits an installed package."),
-    "unchecked": ("note", "A dependency is not checked, or a manifest was not read."),
+    "unchecked": ("note", "A dependency is not checked, a manifest was not read, or workspaces were not looked for."),
     "refused": ("error", "A file is not read, or has a fault."),
 }
 COMMANDS = {"error": "error", "warning": "warning", "note": "notice"}

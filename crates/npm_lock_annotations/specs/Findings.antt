@@ -14,8 +14,7 @@ use Rattle.npm_advisories.specs.Audit.{FoundValue}
 use Rattle.npm_lock.specs.Outcomes.{ProblemValue, UncheckedValue, problem_value, unchecked_value}
 use Rattle.npm_manifests.specs.Mismatches.{MismatchValue, group_text, mismatch_value}
 use Rattle.npm_lock_reports.specs.HitSentence.{hit_sentence}
-use Rattle.npm_lock_reports.specs.Report.{folder_text}
-use Rattle.npm_lock_reports.specs.Unread.{unread_sentence}
+use Rattle.npm_lock_reports.specs.Unread.{UnreadValue, unread_folder, unread_sentence, unread_value}
 use Rattle.npm_lock_reports.specs.declared.report.Report.{Report}
 use Rattle.npm_lock_sentences.specs.Sentence.{mismatch_sentence, sentence, unchecked_sentence}
 use Rattle.npm_lock_annotations.specs.Members.{dependency_paths, mismatch_paths, package_paths, problem_paths}
@@ -69,15 +68,15 @@ abbrev pub unchecked_draft : UncheckedValue → DraftValue
 unchecked_draft unchecked = note_draft (unchecked_sentence unchecked)
     (dependency_paths unchecked.dependency.from unchecked.dependency.name)
 
--- the manifest in this folder that was not read, at the package in the folder
-abbrev pub unread_draft : (folder : List ℕ) → DraftValue
-unread_draft folder = note_draft (unread_sentence folder) (package_paths folder)
+-- what was not looked at, at the package in its folder
+abbrev pub unread_draft : UnreadValue → DraftValue
+unread_draft unread = note_draft (unread_sentence unread) (package_paths (unread_folder unread))
 
--- the dependencies that are not checked and then the manifests that were not read, if they are listed
+-- the dependencies that are not checked and then what was not looked at, if they are listed
 abbrev pub listed_drafts : Report → List DraftValue
 listed_drafts report = if report.listed
     then map unchecked_draft (map unchecked_value report.problems.unchecked.items)
-    ++ map unread_draft (map folder_text report.unread.items) else []
+    ++ map unread_draft (map unread_value report.unread.items) else []
 
 -- all of a report and of the packages that are hit, in the order of the report's lines
 abbrev pub all_drafts : Report → List FoundValue → List DraftValue

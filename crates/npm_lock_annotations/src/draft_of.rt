@@ -3,7 +3,7 @@ ghost use Rattle.std.specs.Prelude.{◌≡◌, IfOk, map};
 ghost use Rattle.json_findings.specs.Drafts.{draft_value};
 ghost use Rattle.npm_advisories.specs.Audit.{found_value};
 ghost use Rattle.npm_lock.specs.Outcomes.{problem_value, unchecked_value};
-ghost use Rattle.npm_lock_reports.specs.Report.{folder_text};
+ghost use Rattle.npm_lock_reports.specs.Unread.{unread_value};
 ghost use Rattle.npm_manifests.specs.Mismatches.{mismatch_value};
 ghost use Rattle.npm_lock_annotations.specs.Findings.{hit_draft, mismatch_draft, names_seen, note_draft, problem_draft};
 ghost use Rattle.npm_lock_annotations.specs.Findings.{unchecked_draft, unread_draft};
@@ -16,7 +16,7 @@ use annotations::Level;
 use json_findings::Draft;
 use npm_advisories::Found;
 use npm_lock::{Problem, Unchecked};
-use npm_lock_reports::{FolderName, push_hit_sentence, push_unread_sentence};
+use npm_lock_reports::{Unread, push_hit_sentence, push_unread_sentence};
 use npm_lock_sentences::{push_mismatch_sentence, push_sentence, push_unchecked_sentence};
 use npm_manifests::Mismatch;
 use std::alloc::{AllocError, Global};
@@ -95,13 +95,13 @@ pub fn unchecked<'a>(
     Ok(noted(message, dependency_paths(alloc, folder, name)?))
 }
 
-/// Returns the draft of a manifest that was not read.
-pub fn unread<'a>(alloc: Global, folder: &'a FolderName) -> Result<Draft<'static, 'a>, AllocError>
-    ensures { IfOk result (λ draft. draft_value draft ≡ unread_draft (folder_text folder.now)) }
+/// Returns the draft of what was not looked at.
+pub fn unread<'a>(alloc: Global, unread: &'a Unread) -> Result<Draft<'static, 'a>, AllocError>
+    ensures { IfOk result (λ draft. draft_value draft ≡ unread_draft (unread_value unread.now)) }
 {
     let mut message = Vec::new(alloc);
-    push_unread_sentence(&mut message, folder)?;
-    Ok(noted(message, package_paths(alloc, folder.text.as_str())?))
+    push_unread_sentence(&mut message, unread)?;
+    Ok(noted(message, package_paths(alloc, unread.folder())?))
 }
 
 /// Returns the draft of a note.

@@ -3,7 +3,7 @@ ghost use Rattle.std.specs.Prelude.{◌≡◌, ◌++◌, OnOk, map};
 ghost use Rattle.json_findings.specs.Drafts.{draft_value};
 ghost use Rattle.npm_advisories.specs.Audit.{found_value};
 ghost use Rattle.npm_lock.specs.Outcomes.{problem_value, unchecked_value};
-ghost use Rattle.npm_lock_reports.specs.Report.{folder_text};
+ghost use Rattle.npm_lock_reports.specs.Unread.{unread_value};
 ghost use Rattle.npm_manifests.specs.Mismatches.{mismatch_value};
 ghost use Rattle.npm_lock_annotations.specs.Findings.{hit_draft, listed_drafts, mismatch_draft, problem_draft, unchecked_draft};
 ghost use Rattle.npm_lock_annotations.specs.Findings.{unread_draft};
@@ -12,7 +12,7 @@ use crate::draft_of::{hit, mismatched, problematic, unchecked, unread};
 use json_findings::Draft;
 use npm_advisories::Found;
 use npm_lock::{Problem, Unchecked};
-use npm_lock_reports::{FolderName, Report};
+use npm_lock_reports::{Report, Unread};
 use npm_manifests::Mismatch;
 use std::alloc::{AllocError, Global};
 
@@ -62,7 +62,7 @@ pub fn push_hits<'a>(
     Ok(())
 }
 
-/// Adds the drafts of dependencies that are not checked and of manifests that were not read, if the report lists them.
+/// Adds the drafts of dependencies that are not checked and of what was not looked at, if the report lists them.
 pub fn push_listed<'a>(
     alloc: Global,
     drafts: &mut Vec<Draft<'static, 'a>>,
@@ -93,17 +93,17 @@ fn push_all_unchecked<'a>(
     Ok(())
 }
 
-/// Adds the drafts of manifests that were not read.
+/// Adds the drafts of what was not looked at.
 fn push_all_unread<'a>(
     alloc: Global,
     drafts: &mut Vec<Draft<'static, 'a>>,
-    all: &'a [FolderName],
+    all: &'a [Unread],
 ) -> Result<(), AllocError>
     ensures { OnOk result (map draft_value drafts.new.items
-        ≡ map draft_value drafts.old.items ++ map unread_draft (map folder_text all.now)) }
+        ≡ map draft_value drafts.old.items ++ map unread_draft (map unread_value all.now)) }
 {
-    for folder in all {
-        drafts.push(unread(alloc, folder)?)?;
+    for one in all {
+        drafts.push(unread(alloc, one)?)?;
     }
     Ok(())
 }

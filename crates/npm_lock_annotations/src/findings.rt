@@ -11,8 +11,8 @@ use npm_lock_reports::Report;
 use std::alloc::{AllocError, Global};
 
 /// Returns the findings of a lock file at this path, with this text, in the order of the report's lines: the mismatches, the problems,
-/// the packages that an advisory hits, and if the report lists them the dependencies that are not checked and the manifests that were
-/// not read. A mismatch is an error if it counts for the status, and else a warning. What is not checked is a note.
+/// the packages that an advisory hits, and if the report lists them the dependencies that are not checked and what was not looked at.
+/// A mismatch is an error if it counts for the status, and else a warning. What is not checked is a note.
 ///
 /// The line and the column are those of the dependency in the group of its dependent, of `engines.node` of a package, or of a package.
 /// In a lock file of version 1 they are those of the dependency in `requires` of its dependent, or of a package. If none of these is in

@@ -43,7 +43,7 @@ pub fn rules() -> [Rule<'static>; 8]
         error("advisory", "A security advisory hits an installed package."),
         Rule {
             id: "unchecked",
-            description: "A dependency is not checked, or a manifest was not read.",
+            description: "A dependency is not checked, a manifest was not read, or workspaces were not looked for.",
             level: Level::Note,
         },
         error("refused", "A file is not read, or has a fault."),

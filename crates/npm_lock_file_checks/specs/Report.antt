@@ -23,7 +23,7 @@ use Rattle.npm_advisories.specs.Files.{advisories_of}
 use Rattle.npm_advisories.specs.Audit.{FoundValue, InstalledValue, IsAudit}
 use Rattle.npm_advisories.specs.LockFile.{AreInstalledOf}
 use Rattle.npm_advisory_files.specs.declared.severity.Severity.{Severity}
-use Rattle.npm_lock_reports.specs.Report.{folder_text}
+use Rattle.npm_lock_reports.specs.Unread.{unread_value}
 use Rattle.npm_lock_reports.specs.declared.report.Report.{Report}
 use Rattle.npm_lock_file_checks.specs.Kinds.{has}
 use Rattle.npm_manifest_files.specs.Linked.{LinkedValue, LoadedValue, WorkspaceValue, loaded_value, nothing_loaded}
@@ -141,7 +141,7 @@ AreHit lock (Some file) level found = (installed : List InstalledValue) × AreIn
 
 -- ---- all of it
 
--- the mismatches of the manifests, the folders of those that were not read, the problems of the lock file that is
+-- the mismatches of the manifests, what was not looked at, the problems of the lock file that is
 -- checked, and the packages of it that are hit
 pub record IsReportOf (lock : Data) (loaded : LoadedValue) (wanted : WantedValue) (report : Report)
     (found : List FoundValue) : Type 0 where
@@ -149,7 +149,7 @@ pub record IsReportOf (lock : Data) (loaded : LoadedValue) (wanted : WantedValue
   pub mismatches : AreLeftMismatches lock (manifests_of wanted.manifest loaded.linked) wanted.ignored.group
       report.mismatches.items
   pub exact : report.exact ≡ wanted.exact
-  pub unread : map folder_text report.unread.items ≡ loaded.unread
+  pub unread : map unread_value report.unread.items ≡ loaded.unread
   pub problems : AreLeft (checked_lock lock wanted.manifest loaded.linked) loaded.workspaces wanted report.problems
   pub hit : AreHit (checked_lock lock wanted.manifest loaded.linked) wanted.advisories wanted.level found
   pub audited : report.audited ≡ is_some wanted.advisories

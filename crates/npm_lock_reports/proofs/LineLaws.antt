@@ -14,12 +14,13 @@ use Rattle.npm_advisories.specs.FoundJson.{found_data}
 use Rattle.npm_advisories.specs.Offers.{IsLeastOrNone}
 use Rattle.npm_advisory_files.specs.declared.severity.Severity.{Severity}
 use Rattle.npm_lock_reports.specs.Report as Reports
-use Rattle.npm_lock_reports.specs.Report.{AreLines, IsHitLine, folder_text, line_text, lines, mismatch_text, one_more}
+use Rattle.npm_lock_reports.specs.Report.{AreLines, IsHitLine, line_text, lines, mismatch_text, one_more}
 use Rattle.npm_lock_reports.specs.Report.{unchecked_text, unread_text}
 use Rattle.npm_lock_reports.specs.ReportLaws.{AreItsLines, IsTextOfAudit, is_newline, its_lines, line_count}
 use Rattle.npm_lock_reports.specs.ReportLaws.{listed_lines}
 use Rattle.npm_lock_reports.specs.Style.{StyleValue}
 use Rattle.npm_lock_reports.specs.declared.report.Report.{Report}
+use Rattle.npm_lock_reports.specs.Unread.{unread_value}
 use Rattle.npm_lock_reports.proofs.OneLine.{IsOneLine}
 use Rattle.npm_lock_reports.proofs.OutputLines.{or_false}
 use Rattle.npm_lock_reports.proofs.SentenceLines.{IsBare, IsFair, of_hit, of_mismatch, of_problem, of_unchecked, of_unread}
@@ -124,7 +125,7 @@ its_own style report found text is =
           ∙ ap (λ later. map (line_text style) (map problem_value report.problems.list.items) ++ later)
           (hits.divided _ ∙ ap (λ later. hits.parts ++ later)
           (listed_split report.listed (unchecked_text style) (map unchecked_value report.problems.unchecked.items)
-          (unread_text style) (map folder_text report.unread.items) (of_unchecked style) (of_unread style))))
+          (unread_text style) (map unread_value report.unread.items) (of_unchecked style) (of_unread style))))
           ∙ regroup _ _ hits.parts (listed_lines style report) ([] ∷ []);
     }
 
@@ -153,7 +154,7 @@ as_many style report found text is =
       length-map,
       zipped (IsHitLine style) found own.hits own.of_hits,
       listed_length report.listed (unchecked_text style) unchecked_value report.problems.unchecked.items
-          (unread_text style) folder_text report.unread.items,
+          (unread_text style) unread_value report.unread.items,
     ) in
     let count = length-slice_split is_newline text in
     let parts = ap length own.lines ∙ length-append (its_lines style report own.hits) ([] ∷ []) in

@@ -16,7 +16,7 @@ use Rattle.npm_lock.specs.Outcomes.{ProblemValue, UncheckedValue}
 use Rattle.npm_lock.specs.ProblemJson.{problem_data, reason_text, unchecked_data, with_text}
 use Rattle.npm_lock_reports.specs.Report.{AreLines, IsJsonLine, lines, one_more}
 use Rattle.npm_lock_reports.specs.Style.{with_file}
-use Rattle.npm_lock_reports.specs.Unread.{unread_data}
+use Rattle.npm_lock_reports.specs.Unread.{UnreadValue, unread_data}
 
 last_members : (to version : Option (List ℕ))
     → members_have_float (with_text (codes "to") to (with_text (codes "version") version no_members)) ≡ false
@@ -92,11 +92,11 @@ pub no_float_mismatch : (mismatch : MismatchValue) → has_float (mismatch_data 
 unfolding serde_json_on_literals
 no_float_mismatch mismatch = locked_members mismatch.locked mismatch.spec mismatch.name
 
--- ---- manifests that were not read
+-- ---- what was not looked at
 
-pub no_float_unread : (folder : List ℕ) → has_float (unread_data folder) ≡ false
+pub no_float_unread : (unread : UnreadValue) → has_float (unread_data unread) ≡ false
 unfolding serde_json_on_literals
-no_float_unread folder = refl
+no_float_unread unread = refl
 
 -- ---- lines that name the lock file
 

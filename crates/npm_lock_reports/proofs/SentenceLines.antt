@@ -25,7 +25,7 @@ use Rattle.command_lines.specs.Shown.{shown}
 use Rattle.npm_lock_reports.specs.HitSentence.{advisory_words, hit_sentence, id_words, joined, offer_words}
 use Rattle.npm_lock_reports.specs.Report.{IsHitLineAs, line_as, line_text, mismatch_text, unchecked_text, unread_text}
 use Rattle.npm_lock_reports.specs.Style.{StyleValue, in_file, with_file}
-use Rattle.npm_lock_reports.specs.Unread.{unread_data, unread_sentence}
+use Rattle.npm_lock_reports.specs.Unread.{UnreadValue, manifest_in, unread_data, unread_sentence, workspaces_on_disk}
 use Rattle.npm_lock_reports.specs.declared.format.ReportFormat.{ReportFormat}
 use Rattle.npm_lock_reports.specs.declared.format.ReportFormat.TheVariants.{Json, Text}
 use Rattle.npm_lock_reports.proofs.OutputLines.{with_path}
@@ -104,8 +104,9 @@ mismatch_line m = both (shown m.name) _ (shown_line m.name) (both (group_text m.
     (both (spec_words m.spec) _ (words_line m.spec) (both (manifest_words m.from) _ (manifest_line m.from)
     (both (spec_words m.locked) (codes " in the lock file") (words_line m.locked) refl))))
 
-unread_line : (folder : List ℕ) → IsOneLine (unread_sentence folder)
-unread_line folder = both (shown folder) _ (shown_line folder) refl
+unread_line : (unread : UnreadValue) → IsOneLine (unread_sentence unread)
+unread_line (manifest_in folder) = both (shown folder) _ (shown_line folder) refl
+unread_line workspaces_on_disk = refl
 
 -- ---- a package that is hit
 
@@ -194,8 +195,8 @@ module _ (style : StyleValue) where
   of_unchecked unchecked = as_line style.format style.file (unchecked_sentence unchecked) (unchecked_data unchecked)
       (unchecked_line unchecked)
 
-  pub of_unread : (folder : List ℕ) → IsOneLine (unread_text style folder)
-  of_unread folder = as_line style.format style.file (unread_sentence folder) (unread_data folder) (unread_line folder)
+  pub of_unread : (unread : UnreadValue) → IsOneLine (unread_text style unread)
+  of_unread unread = as_line style.format style.file (unread_sentence unread) (unread_data unread) (unread_line unread)
 
 pub of_hit : (format : ReportFormat) (file : Option (List ℕ)) (found : FoundValue) (line : List ℕ) → IsFair found
     → IsHitLineAs format file found line → IsOneLine line

@@ -1,7 +1,7 @@
 -- What the contracts of npm_lock_reports say, in reading order.
 
 pub mod HitSentence  -- a package that is hit as a sentence
-pub mod Unread  -- a manifest that was not read, as a sentence and as a JSON object
+pub mod Unread  -- what was not looked at beside a lock file, as a sentence and as a JSON object
 pub mod Style  -- how lines are written
 pub mod Report  -- the report of a lock file, and its lines
 pub mod ReportLaws  -- what the lines are, one by one

@@ -1,5 +1,5 @@
 -- The report of a lock file, and its lines.
-use Rattle.std.specs.Prelude.{◌≡◌, ◌≤◌, ℕ, List, [], ◌∷◌, ◌++◌, false, if◌then◌else◌, Option, Some, map, string_bytes, true}
+use Rattle.std.specs.Prelude.{◌≡◌, ◌≤◌, ℕ, List, [], ◌∷◌, ◌++◌, false, if◌then◌else◌, Option, Some, map, true}
 use Rattle.serde_json.specs.Data.{Data, depth}
 use Rattle.serde_json.specs.Read.{max_depth, read}
 use Rattle.serde_json.specs.Written.{compact_text, has_float}
@@ -12,15 +12,10 @@ use Rattle.npm_advisories.specs.FoundJson.{found_data}
 use Rattle.npm_lock_reports.specs.HitSentence.{hit_sentence}
 use Rattle.npm_lock_sentences.specs.Sentence.{mismatch_sentence, sentence, unchecked_sentence}
 use Rattle.npm_lock_reports.specs.Style.{StyleValue, in_file, with_file}
-use Rattle.npm_lock_reports.specs.Unread.{unread_data, unread_sentence}
-use Rattle.npm_lock_reports.specs.declared.folder_name.FolderName.{FolderName}
+use Rattle.npm_lock_reports.specs.Unread.{UnreadValue, unread_data, unread_sentence, unread_value}
 use Rattle.npm_lock_reports.specs.declared.format.ReportFormat.{ReportFormat}
 use Rattle.npm_lock_reports.specs.declared.format.ReportFormat.TheVariants.{Json, Text}
 use Rattle.npm_lock_reports.specs.declared.report.Report.{Report}
-
--- the text of a folder
-abbrev pub folder_text : FolderName → List ℕ
-folder_text name = string_bytes name.text
 
 -- A report with nothing in it that counts for the status. `npm ci` installs a lock file whose specs differ from those of
 -- the manifest, if its packages satisfy the manifest. So mismatches count only with `--exact`.
@@ -49,9 +44,9 @@ abbrev pub unchecked_text : StyleValue → UncheckedValue → List ℕ
 unchecked_text style unchecked =
     line_as style.format style.file (unchecked_sentence unchecked) (unchecked_data unchecked)
 
--- the line of a manifest that was not read
-abbrev pub unread_text : StyleValue → (folder : List ℕ) → List ℕ
-unread_text style folder = line_as style.format style.file (unread_sentence folder) (unread_data folder)
+-- the line of what was not looked at
+abbrev pub unread_text : StyleValue → UnreadValue → List ℕ
+unread_text style unread = line_as style.format style.file (unread_sentence unread) (unread_data unread)
 
 -- The line of a package that is hit. An advisory may have a number with a fraction as its `id`: then the JSON text is
 -- not fixed here, but it reads back as the object.
@@ -78,13 +73,13 @@ pub data AreLines {V : Type 0} (IsLine : V → List ℕ → Type 0) : List V →
       → AreLines IsLine (one ∷ others) (line ++ (10 ∷ text))
 
 -- The whole text: a line for each mismatch, for each problem, for each package that is hit and, if they are listed,
--- for each dependency that is not checked, and for each manifest that was not read.
+-- for each dependency that is not checked, and for each manifest, or for the workspaces, that were not looked at.
 abbrev pub report_text : StyleValue → Report → (hit_lines : List ℕ) → List ℕ
 report_text style report hit_lines = lines (mismatch_text style) (map mismatch_value report.mismatches.items)
     ++ (lines (line_text style) (map problem_value report.problems.list.items)
     ++ (hit_lines ++ (if report.listed
     then lines (unchecked_text style) (map unchecked_value report.problems.unchecked.items)
-    ++ lines (unread_text style) (map folder_text report.unread.items) else [])))
+    ++ lines (unread_text style) (map unread_value report.unread.items) else [])))
 
 -- the text of a report, with the lines of the packages that are hit
 abbrev pub IsReportText : StyleValue → Report → List FoundValue → (text : List ℕ) → Type 0

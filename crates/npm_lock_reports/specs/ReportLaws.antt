@@ -8,18 +8,19 @@ use Rattle.npm_advisory_files.specs.Advisories.{AdvisoryValue}
 use Rattle.npm_advisories.specs.Audit.{FoundValue, InstalledValue, IsAudit}
 use Rattle.npm_advisories.specs.FoundJson.{found_data}
 use Rattle.npm_advisory_files.specs.declared.severity.Severity.{Severity}
-use Rattle.npm_lock_reports.specs.Report.{IsHitLine, IsReportText, folder_text, line_text, mismatch_text, unchecked_text, unread_text}
+use Rattle.npm_lock_reports.specs.Report.{IsHitLine, IsReportText, line_text, mismatch_text, unchecked_text, unread_text}
 use Rattle.npm_lock_reports.specs.Style.{StyleValue}
+use Rattle.npm_lock_reports.specs.Unread.{unread_value}
 use Rattle.npm_lock_reports.specs.declared.report.Report.{Report}
 
 abbrev pub is_newline : (byte : ℕ) → Bool
 is_newline byte = byte == 10
 
--- the lines of what is listed: the dependencies that are not checked, and the manifests that were not read
+-- the lines of what is listed: the dependencies that are not checked, and what was not looked at
 abbrev pub listed_lines : StyleValue → Report → List (List ℕ)
 listed_lines style report = if report.listed
     then map (unchecked_text style) (map unchecked_value report.problems.unchecked.items)
-    ++ map (unread_text style) (map folder_text report.unread.items)
+    ++ map (unread_text style) (map unread_value report.unread.items)
     else []
 
 -- the lines of a report, with those of the packages that are hit: each thing has one line, in the order of its list

@@ -20,4 +20,4 @@ pub use hit_sentence::push_hit_sentence;
 pub use lines::lines_of;
 pub use report::Report;
 pub use style::LineStyle;
-pub use unread::{push_unread_sentence, unread_json};
+pub use unread::{Unread, push_unread_sentence, unread_json};

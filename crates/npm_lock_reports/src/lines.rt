@@ -4,16 +4,16 @@ ghost use Rattle.npm_advisories.specs.Audit.{found_value};
 ghost use Rattle.npm_manifests.specs.Mismatches.{mismatch_value};
 ghost use Rattle.npm_lock.specs.Outcomes.{problem_value, unchecked_value};
 ghost use Rattle.npm_lock_reports.specs.Report as Reports;
-ghost use Rattle.npm_lock_reports.specs.Report.{AreLines, IsHitLine, IsReportText, folder_text, line_text, mismatch_text};
+ghost use Rattle.npm_lock_reports.specs.Report.{AreLines, IsHitLine, IsReportText, line_text, mismatch_text};
 ghost use Rattle.npm_lock_reports.specs.Report.{unchecked_text, unread_text};
 ghost use Rattle.npm_lock_reports.specs.Style.{style_value};
+ghost use Rattle.npm_lock_reports.specs.Unread.{unread_value};
 
-use crate::folder_name::FolderName;
 use crate::format::ReportFormat;
 use crate::hit_sentence::push_hit_sentence;
 use crate::report::Report;
 use crate::style::{LineStyle, push_file, push_object};
-use crate::unread::{push_unread_sentence, unread_json};
+use crate::unread::{Unread, push_unread_sentence, unread_json};
 use npm_advisories::Found;
 use npm_lock::{Problem, Unchecked};
 use npm_lock_sentences::{push_mismatch_sentence, push_sentence, push_unchecked_sentence};
@@ -21,7 +21,7 @@ use npm_manifests::Mismatch;
 use std::alloc::{AllocError, Global};
 
 /// Returns the lines of a report, and of the packages that are hit: of the mismatches, of the problems, of the packages, and if
-/// they are listed of the dependencies that are not checked and of the manifests that were not read.
+/// they are listed of the dependencies that are not checked and of what was not looked at.
 ///
 /// # Errors
 ///
@@ -117,18 +117,18 @@ fn push_all_unchecked(
     Ok(())
 }
 
-/// Adds a line for each manifest that was not read.
+/// Adds a line for each thing that was not looked at.
 fn push_all_unread(
     alloc: Global,
     lines: &mut Vec<u8>,
-    all: &[FolderName],
+    all: &[Unread],
     style: LineStyle<'_>,
 ) -> Result<(), AllocError>
     ensures { OnOk result (lines.new.items
-        ≡ lines.old.items ++ Reports.lines (unread_text (style_value style.entry)) (map folder_text all.now)) }
+        ≡ lines.old.items ++ Reports.lines (unread_text (style_value style.entry)) (map unread_value all.now)) }
 {
-    for folder in all {
-        push_unread(alloc, lines, folder, style)?;
+    for unread in all {
+        push_unread(alloc, lines, unread, style)?;
         lines.extend_from_slice(b"\n")?;
     }
     Ok(())
@@ -208,20 +208,20 @@ fn push_unchecked(
     }
 }
 
-/// Adds a manifest that was not read.
+/// Adds what was not looked at.
 fn push_unread(
     alloc: Global,
     line: &mut Vec<u8>,
-    folder: &FolderName,
+    unread: &Unread,
     style: LineStyle<'_>,
 ) -> Result<(), AllocError>
-    ensures { OnOk result (line.new.items ≡ line.old.items ++ unread_text (style_value style.entry) (folder_text folder.now)) }
+    ensures { OnOk result (line.new.items ≡ line.old.items ++ unread_text (style_value style.entry) (unread_value unread.now)) }
 {
     match style.format {
         ReportFormat::Text => {
             push_file(line, style.file)?;
-            push_unread_sentence(line, folder)
+            push_unread_sentence(line, unread)
         }
-        ReportFormat::Json => push_object(alloc, line, unread_json(alloc, folder)?, style.file),
+        ReportFormat::Json => push_object(alloc, line, unread_json(alloc, unread)?, style.file),
     }
 }

@@ -2,7 +2,7 @@
 ghost use Rattle.std.specs.Prelude.{◌≡◌, ◌↔◌, IsTrue};
 ghost use Rattle.npm_lock_reports.specs.Report.{IsClean};
 
-use crate::folder_name::FolderName;
+use crate::unread::Unread;
 use npm_lock::Problems;
 use npm_manifests::Mismatch;
 use std::fmt;
@@ -16,8 +16,8 @@ pub struct Report {
     pub mismatches: Vec<Mismatch>,
     /// Mismatches count for the status.
     pub exact: bool,
-    /// The folders of linked packages whose manifest was not read.
-    pub unread: Vec<FolderName>,
+    /// What was not looked at: manifests of linked packages, and workspaces on disk.
+    pub unread: Vec<Unread>,
     /// The problems of the lock file but those of kinds that are left out, with the counts of all.
     pub problems: Problems,
     /// Advisories were looked up.
@@ -36,10 +36,21 @@ impl Report {
         let is_same = !self.exact || self.mismatches.is_empty();
         is_same && self.problems.list.is_empty() && self.hits == 0
     }
+
+    /// How many manifests were not read.
+    fn unread_manifests(&self) -> usize {
+        let mut count: usize = 0;
+        for unread in &self.unread {
+            if let Unread::Manifest(_) = unread {
+                count = count.saturating_add(1);
+            }
+        }
+        count
+    }
 }
 
 /// Prints the counts. Those of mismatches and of packages that are hit are left out if nothing was looked for. If dependencies
-/// that are not checked were not listed, names the option that lists them.
+/// that are not checked were not listed, names the option that lists them. Says so if workspaces were not looked for.
 impl fmt::Display for Report {
     fn fmt<W: fmt::Write>(&self, f: &mut fmt::Formatter<W>) -> fmt::Result {
         let problems = &self.problems;
@@ -57,12 +68,15 @@ impl fmt::Display for Report {
         if self.compared {
             write!(f, ", {} mismatches", self.mismatches.len())?;
         }
-        if !self.unread.is_empty() {
-            write!(
-                f,
-                ", {} manifests not read (see --outside)",
-                self.unread.len()
-            )?;
+        let manifests = self.unread_manifests();
+        if manifests > 0 {
+            write!(f, ", {manifests} manifests not read (see --outside)")?;
+        }
+        if manifests < self.unread.len() {
+            write!(f, ", workspaces not looked for")?;
+            if !self.listed {
+                write!(f, " (see --unchecked)")?;
+            }
         }
         if self.audited {
             write!(f, ", {} hit", self.hits)?;

@@ -1,32 +1,69 @@
-//! A manifest that was not read, as a sentence and as a JSON object.
+//! What was not looked at beside a lock file, as a sentence and as a JSON object.
 ghost use Rattle.std.specs.Prelude.{◌≡◌, ◌++◌, IfOk, OnOk};
 ghost use Rattle.serde_json.specs.View.{view};
-ghost use Rattle.npm_lock_reports.specs.Report.{folder_text};
-ghost use Rattle.npm_lock_reports.specs.Unread as Unread;
+ghost use Rattle.npm_lock_reports.specs.Unread as UnreadThings;
+ghost use Rattle.npm_lock_reports.specs.Unread.{unread_value};
 
 use crate::folder_name::FolderName;
 use command_lines::push_shown;
 use serde_json::{Map, Value, put};
 use std::alloc::{AllocError, Global};
 
-/// Adds the sentence of a manifest in this folder that was not read.
-pub fn push_unread_sentence(line: &mut Vec<u8>, folder: &FolderName) -> Result<(), AllocError>
-    ensures { OnOk result (line.new.items ≡ line.old.items ++ Unread.unread_sentence (folder_text folder.now)) }
-{
-    push_shown(line, folder.text.as_str())?;
-    line.extend_from_slice(
-        b"/package.json is not read: it is outside the folder of --manifest, or no regular file",
-    )
+/// What was not looked at beside a lock file.
+#[derive(Debug, PartialEq, Eq, Drop)]
+pub enum Unread {
+    /// The manifest in this folder.
+    Manifest(FolderName),
+    /// The workspaces on disk: a pattern of them is not read.
+    Workspaces,
 }
 
-/// The JSON object of a manifest in this folder that was not read.
-pub fn unread_json(alloc: Global, folder: &FolderName) -> Result<Value, AllocError>
-    ensures { IfOk result (λ value. view value ≡ Unread.unread_data (folder_text folder.now)) }
+impl Unread {
+    /// Returns the folder of the package that it is of, which is the root for workspaces.
+    pub fn folder(&self) -> &str
+        ensures { result.now ≡ UnreadThings.unread_folder (unread_value self.now) }
+    {
+        match self {
+            Unread::Manifest(folder) => folder.text.as_str(),
+            Unread::Workspaces => "",
+        }
+    }
+
+    fn word(&self) -> &str
+        ensures { result.now ≡ UnreadThings.unread_word (unread_value self.now) }
+    {
+        match self {
+            Unread::Manifest(_) => "manifest",
+            Unread::Workspaces => "workspaces",
+        }
+    }
+}
+
+/// Adds the sentence of what was not looked at.
+pub fn push_unread_sentence(line: &mut Vec<u8>, unread: &Unread) -> Result<(), AllocError>
+    ensures { OnOk result (line.new.items ≡ line.old.items ++ UnreadThings.unread_sentence (unread_value unread.now)) }
+{
+    match unread {
+        Unread::Manifest(folder) => {
+            push_shown(line, folder.text.as_str())?;
+            line.extend_from_slice(
+                b"/package.json is not read: it is outside the folder of --manifest, or no regular file",
+            )
+        }
+        Unread::Workspaces => line.extend_from_slice(
+            b"no workspaces are looked for on disk: a pattern of `workspaces` is not read",
+        ),
+    }
+}
+
+/// The JSON object of what was not looked at.
+pub fn unread_json(alloc: Global, unread: &Unread) -> Result<Value, AllocError>
+    ensures { IfOk result (λ value. view value ≡ UnreadThings.unread_data (unread_value unread.now)) }
 {
     let mut members = Map::new(alloc);
-    let from = String::from_str(alloc, folder.text.as_str())?;
+    let from = String::from_str(alloc, unread.folder())?;
     put(&mut members, alloc, "from", Value::String(from))?;
-    let unchecked = String::from_str(alloc, "manifest")?;
+    let unchecked = String::from_str(alloc, unread.word())?;
     put(&mut members, alloc, "unchecked", Value::String(unchecked))?;
     Ok(Value::Object(members))
 }

@@ -2,7 +2,7 @@
 use Rattle.std.specs.Prelude.{ℕ, List, [], ◌∷◌, ◌++◌, Result, Ok, codes, map, string_bytes}
 use Rattle.serde_json.specs.Data.{Data}
 use Rattle.serde_json.specs.View.{view}
-use Rattle.npm_lock_reports.specs.Report.{folder_text}
+use Rattle.npm_lock_reports.specs.Unread.{UnreadValue, manifest_in, unread_value, workspaces_on_disk}
 use Rattle.npm_manifest_files.specs.WorkspaceName.{workspace_name}
 use Rattle.npm_manifest_files.specs.declared.linked.Found.{Found}
 use Rattle.npm_manifest_files.specs.declared.linked.Found.TheVariants.{Manifest, Nothing, Unread}
@@ -34,27 +34,31 @@ abbrev pub workspace_in : (manifest : Data) → (above folder : List ℕ) → Wo
 workspace_in manifest above folder =
     record { name = workspace_name manifest (above ++ (codes "/" ++ folder)); folder = folder }
 
--- the manifests that were read, the folders of those that were not, and the workspaces that were found on disk
+-- the manifests that were read, what was not looked at, and the workspaces that were found on disk
 pub record LoadedValue : Type 0 where
   pub linked : List LinkedValue
-  pub unread : List (List ℕ)
+  pub unread : List UnreadValue
   pub workspaces : List WorkspaceValue
 
 -- a contract sees the values of these
 abbrev pub loaded_value : Loaded → LoadedValue
 loaded_value loaded = record {
   linked = map linked_value loaded.linked.items;
-  unread = map folder_text loaded.unread.items;
+  unread = map unread_value loaded.unread.items;
   workspaces = map workspace_value loaded.workspaces.items;
 }
 
 abbrev pub nothing_loaded : LoadedValue
 nothing_loaded = record { linked = []; unread = []; workspaces = [] }
 
+-- without the workspaces on disk, since a pattern of them is not read
+abbrev pub without_workspaces : LoadedValue → LoadedValue
+without_workspaces loaded = record loaded { unread = loaded.unread ++ (workspaces_on_disk ∷ []) }
+
 -- with the manifest of one more folder, if it has one
 abbrev pub with_found : (folder : List ℕ) → Found → LoadedValue → LoadedValue
 with_found folder Nothing loaded = loaded
-with_found folder Unread loaded = record loaded { unread = loaded.unread ++ (folder ∷ []) }
+with_found folder Unread loaded = record loaded { unread = loaded.unread ++ (manifest_in folder ∷ []) }
 with_found folder (Manifest manifest) loaded =
     record loaded { linked = loaded.linked ++ (record { folder = folder; manifest = view manifest } ∷ []) }
 

@@ -9,7 +9,7 @@ ghost use Rattle.npm_manifest_files.specs.Linked.{AreRead, loaded_value, nothing
 
 use crate::load_error::LoadError;
 use npm_lock::linked_folders;
-use npm_lock_reports::FolderName;
+use npm_lock_reports::{FolderName, Unread};
 use serde_json::Value;
 use std::alloc::{AllocError, Global};
 
@@ -37,11 +37,11 @@ pub struct Workspace {
     pub folder: String,
 }
 
-/// The manifests that were read, the folders of those that were not, and the workspaces that were found on disk.
+/// The manifests that were read, what was not looked at, and the workspaces that were found on disk.
 #[derive(Drop)]
 pub struct Loaded {
     pub linked: Vec<Linked>,
-    pub unread: Vec<FolderName>,
+    pub unread: Vec<Unread>,
     pub workspaces: Vec<Workspace>,
 }
 
@@ -99,7 +99,7 @@ fn add(alloc: Global, made: &mut Loaded, folder: &str, found: Found) -> Result<(
         Found::Nothing => {}
         Found::Unread => {
             let text = String::from_str(alloc, folder)?;
-            made.unread.push(FolderName { text })?;
+            made.unread.push(Unread::Manifest(FolderName { text }))?;
         }
         Found::Manifest(manifest) => {
             let folder = String::from_str(alloc, folder)?;

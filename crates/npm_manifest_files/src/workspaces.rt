@@ -1,7 +1,7 @@
 //! The workspaces that are found on disk, beside a lock file.
 ghost use Rattle.std.specs.Prelude.{◌≡◌, IfOk};
 ghost use Rattle.serde_json.specs.View.{view};
-ghost use Rattle.npm_manifest_files.specs.Linked.{workspace_in, workspace_value};
+ghost use Rattle.npm_manifest_files.specs.Linked.{loaded_value, without_workspaces, workspace_in, workspace_value};
 
 use crate::linked::{Found, Linked, Loaded, Workspace};
 use crate::load_error::LoadError;
@@ -9,12 +9,13 @@ use crate::manifest_file::manifest_in;
 use crate::walk::{folders_on_disk, joined, unless_failed};
 use crate::workspace_name::name_of;
 use npm_lock::workspace_patterns;
-use npm_lock_reports::FolderName;
+use npm_lock_reports::{FolderName, Unread};
 use serde_json::Value;
 use std::alloc::{AllocError, Global};
 use std::fs;
 
-/// Adds the workspaces that are found on disk. `outer` is the folder of the root's manifest.
+/// Adds the workspaces that are found on disk. `outer` is the folder of the root's manifest. If a pattern is not read, none are looked
+/// for, and that is added to what was not looked at.
 ///
 /// # Errors
 ///
@@ -31,7 +32,7 @@ pub fn with_workspaces(
     };
     let patterns = match workspace_patterns(rt.alloc(), manifest) {
         Ok(Some(patterns)) => patterns,
-        Ok(None) => return Ok(loaded),
+        Ok(None) => return without_workspaces(loaded),
         Err(_) => return Err(LoadError::Memory),
     };
     if patterns.is_empty() {
@@ -53,15 +54,26 @@ pub fn with_workspaces(
     }
 }
 
+/// Says that no workspaces were looked for, as a pattern of them is not read.
+fn without_workspaces(loaded: Loaded) -> Result<Loaded, LoadError>
+    ensures { IfOk result (λ made. loaded_value made ≡ without_workspaces (loaded_value loaded)) }
+{
+    let mut loaded = loaded;
+    match loaded.unread.push(Unread::Workspaces) {
+        Ok(()) => Ok(loaded),
+        Err(_) => Err(LoadError::Memory),
+    }
+}
+
 /// Adds what a folder is.
 fn add(
     workspaces: &mut Vec<Workspace>,
-    unread: &mut Vec<FolderName>,
+    unread: &mut Vec<Unread>,
     matched: Matched,
 ) -> Result<(), AllocError> {
     match matched {
         Matched::Nothing => {}
-        Matched::Unread(folder) => unread.push(folder)?,
+        Matched::Unread(folder) => unread.push(Unread::Manifest(folder))?,
         Matched::As(workspace) => workspaces.push(workspace)?,
     }
     Ok(())
@@ -134,10 +146,10 @@ fn linked_at<'l>(linked: &'l [Linked], folder: &str) -> Option<&'l Value> {
     }
 }
 
-/// Returns `true` if the folder is among these, which are in the order of their bytes.
-fn has_folder(folders: &[FolderName], folder: &str) -> bool {
-    folders
-        .binary_search_by(|one| one.text.as_str().cmp(folder))
+/// Returns `true` if the manifest in this folder is among these, whose folders are in the order of their bytes.
+fn has_folder(unread: &[Unread], folder: &str) -> bool {
+    unread
+        .binary_search_by(|one| one.folder().cmp(folder))
         .is_ok()
 }
 

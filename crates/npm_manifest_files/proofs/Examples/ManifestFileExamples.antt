@@ -3,7 +3,8 @@ use Rattle.std.proofs.Common.{◌≡◌, ◌∷◌, ℕ, List, [], Result, Ok, c
 use Rattle.serde_json.specs.Data.{Data, member, no_members, object, string}
 use Rattle.serde_json.specs.View.{view}
 use Rattle.serde_json.specs.declared.value.Value.{Value}
-use Rattle.npm_manifest_files.specs.Linked.{AreRead, LinkedValue, no_folder, one_more}
+use Rattle.npm_lock_reports.specs.Unread.{manifest_in, workspaces_on_disk}
+use Rattle.npm_manifest_files.specs.Linked.{AreRead, LinkedValue, no_folder, nothing_loaded, one_more, without_workspaces}
 use Rattle.npm_manifest_files.specs.ManifestFile.{path_of}
 use Rattle.npm_manifest_files.specs.Paths.{folder_of}
 use Rattle.npm_manifest_files.specs.WorkspaceName.{folder_name, workspace_name}
@@ -25,7 +26,7 @@ v_then_w = codes "v" ∷ codes "w" ∷ []
 module _ (Gives : (folder : List ℕ) → Result Found LoadError → Type 0) (manifest : Value) where
   -- a manifest that was read counts, and the folder of one that was not read is kept
   pub all_that_is_found : Gives (codes "v") (Ok Unread) → Gives (codes "w") (Ok (Manifest manifest))
-      → AreRead Gives v_then_w (record { linked = at_w (view manifest) ∷ []; unread = codes "v" ∷ []; workspaces = [] })
+      → AreRead Gives v_then_w (record { linked = at_w (view manifest) ∷ []; unread = manifest_in (codes "v") ∷ []; workspaces = [] })
   all_that_is_found v w = one_more _ _ _ _ _ v (one_more _ _ _ _ _ w (no_folder _))
 
   pub what_is_not_there_is_left_out : Gives (codes "v") (Ok Nothing) → Gives (codes "w") (Ok (Manifest manifest))
@@ -33,6 +34,10 @@ module _ (Gives : (folder : List ℕ) → Result Found LoadError → Type 0) (ma
   what_is_not_there_is_left_out v w = one_more _ _ _ _ _ v (one_more _ _ _ _ _ w (no_folder _))
 
 -- ---- workspaces
+
+pub a_pattern_that_is_not_read_is_told : without_workspaces nothing_loaded
+    ≡ record { linked = []; unread = workspaces_on_disk ∷ []; workspaces = [] }
+a_pattern_that_is_not_read_is_told = refl
 
 pub the_name_of_the_manifest : workspace_name (one (codes "name") (string (codes "renamed"))) (codes "/p/w")
     ≡ codes "renamed"

@@ -5,7 +5,7 @@ use Rattle.std.proofs.lemmas.Str.Pattern.{NoCharPasses-char, drop_at_char}
 use Rattle.std.specs.Option.{MatchOption}
 use Rattle.std.specs.Str.Pattern.{RFindsChar, SplitsAroundMatch}
 use denote.Ref.{Bor}
-use Rattle.npm_packages.specs.Index.{HasNoSlash, IsLast}
+use Rattle.npm_packages.specs.LastParts.{HasNoSlash, IsLast}
 
 -- the clause of `rsplit_once` at `/`
 pub rsplit_parts : (bs : List ℕ) (r : Option (Bor (List ℕ) × Bor (List ℕ)))

@@ -6,7 +6,7 @@ use Rattle.npm_packages.specs.Dependents.{AreDependents}
 use Rattle.npm_packages.specs.Packages.{is_link}
 use Rattle.npm_advisory_files.specs.Advisories.{text_of}
 use Rattle.npm_advisories.specs.Audit.{InstalledValue}
-use Rattle.npm_packages.specs.Index.{IsEnd}
+use Rattle.npm_packages.specs.LastParts.{IsEnd}
 
 -- The name of a package: its member `name`, which an alias has, or else what npm names it by its folder: `@s/a` in
 -- `b/node_modules/@s/a`, and `w` in `packages/w`, a workspace. An empty name counts as none

@@ -8,7 +8,7 @@ ghost use Rattle.npm_packages.specs.Faults.{lock_fault};
 ghost use Rattle.npm_packages.specs.Packages.{is_link};
 ghost use Rattle.npm_advisories.specs.Audit.{InstalledValue, IsAudit, found_value, installed_value};
 ghost use Rattle.npm_advisories.specs.Files.{advisories_of};
-ghost use Rattle.npm_packages.specs.Index.{IsEnd};
+ghost use Rattle.npm_packages.specs.LastParts.{IsEnd};
 ghost use Rattle.npm_advisories.specs.LockFaults.{IsFileFaultBeside, IsLockError};
 ghost use Rattle.npm_advisories.specs.LockFile.{AreInstalled, AreInstalledOf, IsInstalledAs, IsName, IsOther};
 

@@ -1,7 +1,7 @@
 //! The names of packages by their folders.
 ghost use Rattle.std.specs.Prelude.{◌≡◌, ◌≢◌, ◌++◌, ◌∷◌, ℕ, List};
 ghost use Rattle.std.specs.Option.{MatchOption};
-ghost use Rattle.npm_packages.specs.Index.{HasNoSlash, IsEnd, IsLast};
+ghost use Rattle.npm_packages.specs.LastParts.{HasNoSlash, IsEnd, IsLast};
 
 /// The last part of a folder, with the scope before it.
 pub(crate) fn folder_name(folder: &str) -> &str

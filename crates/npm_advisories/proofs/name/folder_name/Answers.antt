@@ -3,7 +3,7 @@ use Rattle.std.proofs.Common.{◌≡◌, List, ℕ, Bool, arith, false, get_or, 
 use Rattle.std.proofs.lemmas.Bool.Decides.{Decides-eqb}
 use Rattle.std.proofs.lemmas.Str.Pattern.{starts_char}
 use Rattle.std.specs.Bool.{Decides}
-use Rattle.npm_packages.specs.Index.{is_scope, plain, scoped}
+use Rattle.npm_packages.specs.LastParts.{is_scope, plain, scoped}
 use Rattle.npm_advisories.proofs.FolderParts.{scoped_end}
 use Rattle.npm_advisories.proofs.name.folder_name.Goals as goal
 

@@ -7,9 +7,8 @@
 //! fails.
 #![tactic(auto)]
 
-use jiff::Timestamp;
 use node_semver::VersionRef;
-use npm_pick::{Options, PickError, Picked, pick};
+use npm_pick::{Options, PickError, Picked, parse_time, pick};
 use serde_json::Value;
 use std::alloc::{AllocGlobal, Global};
 use std::io::{BufRead, BufReader};
@@ -58,7 +57,7 @@ fn answer_of(alloc: Global, case: &Value) -> Result<Picked<'_>, PickError> {
     };
     let options = Options {
         default_tag: text_of(case, "tag").unwrap_or("latest"),
-        before: text_of(case, "before").and_then(time_of),
+        before: time_of(case),
         avoid: text_of(case, "avoid"),
         avoid_strict: is_set(case, "avoidStrict"),
         include_staged: is_set(case, "includeStaged"),
@@ -77,6 +76,10 @@ fn text_of<'v>(case: &'v Value, key: &str) -> Option<&'v str> {
     case.get(key)?.as_str()
 }
 
+fn time_of(case: &Value) -> Option<i128> {
+    parse_time(text_of(case, "before")?)
+}
+
 fn is_set(case: &Value, key: &str) -> bool {
     case.get(key).and_then(Value::as_bool).unwrap_or(false)
 }
@@ -84,13 +87,6 @@ fn is_set(case: &Value, key: &str) -> bool {
 fn version_of(text: &str) -> Option<VersionRef<'_>> {
     match VersionRef::parse(text) {
         Ok(version) => Some(version),
-        Err(_) => None,
-    }
-}
-
-fn time_of(text: &str) -> Option<Timestamp> {
-    match text.parse::<Timestamp>() {
-        Ok(time) => Some(time),
         Err(_) => None,
     }
 }

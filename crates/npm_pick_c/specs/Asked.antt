@@ -1,9 +1,7 @@
 -- What C passes: a document, the wanted text, and options.
-use Rattle.std.specs.Prelude.{◌≡◌, ◌∷◌, ℕ, List, [], Bool, Option, Some, None, Ok, IsUtf8, codes, option_map}
-use Rattle.jiff.specs.Words.{parse_timestamp}
-use Rattle.jiff_core.specs.declared.timestamp.Timestamp.{Timestamp}
+use Rattle.std.specs.Prelude.{◌≡◌, ◌∷◌, ℕ, ℤ, List, [], Bool, Option, Some, None, IsUtf8, codes, option_map}
 use Rattle.node_semver.specs.Versions.{IsVersionText, VersionValue}
-use Rattle.npm_pick.specs.PickOptions.{Options}
+use Rattle.npm_pick.specs.PickOptions.{Options, time_text}
 use Rattle.npm_pick_c.specs.declared.asked.Texts as declared
 
 -- the texts of the options
@@ -50,9 +48,9 @@ tag_of [] = codes "latest"
 tag_of (byte ∷ text) = byte ∷ text
 
 -- the time of a text: `2024-03-01T12:00:00Z`
-abbrev pub IsTime : (text : List ℕ) → Option Timestamp → Type 0
+abbrev pub IsTime : (text : List ℕ) → Option ℤ → Type 0
 IsTime text None = text ≡ []
-IsTime text (Some time) = parse_timestamp text ≡ Ok time.nanosecond
+IsTime text (Some time) = time_text text ≡ Some time
 
 -- the version of a text: `20.1.0`, `v20.1.0`
 abbrev pub IsVersion : (text : List ℕ) → Option VersionValue → Type 0

@@ -1,14 +1,11 @@
 //! What C asks: texts, and two marks.
-ghost use Rattle.std.specs.Prelude.{◌≡◌, IfErr, IfNone, IfOk, IfSome, IsUtf8, option_map};
+ghost use Rattle.std.specs.Prelude.{◌≡◌, IfErr, IfNone, IfOk, IfSome, IsUtf8, Option, option_map, ℤ};
 ghost use Rattle.npm_pick.specs.PickOptions.{Options};
 ghost use Rattle.node_semver.specs.Versions.{VersionValue};
-ghost use Rattle.jiff_core.specs.declared.timestamp.Timestamp.{Timestamp};
-ghost use Rattle.std.specs.Prelude.{Option};
 ghost use Rattle.npm_pick_c.specs.Asked as Asks;
 
-use jiff::Timestamp;
 use node_semver::VersionRef;
-use npm_pick::Options;
+use npm_pick::{Options, parse_time};
 
 /// The texts of the options. An empty text counts as an absent option.
 #[derive(Drop)]
@@ -60,16 +57,16 @@ fn given(text: &str) -> Option<&str>
 }
 
 /// The time of a text, if it is not empty.
-fn time_of(text: &str) -> Result<Option<Timestamp>, Invalid>
+fn time_of(text: &str) -> Result<Option<i128>, Invalid>
     ensures read { IfOk result (Asks.IsTime text.now) }
-    ensures invalid { IfErr result (λ _. (time : Option Timestamp) → ¬ Asks.IsTime text.now time) }
+    ensures invalid { IfErr result (λ _. (time : Option ℤ) → ¬ Asks.IsTime text.now time) }
 {
     if text.is_empty() {
         return Ok(None);
     }
-    match text.parse::<Timestamp>() {
-        Ok(time) => Ok(Some(time)),
-        Err(_) => Err(Invalid),
+    match parse_time(text) {
+        Some(time) => Ok(Some(time)),
+        None => Err(Invalid),
     }
 }
 

@@ -1,6 +1,5 @@
 -- The options of a pick, by the arguments.
-use Rattle.std.specs.Prelude.{◌≡◌, ℕ, List, Option, Some, None, codes, option_map, string_bytes, unwrap_or}
-use Rattle.jiff_core.specs.declared.timestamp.Timestamp.{Timestamp}
+use Rattle.std.specs.Prelude.{◌≡◌, ℕ, ℤ, IsSome, List, Option, Some, None, codes, option_map, string_bytes, unwrap_or}
 use Rattle.node_semver.specs.Versions.{IsVersionText, VersionValue}
 use Rattle.npm_pick.specs.PickOptions.{Options}
 use Rattle.npm_pick_command.specs.Arguments.{ArgumentsValue}
@@ -8,9 +7,9 @@ use Rattle.npm_pick_command.specs.Given.{IsVersionGiven, time_given}
 use Rattle.npm_pick_command.specs.declared.picking.Values.{Values}
 
 -- the time of a text, if there is a text
-abbrev pub IsTime : (text : Option (List ℕ)) → Option Timestamp → Type 0
+abbrev pub IsTime : (text : Option (List ℕ)) → Option ℤ → Type 0
 IsTime None time = time ≡ None
-IsTime (Some text) time = (t : Timestamp) × (time ≡ Some t) × (time_given text ≡ Some t.nanosecond)
+IsTime (Some text) time = (time ≡ time_given text) × IsSome time
 
 -- the whole text of the version that a text names, if there is a text
 abbrev pub IsWhole : (text : Option (List ℕ)) → (whole : Option (List ℕ)) → Type 0

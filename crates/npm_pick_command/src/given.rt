@@ -1,10 +1,10 @@
 //! The times and versions that arguments name.
 ghost use Rattle.std.specs.Prelude.{◌≡◌, ◌↔◌, ◌++◌, IfOk, IsTrue, MatchOption, option_map, string_bytes};
 ghost use Rattle.npm_pick_command.specs.Given as Given;
-ghost use Rattle.npm_pick_command.specs.Given.{IsSomeVersion, IsVersionGiven, instant_of, instant_text};
+ghost use Rattle.npm_pick_command.specs.Given.{IsSomeVersion, IsVersionGiven};
 
-use jiff::Timestamp;
 use node_semver::VersionRef;
+use npm_pick::parse_time;
 use std::alloc::{AllocError, Global};
 
 /// Returns the text of a version whose last numbers may be left out: `20.0.0` for `20`, and `v20.11.0` for `v20.11`. `None`: the
@@ -45,25 +45,15 @@ fn is_version(text: &str) -> bool
     }
 }
 
-/// Returns the instant of a text, in which the time of the day may be left out: `2024-03-01` is the beginning of that day in UTC.
-/// `None`: the text is no such time.
-pub fn time_given(alloc: Global, text: &str) -> Result<Option<Timestamp>, AllocError>
-    ensures { IfOk result (λ time. instant_of time ≡ Given.time_given text.now) }
+/// Returns the time of a text, in which the time of the day may be left out: `2024-03-01` is the beginning of that day in UTC. It is
+/// in nanoseconds since 1970-01-01T00:00:00Z. `None`: the text is no such time.
+pub fn time_given(alloc: Global, text: &str) -> Result<Option<i128>, AllocError>
+    ensures { IfOk result (λ time. time ≡ Given.time_given text.now) }
 {
-    if let Some(time) = time_of(text) {
+    if let Some(time) = parse_time(text) {
         return Ok(Some(time));
     }
     let mut whole = String::from_str(alloc, text)?;
     whole.push_str("T00:00:00Z")?;
-    Ok(time_of(whole.as_str()))
-}
-
-/// The instant of a text with a time of the day.
-fn time_of(text: &str) -> Option<Timestamp>
-    ensures { instant_of result ≡ instant_text text.now }
-{
-    match text.parse::<Timestamp>() {
-        Ok(time) => Some(time),
-        Err(_) => None,
-    }
+    Ok(parse_time(whole.as_str()))
 }

@@ -10,7 +10,6 @@ use crate::arguments::Arguments;
 use crate::given::{time_given, version_given};
 use crate::program_error::ProgramError;
 use command_lines::Quoted;
-use jiff::Timestamp;
 use node_semver::VersionRef;
 use npm_pick::Options;
 use std::alloc::Global;
@@ -18,7 +17,7 @@ use std::alloc::Global;
 /// The times and versions of the arguments, as they were read.
 #[derive(Drop)]
 pub struct Values {
-    before: Option<Timestamp>,
+    before: Option<i128>,
     /// The whole text of the version of Node.
     node: Option<String>,
     /// The whole text of the version of npm.
@@ -55,19 +54,17 @@ impl Values {
 }
 
 /// The time of `--before`.
-fn before_of<'a>(
-    alloc: Global,
-    text: Option<&'a str>,
-) -> Result<Option<Timestamp>, ProgramError<'a>>
+fn before_of<'a>(alloc: Global, text: Option<&'a str>) -> Result<Option<i128>, ProgramError<'a>>
     ensures { IfOk result (Picking.IsTime (option_map (λ text. text.now) text.entry)) }
 {
     let Some(text) = text else {
         return Ok(None);
     };
-    match time_given(alloc, text)? {
-        Some(time) => Ok(Some(time)),
-        None => Err(ProgramError::Argument(ArgumentError::Time(Quoted { text }))),
+    let time = time_given(alloc, text)?;
+    if time.is_none() {
+        return Err(ProgramError::Argument(ArgumentError::Time(Quoted { text })));
     }
+    Ok(time)
 }
 
 /// The version of `--node`.

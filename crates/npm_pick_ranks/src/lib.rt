@@ -19,7 +19,7 @@ pub use member::{
 };
 pub use options::Options;
 pub use rank::Rank;
-pub use time::is_published;
+pub use time::{is_published, parse_time};
 
 /// The result of what fails by memory alone, if no other error is named.
 type Result<T, E = std::alloc::AllocError> = std::result::Result<T, E>;

@@ -1,6 +1,5 @@
 //! What a caller can ask beside the version.
 
-use jiff::Timestamp;
 use node_semver::VersionRef;
 
 /// The options of a pick.
@@ -8,8 +7,9 @@ use node_semver::VersionRef;
 pub struct Options<'o> {
     /// The version of this tag is preferred: `latest` in npm.
     pub default_tag: &'o str,
-    /// Versions that were published after this time are left out.
-    pub before: Option<Timestamp>,
+    /// Versions that were published after this time are left out. It is in nanoseconds since 1970-01-01T00:00:00Z, as
+    /// [`parse_time`](crate::parse_time) returns it.
+    pub before: Option<i128>,
     /// A range. Its versions are picked only if no other version is left.
     pub avoid: Option<&'o str>,
     /// A version to avoid is never picked: a version outside the range is picked instead.

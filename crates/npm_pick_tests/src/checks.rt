@@ -1,6 +1,5 @@
-use jiff::Timestamp;
 use node_semver::VersionRef;
-use npm_pick::{Options, PickError, Picked, pick};
+use npm_pick::{Options, PickError, Picked, parse_time, pick};
 use serde_json::Value;
 use std::alloc::Global;
 
@@ -31,17 +30,10 @@ fn version_of(text: &str) -> Option<VersionRef<'_>> {
     }
 }
 
-fn time_of(text: &str) -> Option<Timestamp> {
-    match text.parse::<Timestamp>() {
-        Ok(time) => Some(time),
-        Err(_) => None,
-    }
-}
-
 pub(crate) fn options_of(asks: Asks) -> Options<'static> {
     Options {
         default_tag: "latest",
-        before: time_of(asks.before),
+        before: parse_time(asks.before),
         avoid: if asks.avoid.is_empty() {
             None
         } else {

@@ -212,7 +212,7 @@ class Exports:
             return self.on_ranges("range", algebra[name], *words)
         if call in least:
             return self.on_ranges("version", least[call] + "_with_prereleases" * (type_name == "WithPrereleases"), *words)
-        others = {"Range::sets": self.sets, "Range::set": self.set, "Range::from_sets": self.from_sets,
+        others = {"Range::sets": self.sets, "Range::set": self.set, "npm_semver::range_from_sets": self.from_sets,
                   "Identifiers::to_vec": lambda text: self.identifiers("pre_release", text),
                   "build_print": lambda text: self.identifiers("build", text),
                   "Range::satisfies, read anew": self.satisfies, "key": self.key, "intervals": self.intervals,

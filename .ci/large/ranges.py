@@ -85,7 +85,7 @@ def set_rows():
     """Lists of sets, and a set of a list."""
     text = alternatives(">=%.0.0-a+b <%.9.0")
     descending = alternatives(">=%.0.0-a+b <%.9.0", range(MANY, 0, -1))
-    for name in ("Range::clone", "Range::from_json", "Range::from_sets"):
+    for name in ("Range::clone", "Range::from_json", "npm_semver::range_from_sets"):
         yield name, [text], text
         yield name, [descending], descending
     yield "Range::to_json", [text], f'"{text}"'

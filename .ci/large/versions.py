@@ -50,6 +50,7 @@ def reading_rows():
         yield name, [TOO_LONG_TEXT], long
     yield "SemverError::new", ["b" * LONG], refused(OTHER, 1, "b" * LONG)
     yield "Identifier::clone", ["b" * LONG], "b" * LONG
+    yield "npm_semver::read_identifier", ["b" * LONG], "b" * LONG
 
 
 def listed(text):

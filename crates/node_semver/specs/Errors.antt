@@ -3,8 +3,7 @@ pub use Rattle.semver_versions.specs.Error.{Kind, context, incomplete, max_int, 
 pub use Rattle.semver_versions.specs.Error.{out_of_memory, parse_int}
 pub use Rattle.semver_versions.specs.Error.{kind_of, Refusal, refusal_of, IsRefusalAt, IsOutOfMemory, IsReadAs}
 pub use Rattle.semver_versions.specs.Fault.{IsFault, IsFaultOf}
-pub use Rattle.semver_versions.specs.StrictVersionText.{IsStrictFault, IsStrictFaultOf}
-pub use Rattle.semver_versions.specs.VersionFault.{IsStrictVersionFault, IsVersionFault, fault_kind_of, fault_text}
+pub use Rattle.semver_versions.specs.VersionFault.{IsVersionFault, fault_kind_of, fault_text}
 pub use Rattle.semver_versions.specs.ErrorParts.{error_kind_of, span_len, span_offset}
 pub use Rattle.semver_versions.specs.ErrorText.{kind_text}
 pub use Rattle.semver_versions.specs.ErrorEquality.{error_value}

@@ -3,7 +3,6 @@
 pub use Rattle.semver_texts.specs.Version.{VersionValue, IsPrerelease, IsPlain, HasSameTriple, release}
 pub use Rattle.semver_texts.specs.Version.{with_pre_release, least_of, without_build}
 pub use Rattle.semver_texts.specs.VersionText.{IsVersionText}
-pub use Rattle.semver_versions.specs.StrictVersionText.{IsStrictVersionText, IsStrictlyWritten}
 pub use Rattle.semver_versions.specs.VersionFault.{IsBorrowedAs}
 pub use Rattle.semver_texts.specs.IdentifierValue.{IdentifierValue, alphanumeric, numeric}
 pub use Rattle.semver_texts.specs.Identifier.{IsNumber, value_of, values_of}

@@ -16,10 +16,9 @@ pub use semver_sets::laws::{
     merging_loses_nothing, prints_are_read_back,
 };
 pub use semver_versions::laws::{
-    a_kind_is_always_copied, a_text_has_one_fault, a_text_has_one_strict_fault,
-    a_version_text_has_one_reading, errors_are_equal_where_their_parts_are,
-    every_text_is_read_or_faulty, json_errors_are_equal_where_their_parts_are, limits,
-    the_order_with_builds_is_total,
+    a_kind_is_always_copied, a_text_has_one_fault, a_version_text_has_one_reading,
+    errors_are_equal_where_their_parts_are, every_text_is_read_or_faulty,
+    json_errors_are_equal_where_their_parts_are, limits, the_order_with_builds_is_total,
 };
 
 /// A tree of texts has at most one list of sets, including the versions and builds of their ends.

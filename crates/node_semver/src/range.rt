@@ -230,9 +230,17 @@ impl Range {
         Range { sets }
     }
 
-    // The range of the sets, or `None` if there are none.
+    /// Returns the range of these sets, or `None` if there are none.
+    ///
+    /// # Errors
+    ///
+    /// Fails with `AllocError` if an allocation fails.
+    ///
+    /// # Memory
+    ///
+    /// For several sets, allocates what finds a version in them.
     #[inline(always)]
-    pub(crate) fn of_gathered(sets: Gathered) -> Result<Option<Range>, AllocError>
+    pub fn of_gathered(sets: Gathered) -> Result<Option<Range>, AllocError>
         requires { AllByRecursion IsRangeSet sets }
         ensures sets { IfOk result (λ answer. sets_of_answer answer ≡ sets) }
         ensures holds { IfOk result (λ answer. IfSome answer IsRangeValue) }

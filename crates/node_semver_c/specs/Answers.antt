@@ -22,7 +22,7 @@ use Rattle.npm_semver.specs.CoerceWithPrerelease.{IsCoercedWithPrerelease}
 use Rattle.semver_texts.specs.Version.{IsPrerelease, VersionValue}
 use Rattle.semver_versions.specs.declared.error.SemverError.{SemverError}
 use Rattle.semver_versions.specs.Error.{IsOutOfMemory, IsReadAs, refusal_of}
-use Rattle.semver_versions.specs.StrictVersionText.{IsStrictFaultOf, IsStrictVersionText}
+use Rattle.npm_semver.specs.StrictVersionText.{IsStrictFaultOf, IsStrictVersionText}
 use Rattle.node_semver.specs.Least.{AdmitNoneInCommon, AdmitsNone, AdmitsNoneBeyond, HasBuildOfFirst, IsAdmittedBy}
 use Rattle.node_semver.specs.Least.{IsLeastAdmitted, IsLeastBeyond, IsLeastCommon}
 use Rattle.node_semver.specs.Least.{BothContain, ContainsBeyond, ContainsNone, HasBuildOfFirstAround, IsContainedIn}

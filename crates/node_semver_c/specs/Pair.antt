@@ -6,7 +6,7 @@ use Rattle.node_semver_c.specs.Status.{IsFaultReported, IsRefusalReported}
 use Rattle.semver_cuts.specs.Ends.{Ends}
 use Rattle.semver_sets.specs.Meaning.{IsRefused, RangeAdmits, TextAdmits}
 use Rattle.semver_texts.specs.Version.{VersionValue}
-use Rattle.semver_versions.specs.StrictVersionText.{IsStrictVersionText}
+use Rattle.npm_semver.specs.StrictVersionText.{IsStrictVersionText}
 use Rattle.semver_texts.specs.VersionText.{IsVersionText}
 use Rattle.semver_versions.specs.declared.error.SemverError.{SemverError}
 use Rattle.semver_versions.specs.Error.{IsOutOfMemory, IsRefusalAt, Kind, no_valid_ranges, refusal_of}

@@ -67,7 +67,7 @@ AreSetsGiven (first ∷ given) (set ∷ sets) = IsSetGiven first set × AreSetsG
 abbrev pub AreNoRange : List SetRef → Type 0
 AreNoRange given = (sets : List (Ends VersionValue)) → AreSetsGiven given sets → ¬ IsRangeValue sets
 
--- what `Range::from_sets` returns of the sets that are given
+-- what `npm_semver::range_from_sets` returns of the sets that are given
 pub record IsRangeOf (given : List SetRef) (answer : Option (List (Ends VersionValue))) : Type 0 where
   pub sets : IfSome answer (AreSetsGiven given)
   pub holds : IfSome answer IsRangeValue
@@ -88,7 +88,7 @@ IsNoCut given = (cut : Cut VersionValue) → ¬ IsCutGiven given cut
 abbrev pub IsNoSet : SetRef → Type 0
 IsNoSet given = (set : Ends VersionValue) → IsSetGiven given set → ¬ HoldsCut version_cmp set
 
--- what `Range::from_sets` returns of a list of spans
+-- what `npm_semver::range_from_sets` returns of a list of spans
 pub record IsRangeWith (spans : List (Ends VersionValue)) (answer : Option (List (Ends VersionValue))) : Type 0 where
   pub sets : IfSome answer (λ range. range ≡ spans)
   pub some : IsSome answer ↔ IsRangeValue spans

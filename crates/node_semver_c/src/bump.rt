@@ -14,7 +14,6 @@ use crate::status::{
 };
 use node_semver::{Identifier, Version};
 use npm_semver::{Bump, BumpError, IdentifierBase};
-use semver_texts::identifier::read::read_identifier;
 use std::alloc::Global;
 
 /// `npm_semver::inc`, by the code of the bump, the text of the identifier and the code of the base: puts the bumped version
@@ -81,7 +80,7 @@ fn bump_by(
     if text.is_empty() {
         return keep_bumped(alloc, version, bump, None, base, answer);
     }
-    match read_identifier(alloc, text) {
+    match npm_semver::read_identifier(alloc, text) {
         Ok(Some(identifier)) => keep_bumped(alloc, version, bump, Some(&identifier), base, answer),
         Ok(None) => INVALID_IDENTIFIER,
         Err(_) => OUT_OF_MEMORY,

@@ -63,8 +63,8 @@ fn satisfies_range(range: &Range, version: &str, answer: &mut bool, fault: &mut 
     }
 }
 
-/// `VersionRef::parse_strict` and `satisfies`: whether the version of a text in the grammar of SemVer 2.0.0 satisfies the
-/// range.
+/// `npm_semver::parse_version_ref` and `satisfies`: whether the version of a text in the grammar of SemVer 2.0.0 satisfies
+/// the range.
 ///
 /// Does not allocate.
 #[unsafe(no_mangle)]
@@ -104,7 +104,7 @@ fn satisfies_strict<A: Admits>(asked: &A, text: &str, answer: &mut bool) -> u32
     ensures reported { IsStrictReported (A.admits asked.now) text.now result answer.new }
     ensures answer_kept { result ≢ OK → answer.new ≡ answer.old }
 {
-    match VersionRef::parse_strict(text) {
+    match npm_semver::parse_version_ref(text) {
         Ok(version) => {
             *answer = version.satisfies(asked);
             OK

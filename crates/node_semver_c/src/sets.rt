@@ -100,7 +100,7 @@ fn write(kind: u32, held: Option<VersionHandle>, cut: &mut CutHandle)
     }
 }
 
-/// `Range::from_sets`, of sets whose kinds and versions C gives. Also returns `NONE` if a kind is not known, or if a
+/// `npm_semver::range_from_sets`, of sets whose kinds and versions C gives. Also returns `NONE` if a kind is not known, or if a
 /// handle that is needed is empty.
 #[unsafe(no_mangle)]
 pub extern "C" fn node_semver_range_from_sets(
@@ -122,7 +122,7 @@ fn made(alloc: Global, spans: Vec<Span<Version>>, answer: &mut RangeHandle) -> u
     requires { answer.old.value ≡ None }
     ensures { IsFound (IsRangeWith spans.items) result answer.new.value }
 {
-    match Range::from_sets(alloc, &spans) {
+    match npm_semver::range_from_sets(alloc, &spans) {
         Ok(found) => keep_range_found(alloc, found, answer),
         Err(_) => OUT_OF_MEMORY,
     }

@@ -1,6 +1,6 @@
 use crate::checks::is_print;
 use crate::questions::{Question, each};
-use node_semver::{Identifier, Range, Version};
+use node_semver::{Range, Version};
 use semver_cuts::{Cut, Span};
 use std::alloc::{AllocError, Global};
 
@@ -18,16 +18,14 @@ const SPANS: [&str; 9] = [
 ];
 
 #[test]
-fn gives_the_sets_and_takes_them_again(rt: HostRuntime) {
+fn gives_the_sets(rt: HostRuntime) {
     each(&rt, Question::Spans, &SPANS);
 }
 
-// The sets of the range, where the range of them prints as it does.
+// The sets of the range, where each of them is also given by its place.
 pub(crate) fn spans_print(alloc: Global, range: &Range) -> Option<String> {
     match &range.sets(alloc) {
-        Ok(sets) if comes_back(alloc, range) && is_each_at_its_place(alloc, range, sets) => {
-            print_of_spans(alloc, sets).ok()
-        }
+        Ok(sets) if is_each_at_its_place(alloc, range, sets) => print_of_spans(alloc, sets).ok(),
         _ => None,
     }
 }
@@ -61,16 +59,6 @@ fn sets_by_place(
     Ok(sets)
 }
 
-fn comes_back(alloc: Global, range: &Range) -> bool {
-    let Ok(sets) = range.sets(alloc) else {
-        return false;
-    };
-    match (&Range::from_sets(alloc, &sets), &range.to_string(alloc)) {
-        (Ok(Some(made)), Ok(print)) => is_print(made.to_string(alloc).ok(), print.as_str()),
-        _ => false,
-    }
-}
-
 fn print_of_spans(alloc: Global, spans: &[Span<Version>]) -> Result<String, AllocError> {
     let mut print = String::new(alloc);
     for (place, span) in spans.iter().enumerate() {
@@ -92,68 +80,4 @@ fn push_cut(print: &mut String, cut: &Cut<Version>) -> Result<(), AllocError> {
         Cut::End => print.push_str("End")?,
     }
     Ok(())
-}
-
-// Whether there is a range of the one set that begins before this version and has no end.
-fn has_range(alloc: Global, version: Version) -> Option<bool> {
-    let mut sets = Vec::new(alloc);
-    sets.push(Span::new(Cut::Before(version), Cut::End)?).ok()?;
-    made(&Range::from_sets(alloc, &sets))
-}
-
-fn made(answer: &Result<Option<Range>, AllocError>) -> Option<bool> {
-    match answer {
-        Ok(range) => Some(range.is_some()),
-        Err(_) => None,
-    }
-}
-
-fn has_range_with(alloc: Global, identifier: Identifier, in_build: bool) -> Option<bool> {
-    let mut version = Version::new(alloc, 1, 2, 3);
-    if in_build {
-        version.build.push(identifier).ok()?;
-    } else {
-        version.pre_release.push(identifier).ok()?;
-    }
-    has_range(alloc, version)
-}
-
-fn has_range_with_text(alloc: Global, text: &str) -> Option<bool> {
-    let one = Identifier::AlphaNumeric(String::from_str(alloc, text).ok()?);
-    let other = Identifier::AlphaNumeric(String::from_str(alloc, text).ok()?);
-    let prerelease = has_range_with(alloc, one, false)?;
-    if has_range_with(alloc, other, true)? == prerelease {
-        Some(prerelease)
-    } else {
-        None
-    }
-}
-
-#[test]
-fn makes_no_range_of_no_sets(rt: HostRuntime) {
-    assert!(rt; made(&Range::from_sets(rt.alloc(), &[])) == Some(false));
-}
-
-// One more than the greatest number of a text is the end of `^9007199254740991`. No text is read as an end with a
-// greater one.
-#[test]
-fn makes_no_range_of_greater_numbers(rt: HostRuntime) {
-    let alloc = rt.alloc();
-    let above = 9007199254740993;
-    assert!(rt; has_range(alloc, Version::new(alloc, 9007199254740992, 0, 0)) == Some(true));
-    assert!(rt; has_range(alloc, Version::new(alloc, above, 0, 0)) == Some(false));
-    assert!(rt; has_range(alloc, Version::new(alloc, 0, above, 0)) == Some(false));
-    assert!(rt; has_range(alloc, Version::new(alloc, 0, 0, above)) == Some(false));
-}
-
-#[test]
-fn makes_no_range_of_identifiers_that_no_text_writes(rt: HostRuntime) {
-    let alloc = rt.alloc();
-    for text in ["", "a b", "a.b", "1", "007", "é"] {
-        assert!(rt; has_range_with_text(alloc, text) == Some(false), "{text}");
-    }
-    for text in ["a", "-", "1a", "18446744073709551616"] {
-        assert!(rt; has_range_with_text(alloc, text) == Some(true), "{text}");
-    }
-    assert!(rt; has_range_with(alloc, Identifier::Numeric(u64::MAX), false) == Some(true));
 }

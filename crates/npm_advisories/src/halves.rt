@@ -15,6 +15,7 @@ use crate::hits::hits_of;
 use crate::spans::sets_of;
 use node_semver::{Range, VersionRef};
 use npm_advisory_files::{About, Advisory, Severity};
+use npm_semver::range_from_sets;
 use std::alloc::Global;
 
 /// A list with at most so many advisories is not halved.
@@ -78,7 +79,7 @@ impl Halves {
 pub(crate) fn range_about(alloc: Global, advisories: &[Advisory<'_>]) -> Result<Option<Range>>
     ensures { IfOk result (IsRangeAbout advisories.now) }
 {
-    Range::from_sets(alloc, &sets_of(alloc, advisories)?)
+    range_from_sets(alloc, &sets_of(alloc, advisories)?)
 }
 
 /// Returns `true` if it is known that no advisory is about the version. If the version is not known, nothing is.

@@ -1,3 +1,4 @@
+mod StrictExamples
 pub mod CoerceExamples
 mod PrereleaseExamples
 mod BumpExamples

@@ -1,3 +1,5 @@
+pub mod StrictParts
+pub mod StrictTexts
 pub mod Bumps
 pub mod Upward
 pub mod Differences

@@ -4,7 +4,7 @@ use Rattle.std.specs.Prelude.{◌≡◌, ◌+◌, ◌<◌, ◌≤◌, ℕ, Bool,
 use Rattle.std.specs.Prelude.{slice_index, slice_range}
 use Rattle.semver_texts.specs.Characters.{dot, is_digit}
 use Rattle.semver_texts.specs.NumberText.{IsNumberText}
-use Rattle.semver_versions.specs.StrictVersionText.{is_strict_number}
+use Rattle.npm_semver.specs.StrictVersionText.{is_strict_number}
 use Rattle.semver_texts.specs.Version.{VersionValue, release}
 
 -- ---- the pieces of a text that look like a version

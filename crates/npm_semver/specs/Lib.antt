@@ -4,6 +4,11 @@
 -- ---- npm's own reading of a range text, handed on from `npm_sets`, and its result
 pub mod NpmRanges
 pub mod NpmRangeAnswer
+-- ---- strict version texts, and the fault of a text that is none
+pub mod StrictVersionText
+pub mod StrictLaws
+-- ---- the identifier of a whole text
+pub mod Identifiers
 -- ---- raised versions, and by which bump two differ
 pub mod Bump
 pub mod BumpBetween

@@ -1,8 +1,9 @@
 //! The laws of npm's calls. The functions here do nothing: the contract of each is a law.
-ghost use Rattle.std.specs.Prelude.{◌≡◌, [], Option};
+ghost use Rattle.std.specs.Prelude.{◌≡◌, ℕ, [], List, Option};
 ghost use Rattle.npm_semver.specs.Bump.{IsBumped, IsUpward};
 ghost use Rattle.npm_semver.specs.BumpLaws.{DifferBy, NamesNumber, difference_after};
 ghost use Rattle.npm_semver.specs.CoerceLaws.{PrintIsCoerced};
+ghost use Rattle.npm_semver.specs.StrictLaws.{HasOneStrictFault, IsNeverStrictAndFaulty};
 ghost use Rattle.npm_semver.specs.declared.bump.Bump.{Bump};
 ghost use Rattle.npm_semver.specs.declared.bump.IdentifierBase.{IdentifierBase};
 ghost use Rattle.semver_texts.specs.IdentifierValue.{IdentifierValue};
@@ -11,6 +12,13 @@ ghost use Rattle.semver_texts.specs.Version.{VersionValue};
 
 pub use npm_sets::laws::{partials_are_those_of_the_grammar, prints_are_read_back_by_npm};
 pub use npm_sets::refused::a_refused_text_has_one_place;
+
+/// A text has at most one strict fault, for which [`parse_version`](crate::parse_version) and
+/// [`parse_version_ref`](crate::parse_version_ref) return an error, and a strict version text has none.
+pub fn a_text_has_one_strict_fault()
+    ensures only { (text : List ℕ) → HasOneStrictFault text }
+    ensures never_both { (text : List ℕ) → IsNeverStrictAndFaulty text }
+{}
 
 /// A bumped version is greater than the version, but after `Pre`, and after `PreRelease` with an identifier.
 pub fn a_bumped_version_is_greater()

@@ -1,13 +1,18 @@
-//! Reading a strict version.
+//! Reading a strict version, whole or borrowed from its text.
 //!
 //! See docs/DECISIONS.md, "A strict version is a version text that is strictly written".
 ghost use Rattle.std.specs.Prelude.{◌≡◌, ◌⊎◌, [], IfOk, IfErr, IsOk};
 ghost use Rattle.semver_versions.specs.Error.{IsOutOfMemory, IsReadAs};
-ghost use Rattle.semver_versions.specs.StrictVersionText.{IsStrictFaultOf, IsStrictVersionText};
+ghost use Rattle.npm_semver.specs.StrictVersionText.{IsStrictFaultOf, IsStrictVersionText};
 ghost use Rattle.semver_texts.specs.Version.{VersionValue};
 
-use node_semver::{SemverError, Version, VersionRef};
+use node_semver::{SemverError, Version};
 use std::alloc::Global;
+
+mod borrowed;
+pub(crate) mod written;
+
+pub use borrowed::parse_version_ref;
 
 /// Reads a version from a text in the strict form of SemVer 2.0.0.
 ///
@@ -44,7 +49,7 @@ pub fn parse_version(alloc: Global, text: &str) -> Result<Version, SemverError>
     ensures plain { (v : VersionValue) → IsStrictVersionText text.now v → v.pre_release ≡ []
         → v.build ≡ [] → IsOk result }
 {
-    match VersionRef::parse_strict(text) {
+    match parse_version_ref(text) {
         Ok(version) => match version.to_version(alloc) {
             Ok(version) => Ok(version),
             Err(_) => Err(SemverError::out_of_memory(alloc)),

@@ -1,5 +1,5 @@
-//! Tests of `npm_semver` through its public calls alone: ranges as npm reads them, raised versions, versions that are found
-//! in texts, strict versions and the order with builds, also those of `VersionRef`.
+//! Tests of `npm_semver` through its public calls alone: ranges as npm reads them, ranges of given sets, raised versions,
+//! versions that are found in texts, strict versions and the order with builds, also that of `VersionRef`.
 #![tactic(auto)]
 
 #[cfg(test)]
@@ -8,6 +8,8 @@ mod build_order;
 mod bumps;
 #[cfg(test)]
 mod coercions;
+#[cfg(test)]
+mod given_sets;
 #[cfg(test)]
 mod npm_ranges;
 #[cfg(test)]

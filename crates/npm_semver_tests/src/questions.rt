@@ -1,6 +1,7 @@
 use crate::build_order::{builds_compare, is_below_by_build, is_same_build};
 use crate::bumps::{bumps, differ_by};
 use crate::coercions::{coerces, coerces_fully};
+use crate::given_sets::comes_back;
 use crate::spread::spread;
 use crate::strict::{is_strict, strict_prints};
 use std::alloc::{AllocGlobal, Global};
@@ -9,6 +10,8 @@ use std::process::Abort;
 // What is tested for each row of a table. A row's parts have `; ` between them.
 #[derive(Clone, Copy)]
 pub(crate) enum Question {
+    // A range text: the range of its sets is its range.
+    ComesBack,
     // Two texts of versions whose five fields are equal.
     IsSameBuild,
     // Two version texts, the lower one first in the order with builds.
@@ -40,6 +43,7 @@ pub(crate) fn is_print(print: Option<String>, text: &str) -> bool {
 
 fn is_answered(alloc: Global, question: Question, row: &str) -> bool {
     match question {
+        Question::ComesBack => comes_back(alloc, row),
         Question::IsSameBuild => is_same_build(alloc, row),
         Question::IsBelowByBuild => is_below_by_build(alloc, row),
         Question::IsStrict => is_strict(alloc, row),

@@ -1,5 +1,5 @@
 use crate::questions::{Question, each, is_print};
-use node_semver::{SemverError, Version, VersionRef};
+use node_semver::{SemverError, Version};
 use std::alloc::{AllocError, Global};
 
 fn has_build_of(copy: Result<Version, AllocError>, version: &Version) -> bool {
@@ -11,7 +11,10 @@ fn has_build_of(copy: Result<Version, AllocError>, version: &Version) -> bool {
 
 // Returns `true` if both types read the text as the version that `Version::parse` reads, with the same build.
 fn agrees(alloc: Global, text: &str, strict: &Version) -> bool {
-    match (Version::parse(alloc, text), VersionRef::parse_strict(text)) {
+    match (
+        Version::parse(alloc, text),
+        npm_semver::parse_version_ref(text),
+    ) {
         (Ok(loose), Ok(borrowed)) => {
             npm_semver::compare_build(&loose, strict).is_eq()
                 && strict.cmp_ref(&borrowed).is_eq()
@@ -23,7 +26,7 @@ fn agrees(alloc: Global, text: &str, strict: &Version) -> bool {
 
 // Returns `true` if both types refuse the text with the same fault.
 fn refuses(alloc: Global, text: &str, error: &SemverError) -> bool {
-    match VersionRef::parse_strict(text) {
+    match npm_semver::parse_version_ref(text) {
         Err(fault) => fault.offset() == error.offset() && fault.kind() == *error.kind(),
         Ok(_) => false,
     }

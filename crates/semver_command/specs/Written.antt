@@ -3,7 +3,8 @@ use Rattle.std.specs.Prelude.{◌≡◌, ◌==◌, ◌≤◌, ℕ, List, [], ◌
 use Rattle.std.specs.Prelude.{if◌then◌else◌, length}
 use Rattle.npm_semver.specs.Coerce.{IsCoerced}
 use Rattle.npm_semver.specs.CoerceWithPrerelease.{IsCoercedWithPrerelease}
-use Rattle.node_semver.specs.Versions.{IsStrictVersionText, MAX_LENGTH, VersionValue}
+use Rattle.npm_semver.specs.StrictVersionText.{IsStrictVersionText}
+use Rattle.node_semver.specs.Versions.{MAX_LENGTH, VersionValue}
 use Rattle.npm_texts.specs.WhiteSpace.{is_white, without_end, without_start}
 use Rattle.semver_texts.specs.Version.{without_build}
 use Rattle.semver_command.specs.declared.asked.Options.{Options}

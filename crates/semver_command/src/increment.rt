@@ -8,8 +8,7 @@ ghost use Rattle.semver_command.specs.Increment.{IsIdentifierGiven, IsIncremente
 use crate::command_error::CommandError;
 use crate::writing::{write_end, write_item, write_text};
 use node_semver::{Identifier, Version};
-use npm_semver::{Bump, BumpError, IdentifierBase, inc};
-use semver_texts::identifier::read::read_identifier;
+use npm_semver::{Bump, BumpError, IdentifierBase, inc, read_identifier};
 use std::alloc::Global;
 use std::io::Write;
 

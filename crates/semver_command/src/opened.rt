@@ -8,6 +8,7 @@ ghost use Rattle.semver_command.specs.Private.Explaining.{AreBoth, IsFound, prer
 ghost use Rattle.node_semver.specs.Cuts.{Before};
 
 use node_semver::{Range, Version};
+use npm_semver::range_from_sets;
 use semver_cuts::{Cut, Span};
 use std::alloc::{AllocError, Global};
 use std::cmp::Ordering;
@@ -109,7 +110,7 @@ fn prereleases_of(alloc: Global, version: &Version) -> Result<Range, AllocError>
     let release = release_of(alloc, version);
     let least = least_of(alloc, version)?;
     let set = Span::between(Cut::Before(least), Cut::Before(release));
-    match Range::from_sets(alloc, slice::from_ref(&set))? {
+    match range_from_sets(alloc, slice::from_ref(&set))? {
         Some(range) => Ok(range),
         None => unreachable!(),
     }

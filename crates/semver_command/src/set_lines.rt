@@ -14,6 +14,7 @@ use crate::command_error::CommandError;
 use crate::opened::{Opened, opened_in};
 use crate::writing::write_text;
 use node_semver::{Range, Version};
+use npm_semver::range_from_sets;
 use semver_cuts::Span;
 use std::alloc::{AllocError, Global};
 use std::io::Write;
@@ -82,7 +83,7 @@ fn range_of_set(alloc: Global, set: &Span<Version>) -> Result<Range, AllocError>
     requires { IsRangeSet set.now }
     ensures { IfOk result (λ range. range ≡ set.now ∷ []) }
 {
-    match Range::from_sets(alloc, slice::from_ref(set))? {
+    match range_from_sets(alloc, slice::from_ref(set))? {
         Some(range) => Ok(range),
         None => unreachable!(),
     }

@@ -7,7 +7,7 @@ ghost use Rattle.semver_command.specs.Written.{IsFound, IsRead, IsWritten};
 
 use crate::asked::Options;
 use node_semver::{Version, VersionRef};
-use npm_semver::{CoerceOptions, coerce, coerce_with_prerelease};
+use npm_semver::{CoerceOptions, coerce, coerce_with_prerelease, parse_version_ref};
 use npm_texts::{is_long, without_white_end, without_white_start};
 use std::alloc::{AllocError, Global};
 
@@ -85,7 +85,7 @@ fn written_version(text: &str) -> Option<VersionRef<'_>>
     if is_long(text) {
         return None;
     }
-    match VersionRef::parse_strict(bare(text)) {
+    match parse_version_ref(bare(text)) {
         Ok(version) => Some(version),
         Err(_) => None,
     }

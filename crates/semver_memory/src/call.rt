@@ -169,7 +169,7 @@ fn asked(alloc: Global, text: &str, version: &Version) -> Answer {
 /// The range of the sets that a range gives.
 fn from_sets(alloc: Global, range: &Range) -> Answer {
     match range.sets(alloc) {
-        Ok(sets) => answer::range_if_any(Range::from_sets(alloc, &sets)),
+        Ok(sets) => answer::range_if_any(npm_semver::range_from_sets(alloc, &sets)),
         Err(_) => Answer::OutOfMemory,
     }
 }
@@ -252,7 +252,7 @@ fn call_of_value(alloc: Global, name: &str, one: &str, other: &str) -> Result<Ca
         | "Range::min_version"
         | "Range::to_json"
         | "Range::sets"
-        | "Range::from_sets" => call_of_range(alloc, name, one),
+        | "npm_semver::range_from_sets" => call_of_range(alloc, name, one),
         "Range::set" => set_at(alloc, one, other),
         "Range::intersect"
         | "Range::difference"
@@ -273,6 +273,7 @@ fn call_of_made(alloc: Global, name: &str, one: &str, other: &str) -> Result<Cal
         | "VersionFault::into_error"
         | "Identifiers::to_vec"
         | "SemverError::new"
+        | "npm_semver::read_identifier"
         | "npm_semver::coerce"
         | "npm_semver::coerce_with_prerelease" => {
             Ok(Call::Make(making_of(alloc, name, one, other)?))
@@ -310,7 +311,7 @@ fn call_of_range(alloc: Global, name: &str, text: &str) -> Result<Call, CallErro
         "Range::clone" => Call::CopyRange(range),
         "Range::min_version" => Call::MinVersion(range),
         "Range::sets" => Call::Sets(range),
-        "Range::from_sets" => Call::FromSets(range),
+        "npm_semver::range_from_sets" => Call::FromSets(range),
         _ => Call::RangeToJson(range),
     })
 }

@@ -18,6 +18,8 @@ pub(crate) enum Making {
     Identifiers(String),
     /// Those of a copy of that list.
     CopiedIdentifiers(String),
+    /// The identifier of a whole text.
+    Identifier(String),
     /// The version that is found in a text.
     Coerced(String, CoerceOptions),
     /// The version that is found in a text, with its prerelease and its build.
@@ -52,6 +54,7 @@ impl Making {
             Making::Copied(text) => copy_of(alloc, text),
             Making::Identifiers(text) => identifiers_of(alloc, text),
             Making::CopiedIdentifiers(text) => copied_identifiers_of(alloc, text),
+            Making::Identifier(text) => identifier_read(alloc, text),
             Making::Coerced(text, options) => coerced(alloc, text, *options),
             Making::FullyCoerced(text, options) => fully_coerced(alloc, text, *options),
             Making::Error(text) => {
@@ -68,6 +71,7 @@ impl Making {
             | Making::Copied(text)
             | Making::Identifiers(text)
             | Making::CopiedIdentifiers(text)
+            | Making::Identifier(text)
             | Making::Coerced(text, _)
             | Making::FullyCoerced(text, _)
             | Making::Error(text) => text.clone(),
@@ -110,6 +114,14 @@ fn copy_of(alloc: Global, text: &str) -> Answer {
     }
 }
 
+fn identifier_read(alloc: Global, text: &str) -> Answer {
+    match npm_semver::read_identifier(alloc, text.as_bytes()) {
+        Ok(Some(identifier)) => Answer::Identifier(identifier),
+        Ok(None) => Answer::Nothing,
+        Err(_) => Answer::OutOfMemory,
+    }
+}
+
 fn coerced(alloc: Global, text: &str, options: CoerceOptions) -> Answer {
     match npm_semver::coerce(alloc, text, options) {
         Some(version) => answer::version(Ok(version)),
@@ -135,6 +147,7 @@ pub(crate) fn making_of(
         "VersionRef::clone" => Making::Copied(text),
         "Identifiers::to_vec" => Making::Identifiers(text),
         "Identifiers::clone" => Making::CopiedIdentifiers(text),
+        "npm_semver::read_identifier" => Making::Identifier(text),
         "npm_semver::coerce" => Making::Coerced(text, CoerceOptions { rtl }),
         "npm_semver::coerce_with_prerelease" => Making::FullyCoerced(text, CoerceOptions { rtl }),
         _ => Making::Version(text),

@@ -4,7 +4,6 @@ pub mod copy;
 mod display;
 pub mod hash;
 pub mod order;
-pub mod read;
 
 /// One part of a prerelease or of a build, such as `alpha` and `1` in `1.2.3-alpha.1`.
 ///

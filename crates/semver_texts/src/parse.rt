@@ -9,7 +9,6 @@ pub mod identifiers;
 pub mod listed;
 pub mod number;
 pub mod skip;
-pub mod written;
 
 pub use fault::Fault;
 pub use skip::{is_clean_end, skip_blanks, skip_some_blanks};

@@ -1,4 +1,3 @@
 mod OrderExamples
 pub mod ErrorExamples
 pub mod FaultExamples
-mod StrictExamples

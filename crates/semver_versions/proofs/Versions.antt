@@ -1,4 +1,2 @@
 pub mod VersionAnswers
 pub mod VersionParse
-pub mod StrictParts
-pub mod StrictTexts

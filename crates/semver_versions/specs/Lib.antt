@@ -4,7 +4,6 @@
 -- ---- errors, and the fault of a text that is no version text
 pub mod Error
 pub mod Fault
-pub mod StrictVersionText
 -- ---- versions: the least one and the next; the order with builds
 pub mod VersionSteps
 pub mod BuildOrder

@@ -3,4 +3,3 @@
 pub mod VersionReading
 pub mod FaultViews
 pub mod ParsedViews
-pub mod StrictViews

@@ -1,10 +1,9 @@
--- What a contract sees of the faults that `VersionRef::parse` and `parse_strict` return: kind and byte offset.
+-- What a contract sees of the fault that `VersionRef::parse` returns: kind and byte offset.
 use Rattle.std.specs.Prelude.{◌≡◌, ℕ, List, codes, Option, Result, Ok, Err}
 use Rattle.semver_texts.specs.Version.{VersionValue}
 use Rattle.semver_versions.specs.Error.{Kind, context, max_int, max_length, other, parse_int}
 use Rattle.semver_versions.specs.ErrorText.{text_of}
 use Rattle.semver_versions.specs.Fault.{IsFault}
-use Rattle.semver_versions.specs.StrictVersionText.{IsStrictFault}
 use Rattle.semver_versions.specs.declared.version_ref.fault.VersionFault.{VersionFault}
 use Rattle.semver_versions.specs.declared.version_ref.fault.FaultKind.{FaultKind}
 use Rattle.semver_versions.specs.declared.version_ref.fault.FaultKind.TheVariants.{TooLong, Missing, TooLarge, Overflow}
@@ -24,10 +23,6 @@ fault_text f = text_of (fault_kind_of f.kind)
 -- it is the fault of this text
 abbrev pub IsVersionFault : List ℕ → VersionFault → Type 0
 IsVersionFault text f = IsFault text (fault_kind_of f.kind) f.offset
-
--- it is the strict fault of this text
-abbrev pub IsStrictVersionFault : List ℕ → VersionFault → Type 0
-IsStrictVersionFault text f = IsStrictFault text (fault_kind_of f.kind) f.offset
 
 -- the result is this version
 abbrev pub IsBorrowedAs : {E : Type 0} → VersionValue → Result VersionValue E → Type 0

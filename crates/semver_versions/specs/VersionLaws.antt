@@ -4,7 +4,6 @@ use Rattle.semver_texts.specs.Version.{VersionValue}
 use Rattle.semver_texts.specs.VersionText.{IsVersionText}
 use Rattle.semver_versions.specs.Error.{Kind}
 use Rattle.semver_versions.specs.Fault.{IsFault}
-use Rattle.semver_versions.specs.StrictVersionText.{IsStrictFault, IsStrictVersionText}
 
 -- the text is the text of at most one version
 abbrev pub HasOneReading : List ℕ → Type 0
@@ -22,12 +21,3 @@ IsNeverBoth text = (v : VersionValue) (kind : Kind) (offset : ℕ) → IsVersion
 -- the text has at most one fault
 abbrev pub HasOneFault : List ℕ → Type 0
 HasOneFault text = (k l : Kind) (m n : ℕ) → IsFault text k m → IsFault text l n → (k ≡ l) × (m ≡ n)
-
--- the text has at most one strict fault
-abbrev pub HasOneStrictFault : List ℕ → Type 0
-HasOneStrictFault text = (k l : Kind) (m n : ℕ) → IsStrictFault text k m → IsStrictFault text l n → (k ≡ l) × (m ≡ n)
-
--- and none, if it is a strict version text
-abbrev pub IsNeverStrictAndFaulty : List ℕ → Type 0
-IsNeverStrictAndFaulty text =
-    (v : VersionValue) (kind : Kind) (offset : ℕ) → IsStrictVersionText text v → ¬ IsStrictFault text kind offset

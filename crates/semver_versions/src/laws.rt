@@ -6,7 +6,6 @@ ghost use Rattle.std.specs.Cmp.{IsTotalOrder};
 ghost use Rattle.semver_versions.specs.BuildOrder.{version_build_cmp};
 ghost use Rattle.semver_texts.specs.declared.TheConstants.{MAX_LENGTH, MAX_SAFE_INTEGER};
 ghost use Rattle.semver_versions.specs.VersionLaws.{HasOneFault, HasOneReading, IsNeverBoth, IsReadOrFaulty};
-ghost use Rattle.semver_versions.specs.VersionLaws.{HasOneStrictFault, IsNeverStrictAndFaulty};
 
 pub use crate::error::{a_kind_is_always_copied, errors_are_equal_where_their_parts_are};
 pub use crate::json::json_errors_are_equal_where_their_parts_are;
@@ -32,13 +31,6 @@ pub fn every_text_is_read_or_faulty()
 /// A text has at most one fault: one kind at one byte offset.
 pub fn a_text_has_one_fault()
     ensures only { (text : List ℕ) → HasOneFault text }
-{}
-
-/// A text has at most one strict fault, for which [`VersionRef::parse_strict`](crate::VersionRef::parse_strict) returns an
-/// error, and a strict version text has none.
-pub fn a_text_has_one_strict_fault()
-    ensures only { (text : List ℕ) → HasOneStrictFault text }
-    ensures never_both { (text : List ℕ) → IsNeverStrictAndFaulty text }
 {}
 
 /// The order with builds, which [`VersionRef::compare_build`](crate::VersionRef::compare_build) returns, is total.

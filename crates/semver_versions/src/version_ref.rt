@@ -13,7 +13,6 @@ mod fault;
 mod hash;
 mod order;
 pub(crate) mod read;
-mod strict;
 
 pub use fault::VersionFault;
 use semver_texts::end::EndVersion;

@@ -22,6 +22,7 @@ use crate::osv::between::spans_of_marks;
 use crate::osv::events::marks_of;
 use crate::version::read_version;
 use node_semver::{Range, Version};
+use npm_semver::range_from_sets;
 use semver_cuts::{Cut, Span};
 use serde_json::Value;
 use std::alloc::Global;
@@ -39,7 +40,7 @@ pub fn range_of(alloc: Global, one: &Value) -> Result<Option<Range>, Unread>
     let versions = items_at(one, "versions", FaultKind::Versions)?;
     let mut listed = spans_of_versions(alloc, versions)?;
     spans.append(&mut listed)?;
-    Ok(Range::from_sets(alloc, &spans)?)
+    Ok(range_from_sets(alloc, &spans)?)
 }
 
 /// The spans of all ranges that have versions.

@@ -9,7 +9,7 @@ use Rattle.std.specs.Prelude.{slice_index, slice_range}
 use Rattle.semver_texts.specs.declared.TheConstants.{MAX_SAFE_INTEGER}
 use Rattle.semver_texts.specs.Characters.{BeginsWithNo, dot, is_digit}
 use Rattle.npm_semver.specs.Coerce.{IsCoerced, IsNumberAt, IsStrictNumber, is_digit_at}
-use Rattle.semver_versions.specs.StrictVersionText.{has_zero_in_front}
+use Rattle.npm_semver.specs.StrictVersionText.{has_zero_in_front}
 use Rattle.semver_texts.specs.Version.{VersionValue, release}
 use Rattle.npm_semver.specs.CoerceLaws.{PrintIsCoerced}
 use Rattle.semver_texts.specs.Lemmas.Public.{decimal-digits}

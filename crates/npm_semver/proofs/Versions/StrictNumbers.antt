@@ -4,7 +4,7 @@ use Rattle.std.proofs.Common.{append-nil, arith}
 use Rattle.npm_semver.specs.Coerce.{IsStrictNumber}
 use Rattle.semver_texts.specs.NumberText.{IsNumberText}
 use Rattle.semver_texts.specs.Reading.{read_number}
-use Rattle.semver_versions.specs.StrictVersionText.{has_zero_in_front, is_strict_number}
+use Rattle.npm_semver.specs.StrictVersionText.{has_zero_in_front, is_strict_number}
 use Rattle.semver_texts.specs.declared.parse.fault.Fault.{Fault}
 use Rattle.semver_texts.specs.Lemmas.Public.{answer, number-again, number-takes, ok-value, refusal}
 

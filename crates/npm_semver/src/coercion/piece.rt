@@ -4,9 +4,9 @@ ghost use Rattle.npm_semver.specs.Coerce.{IsReleaseOf, IsStrictNumber};
 ghost use Rattle.npm_semver.specs.Private.PieceViews.{numbers_of};
 ghost use Rattle.semver_texts.specs.Version.{VersionValue};
 
+use crate::strict::written::has_zero_in_front;
 use node_semver::Version;
 use semver_texts::parse::number::read_number;
-use semver_versions::parse::strict::has_zero_in_front;
 use std::alloc::Global;
 
 // The texts of the numbers of a piece.

@@ -14,7 +14,8 @@ pub use Rattle.semver_texts.specs.Lemmas.Versions.Least.{none-below_first, none-
 -- ---- printed versions
 pub use Rattle.semver_texts.specs.Lemmas.Versions.PrintReading.{IsTextVersion, print-begins, three-printed, unmarked}
 pub use Rattle.semver_texts.specs.Lemmas.Versions.PrintReading.{extras_text, extras_text-no_digit, print-whole}
-pub use Rattle.semver_texts.specs.Lemmas.Texts.DecimalReading.{decimal-begins, decimal-digits, decimal-value}
+pub use Rattle.semver_texts.specs.Lemmas.Texts.DecimalReading.{decimal-begins, decimal-digits, decimal-identifier}
+pub use Rattle.semver_texts.specs.Lemmas.Texts.DecimalReading.{decimal-value}
 pub use Rattle.semver_texts.specs.Lemmas.Texts.LineText.{whole_text}
 -- ---- characters: which classes have none in common
 pub use Rattle.semver_texts.specs.Lemmas.Texts.Characters.{blank-cases, digit-begins_no_x, digit-no_blank}
@@ -28,7 +29,7 @@ pub use Rattle.semver_texts.specs.Lemmas.Texts.ExtrasReading.{regroup}
 -- ---- the longest prefix whose characters pass, and the rest
 pub use Rattle.semver_texts.specs.Lemmas.Texts.Prefixes.{prefix_of-again, prefix_of-all, prefix_of-begins}
 pub use Rattle.semver_texts.specs.Lemmas.Texts.Prefixes.{prefix_of-rest_of, rest_of-again, rest_of-all, rest_of-no}
-pub use Rattle.semver_texts.specs.Lemmas.Texts.Prefixes.{rest_of-none}
+pub use Rattle.semver_texts.specs.Lemmas.Texts.Prefixes.{rest_of-empty, rest_of-none}
 pub use Rattle.semver_texts.specs.Lemmas.Texts.LongestReading.{rest_of-short}
 pub use Rattle.semver_texts.specs.Lemmas.Texts.Places.{rest_of-each, rest_of-first}
 -- ---- what is read: a number, a prerelease and a build, and a text after a mark and blanks

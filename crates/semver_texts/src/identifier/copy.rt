@@ -155,12 +155,17 @@ fn list_inline(alloc: Global, text: &[u8]) -> Result<Vec<Identifier>, AllocError
     Ok(list)
 }
 
-// The same identifier, with a text of its own.
+/// Returns the same identifier, with a text of its own.
+///
+/// # Errors
+///
+/// Fails with `AllocError` if an allocation fails.
+///
+/// # Memory
+///
+/// Allocates the text. A number allocates nothing.
 #[inline(always)]
-pub(crate) fn copy_of(
-    alloc: Global,
-    identifier: IdentifierRef<'_>,
-) -> Result<Identifier, AllocError>
+pub fn copy_of(alloc: Global, identifier: IdentifierRef<'_>) -> Result<Identifier, AllocError>
     ensures { IfOk result (λ i. value_of i ≡ borrowed_value identifier.entry) }
 {
     match identifier {

@@ -60,9 +60,9 @@ fn one_more(value: u64, byte: u8) -> Option<u64>
     tens.checked_add(u64::from(byte - b'0'))
 }
 
-// The number that the digits write, if the text is digits only and the number has at most 64 bits.
+/// Returns the number that the digits write, if the text is digits only and the number has at most 64 bits.
 #[inline(always)]
-pub(crate) fn numeric(text: &[u8]) -> Option<u64>
+pub fn numeric(text: &[u8]) -> Option<u64>
     ensures { result ≡ (if list_all Characters.is_digit text.now && nat_lt (number_of text.now) (2 ^ 64)
         then Some (number_of text.now) else None) }
 {

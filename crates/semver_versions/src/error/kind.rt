@@ -32,8 +32,8 @@ pub enum SemverErrorKind {
     /// No alternative of a range text gives a set: the offset is 0. Or a word is no comparator in npm's strict form: the
     /// offset is that of the first such word.
     NoValidRanges,
-    /// A version text goes on after the version: the offset is that of the first byte after it. Or `parse_strict` was
-    /// given a version text that is not strict: the offset is that of the first number or identifier that is not
+    /// A version text goes on after the version: the offset is that of the first byte after it. Or `npm_semver` read a
+    /// version text as a strict version, which it is not: the offset is that of the first number or identifier that is not
     /// strictly written.
     Other,
     /// An allocation failed.

@@ -2,7 +2,7 @@
 ghost use Rattle.std.specs.Prelude.{◌≡◌, ◌⊎◌};
 ghost use Rattle.semver_texts.specs.Characters as Characters;
 ghost use Rattle.semver_texts.specs.Characters.{BeginsWith};
-ghost use Rattle.semver_versions.specs.Error.{IsOutOfMemory, IsRefusalAt, kind_of};
+ghost use Rattle.semver_versions.specs.Error.{IsOutOfMemory, IsRefusalAt, kind_of, other};
 ghost use Rattle.semver_versions.specs.ErrorLocation.{column_at, lines_before};
 ghost use Rattle.semver_versions.specs.Fault as Told;
 ghost use Rattle.semver_texts.specs.NumberText.{number_of};
@@ -21,7 +21,7 @@ use crate::{SemverError, SemverErrorKind};
 use std::alloc::Global;
 use std::str;
 
-/// Why `VersionRef::parse` or `parse_strict` failed, and where. It has no copy of the text.
+/// Why `VersionRef::parse` failed, and where. It has no copy of the text.
 ///
 /// # Memory
 ///
@@ -67,6 +67,21 @@ impl VersionFault {
         VersionFault {
             kind,
             offset: text.len() - left,
+        }
+    }
+
+    /// Returns the fault of a text that cannot be read from this byte offset on. Its kind is `Other`.
+    ///
+    /// Readers that are stricter than `VersionRef::parse` tell their own faults so.
+    // `inline(always)`: as `of`.
+    #[inline(always)]
+    pub fn left_over(offset: usize) -> VersionFault
+        ensures kind { fault_kind_of result.kind ≡ other }
+        ensures offset { result.offset ≡ offset }
+    {
+        VersionFault {
+            kind: FaultKind::LeftOver,
+            offset,
         }
     }
 

@@ -10,6 +10,6 @@ returns-clause-range c =
     let ranges = rw c.in_ok-ranges.ensures.items at c.in_ok-spans.ensures.read in
     let versions = rw c.in_ok-versions.ensures.items at c.in_ok-listed.ensures in
     let both = have-either _ _ c.in_ok-spans.spans.items c.in_ok-listed.listed.items ranges versions in
-    let sets = rw c.deref.ensures.value at c.in_ok-from_sets.ensures in
-    range-of (osv_affected (view c.args.one.now)) c.append.new.self.items c.in_ok-from_sets.field-0
+    let sets = rw c.deref.ensures.value at c.in_ok-range_from_sets.ensures in
+    range-of (osv_affected (view c.args.one.now)) c.append.new.self.items c.in_ok-range_from_sets.field-0
     (rw c.in_ok-append.ensures.items both) sets.sets sets.some sets.none

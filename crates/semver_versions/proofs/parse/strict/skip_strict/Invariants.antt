@@ -1,9 +1,0 @@
-use Rattle.std.proofs.Common.{length}
-use Rattle.semver_versions.proofs.Versions.StrictParts.{IsReached}
-use Rattle.semver_versions.proofs.parse.strict.skip_strict.Given as goal
-
-abbrev pub invariant-parts : goal.invariant-parts
-invariant-parts l = IsReached l.part l.text l.rest
-
-abbrev pub decreases-parts : goal.decreases-parts
-decreases-parts l = length l.rest

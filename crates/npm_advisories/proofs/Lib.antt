@@ -17,4 +17,3 @@ pub mod Covering
 pub mod ReleaseCuts
 pub mod SpanPlaces
 pub mod FreeReleases
-pub mod FolderParts

@@ -7,7 +7,6 @@ mod halves;
 mod hits;
 mod json;
 mod lock;
-mod name;
 mod names;
 mod offer;
 mod read;

@@ -14,9 +14,8 @@ ghost use Rattle.npm_advisories.specs.LockFile.{AreInstalled, AreInstalledOf, Is
 
 use crate::Result;
 use crate::found::{Found, Installed, audit};
-use crate::name::folder_name;
 use npm_advisory_files::{AuditError, Fault, Severity, text_at};
-use npm_packages::{CheckError, Dependents};
+use npm_packages::{CheckError, Dependents, end_of};
 use serde_json::{Map, Value};
 use std::alloc::Global;
 
@@ -145,7 +144,7 @@ fn name_of<'v>(folder: &'v str, entry: &'v Value) -> &'v str
 {
     match text_at(entry, "name") {
         Some(said) => said_or_placed(folder, said),
-        None => folder_name(folder),
+        None => end_of(folder),
     }
 }
 
@@ -155,7 +154,7 @@ fn said_or_placed<'v>(folder: &'v str, said: &'v str) -> &'v str
         ⊎ ((said.now ≡ []) × IsEnd folder.now result.now) }
 {
     if said.is_empty() {
-        folder_name(folder)
+        end_of(folder)
     } else {
         said
     }

@@ -1,9 +1,7 @@
 //! Where the fault of a lock file is.
 ghost use Rattle.std.specs.Prelude.{◌≡◌, IfOk, None, option_map};
 ghost use Rattle.serde_json.specs.View.{view};
-ghost use Rattle.npm_packages.specs.Faults as Faults;
-ghost use Rattle.npm_packages.specs.PackageValue.{package_value, packages_data};
-ghost use Rattle.npm_packages.specs.Packages as Packages;
+ghost use Rattle.npm_packages.specs.PackageValue.{packages_data};
 ghost use Rattle.npm_lock_version_one.specs.VersionOne.{any_fault};
 ghost use Rattle.npm_lock_faults.specs.FaultPaths as FaultPaths;
 ghost use Rattle.npm_lock_faults.specs.FaultPaths.{fault_of, fault_path_value};
@@ -13,7 +11,7 @@ use crate::fault_path::FaultPath;
 use crate::package::{of_member, package_fault_path};
 use crate::version_one::version_one_fault_path;
 use npm_lock_version_one::is_version_one;
-use npm_packages::{Fault, Lock, Package, is_link, linked_folder};
+use npm_packages::{Fault, Lock, has_format, is_link, link_fault};
 use serde_json::Value;
 use std::alloc::Global;
 
@@ -64,21 +62,6 @@ fn later_fault_path<'v>(alloc: Global, lock: &'v Value) -> Result<Option<FaultPa
     }
 }
 
-/// Returns `true` if `lockfileVersion` is 2 or 3.
-fn has_format(lock: &Value) -> bool
-    ensures { result ≡ Faults.has_format (view lock.now) }
-{
-    lock.get("lockfileVersion")
-        .and_then(Value::as_f64)
-        .is_some_and(is_format)
-}
-
-fn is_format(number: f64) -> bool
-    ensures { result ≡ Faults.is_format number }
-{
-    number == f64::from(2_u8) || number == f64::from(3_u8)
-}
-
 /// Where the fault of `packages` is.
 fn packages_fault_path<'v>(alloc: Global, packages: &'v Value) -> Result<Option<FaultPath<'v>>>
     ensures { IfOk result (λ found. option_map fault_path_value found
@@ -111,21 +94,4 @@ fn member_fault_path<'v>(lock: Lock<'v>, entry: &'v Value) -> Result<Option<Faul
         Some(fault) => of_member(lock.alloc, entry, "resolved", fault),
         None => Ok(None),
     }
-}
-
-/// The fault of a link: `resolved` names no package that is no link.
-fn link_fault(lock: Lock<'_>, link: &Value) -> Option<Fault>
-    ensures { result ≡ Faults.link_fault (packages_data lock.entry) (view link.now) }
-{
-    match target_of(lock, link) {
-        Some(target) if !is_link(target.member) => None,
-        _ => Some(Fault::Link),
-    }
-}
-
-/// The package that `resolved` of a link names.
-fn target_of<'v>(lock: Lock<'v>, link: &Value) -> Option<Package<'v>>
-    ensures { option_map package_value result ≡ Packages.target_of (packages_data lock.entry) (view link.now) }
-{
-    lock.package_in(linked_folder(link.get("resolved")?.as_str()?))
 }

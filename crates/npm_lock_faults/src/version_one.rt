@@ -1,14 +1,13 @@
 //! Where the fault of a lock file of version 1 is.
 ghost use Rattle.std.specs.Prelude.{◌≡◌, IfOk, option_map};
 ghost use Rattle.serde_json.specs.View.{view};
-ghost use Rattle.npm_lock_version_one.specs.VersionOne as VersionOne;
 ghost use Rattle.npm_lock_faults.specs.FaultPaths as FaultPaths;
 ghost use Rattle.npm_lock_faults.specs.FaultPaths.{fault_path_value};
 
 use crate::Result;
 use crate::fault_path::FaultPath;
 use crate::package::{of_member, specs_fault_path};
-use npm_lock_version_one::required_of;
+use npm_lock_version_one::{has_named, required_of};
 use npm_packages::{Fault, has_text_version};
 use serde_json::Value;
 use std::alloc::Global;
@@ -83,15 +82,5 @@ fn entry_fault_path<'v>(alloc: Global, entry: &'v Value) -> Result<Option<FaultP
     match required_of(entry) {
         Some(required) if !required.is_null() => specs_fault_path(alloc, required, "requires"),
         _ => Ok(None),
-    }
-}
-
-/// Returns `true` if `dependencies` is an object, `null` or absent.
-fn has_named(entry: &Value) -> bool
-    ensures { result ≡ VersionOne.has_named (view entry.now) }
-{
-    match entry.get("dependencies") {
-        Some(named) => named.is_null() || named.is_object(),
-        None => true,
     }
 }

@@ -82,8 +82,8 @@ fn check_entry(entry: &Value) -> Result<(), Fault>
     }
 }
 
-/// Returns `true` if `dependencies` is an object, `null` or absent.
-fn has_named(entry: &Value) -> bool
+/// Returns `true` if `dependencies` of an entry is an object, `null` or absent. Does not allocate.
+pub fn has_named(entry: &Value) -> bool
     ensures { result ≡ VersionOne.has_named (view entry.now) }
 {
     match entry.get("dependencies") {

@@ -1,12 +1,10 @@
 //! Reads the documents of packages in a folder.
 ghost use Rattle.std.specs.Prelude.{◌≡◌, IfOk, string_bytes};
-ghost use Rattle.std.specs.List.{list_all};
-ghost use Rattle.npm_texts.specs.RangeText.{is_tag_byte};
 ghost use Rattle.npm_pick_command.specs.PackumentFile as Files;
 
 use command_lines::{InputError, Watched, open_error, read_json};
 use npm_pick_reports::{LoadError, PackageName};
-use npm_texts::rest_after;
+use npm_texts::{are_tag_bytes, rest_after};
 use serde_json::Value;
 use std::alloc::{AllocError, Global};
 use std::fs::File;
@@ -106,17 +104,5 @@ fn is_scoped(text: &str) -> bool
 fn is_part(text: &str) -> bool
     ensures { result ≡ Files.is_part text.now }
 {
-    !text.is_empty() && !text.starts_with(".") && are_name_bytes(text)
-}
-
-fn are_name_bytes(text: &str) -> bool
-    ensures { result ≡ list_all is_tag_byte text.now }
-{
-    text.bytes().all(is_name_byte)
-}
-
-fn is_name_byte(byte: u8) -> bool
-    ensures { result ≡ is_tag_byte byte }
-{
-    byte.is_ascii_alphanumeric() || b"-_.!~*'()".contains(&byte)
+    !text.is_empty() && !text.starts_with(".") && are_tag_bytes(text)
 }

@@ -19,7 +19,7 @@ pub use copy::{copied, put_text};
 pub use installed::installed_version;
 pub use range::{OF_DEPENDENCIES, OF_ENGINES, range_of};
 pub use registry::{RegistrySpec, registry_spec};
-pub use spec::{Spec, aliased_name, filled, is_tag, spec_of};
+pub use spec::{Spec, aliased_name, are_tag_bytes, filled, is_tag, spec_of};
 pub use text::{ends_with, rest_after, without_end};
 pub use truth::{has_true, is_true};
 pub use white::{is_long, is_white, without_white_end, without_white_start};

@@ -217,7 +217,8 @@ pub fn is_tag(text: &str) -> bool
     are_tag_bytes(text.trim())
 }
 
-fn are_tag_bytes(text: &str) -> bool
+/// Returns `true` if each byte of the text is one of a tag: letters, digits and `-_.!~*'()`. Does not allocate.
+pub fn are_tag_bytes(text: &str) -> bool
     ensures { result ≡ list_all RangeText.is_tag_byte text.now }
 {
     text.bytes().all(is_tag_byte)

@@ -19,5 +19,5 @@ returns-in-Some c =
 
 pub returns-in-None : goal.returns-in-None
 returns-in-None c =
-    placed c.folder_name.result.now
-    (inl (sym c.text_at.ensures ∙ ap (option_map (λ text. text.now)) c.in-None.is)) c.folder_name.ensures
+    placed c.end_of.result.now
+    (inl (sym c.text_at.ensures ∙ ap (option_map (λ text. text.now)) c.in-None.is)) c.end_of.ensures

@@ -5,7 +5,7 @@ use Rattle.npm_advisories.proofs.lock.said_or_placed.Goals as goal
 
 pub returns-then-is_empty : goal.returns-then-is_empty
 returns-then-is_empty c =
-    inr (empty-of c.args.said.now (sym c.is_empty.ensures ∙ c.if-is_empty.true), c.folder_name.ensures)
+    inr (empty-of c.args.said.now (sym c.is_empty.ensures ∙ c.if-is_empty.true), c.end_of.ensures)
 
 pub returns-else-is_empty : goal.returns-else-is_empty
 returns-else-is_empty c = inl (refl, not-empty c.args.said.now (sym c.is_empty.ensures ∙ c.if-is_empty.false))

@@ -35,7 +35,7 @@ Options, of which the value may also be in the same word, as in --node=20:
   --severity LEVEL   Leave out advisories that are less severe: info, low, moderate, high or critical.
                      The default is info, which leaves none out.
                      Example: npm_lock_check --advisories advisories.json --severity high package-lock.json
-  --unchecked        Also list each dependency that is not checked, and why.
+  --unchecked        Also list what is not checked, and why: dependencies, manifests and workspaces.
                      Example: npm_lock_check --unchecked package-lock.json
   --format FORMAT    text: write each problem as a sentence. json: write it as a JSON object.
                      github: write it as an annotation of GitHub Actions. sarif: write all of them as

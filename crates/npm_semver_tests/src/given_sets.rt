@@ -22,6 +22,28 @@ fn makes_a_range_of_its_sets(rt: HostRuntime) {
     each(&rt, Question::ComesBack, &SETS);
 }
 
+// A thousand sets that differ, with a lower one after them.
+#[test]
+fn makes_a_range_of_many_sets(rt: HostRuntime) {
+    assert!(rt; many_come_back(rt.alloc()));
+}
+
+fn many_come_back(alloc: Global) -> bool {
+    match text_of_many(alloc) {
+        Ok(text) => comes_back(alloc, &text),
+        Err(_) => false,
+    }
+}
+
+fn text_of_many(alloc: Global) -> Result<String, AllocError> {
+    let mut text = String::new(alloc);
+    for major in 0..1000_u64 {
+        write!(text, "{major}.1.0||")?;
+    }
+    text.push_str("0.0.9")?;
+    Ok(text)
+}
+
 fn range_of(alloc: Global, text: &str) -> Option<Range> {
     if text == "any" {
         return Range::any(alloc).ok();

@@ -1,4 +1,5 @@
 use crate::checks::{Asks, NOTHING, first_wrong};
+use npm_pick::parse_time;
 
 const TIMED: &str = r#"{
     "dist-tags": {"latest": "1.2.0", "old": "1.1.0", "odd": "foo"},
@@ -10,6 +11,18 @@ const TIMED: &str = r#"{
     },
     "versions": {"1.0.0": {}, "1.1.0": {}, "1.2.0": {}, "1.3.0": {}, "1.5.0": {}}
 }"#;
+
+#[test]
+fn reads_times_as_nanoseconds(rt: HostRuntime) {
+    assert_eq!(rt; parse_time("1970-01-01T00:00:01Z"), Some(1_000_000_000));
+    assert_eq!(rt;
+        parse_time("1970-01-01T01:00:01.000+01:00"),
+        Some(1_000_000_000)
+    );
+    assert_eq!(rt; parse_time("1969-12-31T23:59:59.999999999Z"), Some(-1));
+    assert_eq!(rt; parse_time("1970-01-01"), None);
+    assert_eq!(rt; parse_time("1970-01-01T00:00:01"), None);
+}
 
 #[test]
 fn leaves_out_what_was_published_too_late(rt: HostRuntime) {

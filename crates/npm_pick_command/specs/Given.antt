@@ -1,5 +1,6 @@
 -- The times and versions that arguments name.
 use Rattle.std.specs.Prelude.{◌++◌, ℕ, ℤ, List, Option, Some, None, codes}
+use Rattle.std.specs.Option.{option_or}
 use Rattle.node_semver.specs.Versions.{IsVersionText, VersionValue}
 use Rattle.npm_pick.specs.PickOptions.{time_text}
 
@@ -22,11 +23,6 @@ pub data IsVersionGiven (text : List ℕ) : (whole : Option (List ℕ)) → Type
 
 -- ---- times
 
--- the first, or else the other
-abbrev pub or_else : Option ℤ → Option ℤ → Option ℤ
-or_else None other = other
-or_else (Some time) other = Some time
-
 -- the time of a text; `2024-03-01` is the beginning of that day in UTC
 abbrev pub time_given : (text : List ℕ) → Option ℤ
-time_given text = or_else (time_text text) (time_text (text ++ codes "T00:00:00Z"))
+time_given text = option_or (time_text text) (time_text (text ++ codes "T00:00:00Z"))

@@ -12,8 +12,13 @@
     chain     N packages of one name, each in the `node_modules` of the one before, and beside each one a package that asks for it
     beside    a chain of N packages, each in the `node_modules` of the one before, that ask for a name in the root; beside each one a
               package has that name in its own `node_modules`
+    slashed   a package in a folder `f/f/f/..` of N parts may have N names of two parts, which are nowhere
+    pattern   the root asks for a workspace in a folder `f/f/f/..` of N parts, which are in a pattern before its star
+    long      the root asks for N names, which are workspaces, in folders that share 3,000 bytes, as does the pattern with `**`
     crowded   N folders with twenty names in their `node_modules`, and N packages in a folder `z/z/z/..` of N parts that ask for
               these names
+    repeated  the root N times, the last time with N dependencies that are nowhere
+    asked     a package in a folder `node_modules/a/node_modules/a/..` of N parts asks for N names that are nowhere
 """
 import json
 import sys
@@ -26,6 +31,16 @@ if shape in ("path", "modules"):
     folder = "/".join(["f"] * count if shape == "path" else ["node_modules/a"] * count)
     packages[folder] = {"dependencies": wanted, "optionalDependencies": optional}
     packages.update({f"node_modules/{name}": {"version": "1.2.3"} for name in wanted})
+elif shape == "slashed":
+    packages["/".join(["f"] * count)] = {"optionalDependencies": {f"x/{i}": "^1.0.0" for i in range(count)}}
+elif shape in ("pattern", "long"):
+    above = "/".join(["f"] * (count if shape == "pattern" else 1500))
+    few = ["w"] if shape == "pattern" else names
+    packages[""].update(workspaces=[above + ("/*" if shape == "pattern" else "/**")], dependencies={name: "^2" for name in few})
+    for name in few:
+        folder = f"{above}/{name}" if shape == "pattern" else f"{above}/{'g/' * 400}{name}"
+        packages[f"node_modules/{name}"] = {"link": True, "resolved": folder}
+        packages[folder] = {"version": "1.2.3"}
 elif shape == "nested":
     folder = "node_modules/a"
     for _ in range(count):
@@ -52,6 +67,10 @@ elif shape == "crowded":
         packages.update({f"f/{i}/node_modules/{name}": {"version": "1.2.3"} for name in few})
         packages["z/" * count + str(i)] = {"dependencies": {name: "^1.0.0" for name in few}}
     packages.update({f"node_modules/{name}": {"version": "1.2.3"} for name in few})
+elif shape == "asked":
+    packages["/".join(["node_modules/a"] * count)] = {"dependencies": {name: "^1.0.0" for name in names}}
+elif shape == "repeated":
+    packages[""] = {"dependencies": {name: "^1.0.0" for name in names}}
 elif shape == "copies":
     for name in names:
         packages[f"node_modules/{name}"] = {"version": "1.2.3", "dependencies": {"copied": "^1.0.0"}}
@@ -68,4 +87,7 @@ else:
         if linked:
             packages[f"node_modules/{name}"] = {"link": True, "resolved": folder}
         packages[folder if linked else f"node_modules/{name}"] = {"version": "1.2.3"}
-json.dump({"lockfileVersion": 3, "packages": packages}, sys.stdout)
+text = json.dumps({"lockfileVersion": 3, "packages": packages})
+if shape == "repeated":
+    text = text.replace('{"": ', "{" + '"": {}, ' * (count - 1) + '"": ')
+sys.stdout.write(text)

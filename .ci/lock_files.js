@@ -319,6 +319,8 @@ const writeFolders = (root, packages) => {
 // A member of `packages` as a manifest, which has no marks.
 const manifestOf = ({ dev, optional, devOptional, peer, ...manifest }) => manifest
 
+const ownMarks = ({ dev, optional, peer } = {}) => Object.fromEntries(Object.entries({ dev, optional, peer }).filter(([, it]) => it))
+
 // Manifests of the packages that links name, of which some are not there, and some have other dependencies than in it.
 const linkedManifests = packages => {
   const linked = {}
@@ -447,7 +449,9 @@ const main = async () => {
     if (manifest) fs.writeFileSync(beside, JSON.stringify(manifest))
     const version = file.packages && nodes[i % nodes.length]
     // npm reads the root from its manifest, and also packages that links name, if they are in no `node_modules`.
+    // Their marks are those of the lock file.
     const read = Object.entries(linked || {}).filter(([place]) => !place.split('/').includes('node_modules'))
+      .map(([place, it]) => [place, { ...it, ...ownMarks(file.packages?.[place]) }])
     const seen = manifest && file.packages
       ? { ...file, packages: { ...file.packages, '': manifest, ...Object.fromEntries(read) } }
       : file

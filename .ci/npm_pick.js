@@ -28,6 +28,11 @@ const withTime = time => ({
   packument: { name: 'a', time: { '1.0.0': time }, versions: { '1.0.0': { version: '1.0.0' } } }, wanted: '*',
 })
 
+const isDated = time => typeof time === 'string' && /^\d{4}-\d\d-\d\dT\d\d:\d\d:\d\d(\.\d+)?Z$/.test(time)
+// How npm reads a text, or its error.
+const readBy = (name, text) => { try { return npa.resolve(name, text).type } catch (error) { return error.code || 'OTHER' } }
+const PICKED = ['version', 'range', 'tag', 'EINVALIDTAGNAME']
+
 // Where npm gives another result: the name of a rule, which cases it covers, and an example with the results of npm and of npm_pick.
 // crates/npm_pick/README.md has the rules by these names.
 const RULES = [
@@ -42,8 +47,9 @@ const RULES = [
   },
   {
     name: 'a time in another form',
-    covers: ({ packument }) => Object.values(isObject(packument.time) ? packument.time : {}).some(time =>
-      time && !(typeof time === 'string' && /^\d{4}-\d\d-\d\dT\d\d:\d\d:\d\d(\.\d+)?Z$/.test(time)) && !Number.isNaN(Date.parse(time))),
+    covers: ({ packument }) => Object.values(isObject(packument.time) ? packument.time : {}).some(time => time && (isDated(time)
+      ? Number.isNaN(Date.parse(time)) ? time.endsWith(':60Z') : new Date(time).toISOString().slice(0, 19) !== time.slice(0, 19)
+      : !Number.isNaN(Date.parse(time)))),
     example: [withTime('2020-01-01'), '1.0.0', '!ENOVERSIONS'],
   },
   {
@@ -68,15 +74,42 @@ const RULES = [
     example: [keyCase('1.0.0', { avoid: '' }), '1.0.0', '*1.0.0'],
   },
   {
+    name: 'an empty text beside another default tag',
+    covers: ({ wanted, tag }) => wanted === '' && tag !== undefined && !['tag', 'version'].includes(readBy('a', tag)),
+    example: [{ packument: { name: 'a', 'dist-tags': { '^1': '1.0.0-a' }, versions: { '1.0.0-a': { version: '1.0.0-a' } } }, wanted: '',
+      tag: '^1' }, '!ETARGET', '1.0.0-a'],
+  },
+  {
     name: 'members of every object',
-    covers: ({ packument }) => allKeys(packument).concat(Object.values(tagsOf(packument))).some(key => key in Object.prototype),
+    covers: ({ packument, wanted, tag = '' }) => allKeys(packument).concat(Object.values(tagsOf(packument)), wanted, tag)
+      .some(key => key in Object.prototype),
     example: [{ packument: { name: 'a', time: {}, versions: { constructor: { version: 'constructor' } } }, wanted: '*' },
       '!ENOVERSIONS', '!ETARGET'],
   },
   {
+    name: 'members of every object',
+    covers: ({ tag = '' }) => tag in Object.prototype,
+    example: [keyCase('1.0.0', { wanted: '^1', tag: 'constructor' }), '!OTHER', '1.0.0'],
+  },
+  {
+    name: 'a tag that is missing',
+    covers: ({ packument }) => allKeys(packument).includes('undefined'),
+    example: [keyCase('undefined', { wanted: 'next' }), 'undefined', '!ETARGET'],
+  },
+  {
+    name: 'zeros before a number above 2^53',
+    covers: ({ wanted }) => /\b0\d{16}/.test(wanted),
+    example: [keyCase('1.0.0-09007199254740993', { wanted: '1.0.0-09007199254740993' }), '1.0.0-09007199254740993', '!ETARGET'],
+  },
+  {
+    name: 'a name that no package can have',
+    covers: ({ packument }) => readBy(packument.name, '*') === 'EINVALIDPACKAGENAME',
+    example: [{ packument: { name: '_a', versions: { '1.0.0': { version: '1.0.0' } } }, wanted: '1.0.0' }, '!EINVALIDPACKAGENAME', '1.0.0'],
+  },
+  {
     name: 'a location or an alias',
-    covers: ({ wanted }) => { try { return !npa.resolve('a', wanted).registry || npa.resolve('a', wanted).type === 'alias' } catch (_) { return false } },
-    example: [keyCase('1.0.0', { wanted: 'a.tgz' }), '!OTHER', '!ETARGET'],
+    covers: ({ wanted }, npm, ours) => !PICKED.includes(readBy('a', wanted)) && ours === '!EINVALIDTAGNAME',
+    example: [keyCase('1.0.0', { wanted: '1.0.0 || a.tgz' }), '!OTHER', '!EINVALIDTAGNAME'],
   },
   {
     name: 'a list in place of an object',
@@ -145,7 +178,8 @@ const range = () => one([
 ])()
 const time = () => one([
   () => `202${below(4)}-0${1 + below(9)}-1${below(10)}T0${below(10)}:00:00.000Z`, () => `202${below(4)}-0${1 + below(9)}-1${below(10)}T0${below(10)}:00:00.000Z`,
-  () => `202${below(4)}-0${1 + below(9)}-1${below(10)}T0${below(10)}:00:00Z`, () => one(['no time', '', null, false, 0, {}, true, '2020-01-01', 2021, 'Jan 1 2021']),
+  () => `202${below(4)}-0${1 + below(9)}-1${below(10)}T0${below(10)}:00:00Z`, () => one(['no time', '', null, false, 0, {}, true, '2020-01-01', 2021, 'Jan 1 2021', '2021-06-30T23:59:60Z',
+    '2021-06-30T24:00:00Z', '2021-02-30T00:00:00.000Z', '2021-02-32T00:00:00.000Z']),
 ])
 const truth = () => one([true, false, null, 0, -0, 1, 0.5, '', 'old', [], {}, 'false'])
 const engine = () => one([() => '>=' + version(), () => '^' + number(), () => '*', () => 'no range', () => truth(), () => '>=1 <3'])()
@@ -201,8 +235,11 @@ function generated () {
   const made_case = { packument: made, wanted: one([
     range, range, range, range, version, () => own, () => own, () => '^' + own, () => '=v' + own, () => own + '+build',
     () => one(['latest', 'next', 'beta', 'gone', 'a b', 'a/b', ' latest', 'npm:a@1', 'a.tgz', 'valueOf', '@a']),
+    () => one(['next ', '* ', '\ufefflatest', '\u0085latest', '\u00a0next', '^1 x/y', own + ' || a.tgz', 'npm:a@1 || ' + own, 'NPM:a', 'b.TGZ',
+      'b.tar-gz', own + ' || b.tAr gz', 'b.targz', '^1 || git@x.y:z', 'x@y:z', 'git@gist.github.com:a', own + ' || x@gist.github.com:a', '.a', '_a',
+      'c:1', '^1 || c:1', '~/a', 'git+ssh:a', '#1', 'a@1', '1.0.0-09007199254740993', '%61']),
   ])() }
-  put(made_case, 'tag', maybe(15, () => one(['next', 'beta', 'gone'])))
+  put(made_case, 'tag', maybe(15, () => one(['next', 'beta', 'gone', 'next', 'beta', 'constructor', '', '^1', 'a b', 'a/b', own])))
   put(made_case, 'before', maybe(40, () => `202${below(4)}-0${1 + below(9)}-15T00:00:00.000Z`))
   put(made_case, 'avoid', maybe(35, () => one([range(), range(), 'no range', '>=' + version() + ' <' + version(), '^' + own])))
   put(made_case, 'avoidStrict', maybe(50, () => true))
@@ -256,7 +293,7 @@ const examples = RULES.map(rule => rule.example[0])
 ourAnswers(examples).forEach((ours, at) => {
   const { name, covers, example: [it, npm, wanted] } = RULES[at]
   const found = npmAnswer(it)
-  const covered = covers(it, found)
+  const covered = covers(it, found, ours)
   if (!covered || found !== npm || ours !== wanted) {
     failed++
     console.log(`WRONG: the example of '${name}': npm ${found}, npm_pick ${ours}, covered ${covered}`)
@@ -269,7 +306,7 @@ function compare (cases, what) {
   ourAnswers(cases).forEach((ours, at) => {
     const npm = npmAnswer(cases[at])
     if (npm === ours) return
-    const rule = RULES.find(rule => rule.covers(cases[at], npm))
+    const rule = RULES.find(rule => rule.covers(cases[at], npm, ours))
     if (rule) {
       covered++
       used[rule.name] = (used[rule.name] || 0) + 1

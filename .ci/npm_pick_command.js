@@ -141,7 +141,7 @@ function madeProject(folder) {
         write(`mirror/${name}${one(['.json', '/package.json'])}`, made);
     }
     const spec = (name) => one([range, range, () => one(['latest', 'next', 'gone']), version,
-        () => one(['github:a/b', './x', 'https://example.com/x.tgz']), () => `npm:${one(NAMES)}@${range() || '*'}`,
+        () => one(['github:a/b', './x', 'https://example.com/x.tgz', 'x.TGZ', 'x.tar-gz', '^1 || x@gist.github.com:a']), () => `npm:${one(NAMES)}@${range() || '*'}`,
         () => `^${one(Object.keys(documents[name]?.versions ?? { '1.0.0': {} }))}`])();
     const group = () => Object.fromEntries(NAMES.filter(() => chance(30)).map((name) => [name, spec(name)]));
     const root = { name: 'project', version: '1.0.0', dependencies: group(), devDependencies: group(),
@@ -176,6 +176,10 @@ const server = http.createServer((request, response) => {
 
 const bytes = (a, b) => Buffer.compare(Buffer.from(a), Buffer.from(b));
 
+// A text as lines on standard error have it, in printable ASCII.
+const shown = (text) => [...Buffer.from(text)].map((byte) => (byte >= 0x20 && byte < 0x7f ? String.fromCharCode(byte)
+    : `\\x${byte.toString(16).padStart(2, '0')}`)).join('');
+
 // The versions that are kept for these specs, whether a package has no document, and what standard error says.
 function npmsKept(asks, all, options) {
     const specs = new Map();
@@ -198,7 +202,7 @@ function npmsKept(asks, all, options) {
     });
     const absent = names.filter((name) => !documents[name]);
     const said = [...absent.map((name) => `no document in the folder: ${name}`), ...notes].sort(bytes);
-    return { kept, status: absent.length ? 1 : 0, error: said.map((note) => `npm_pick: ${note}\n`).join('') };
+    return { kept, status: absent.length ? 1 : 0, error: said.map((note) => `npm_pick: ${shown(note)}\n`).join('') };
 }
 
 function isPublished(document, key, options) {
@@ -216,12 +220,24 @@ function asksOfLock(lock) {
         asker.dependencies, asker.optionalDependencies, folder === '' ? asker.devDependencies : {})));
 }
 
+// A manifest with white space around its specs, which npm install leaves out and npm outdated does not, and with hosts that npm
+// does not know.
+function spaced(manifest) {
+    const space = () => one(['', ' ', '\t', '\u00a0', '\ufeff', ' \n ']);
+    const around = (spec) => (/^npm:/i.test(spec) ? `${spec}${space()}` : `${space()}${spec}${/^[\d^~<>][^@]*$/.test(spec) ? one(['', '', ' || git@x.y:z']) : ''}${space()}`);
+    return Object.fromEntries(GROUPS.map((group) => [group,
+        Object.fromEntries(Object.entries(manifest[group] ?? {}).map(([name, spec]) => [name, around(spec)]))]));
+}
+
 function compareKept(folder) {
     let versions = 0;
     const manifest = path.join(folder, 'project/package.json');
     const lock = path.join(folder, 'project/package-lock.json');
+    const wide = path.join(folder, 'spaced.json');
     const read = (file) => JSON.parse(fs.readFileSync(file, 'utf8'));
+    fs.writeFileSync(wide, JSON.stringify(spaced(read(manifest))));
     for (const [words, asks] of [[['--manifest', manifest], asksOf(read(manifest))], [['--lock', lock], asksOfLock(read(lock))],
+        [['--manifest', wide], asksOf(read(wide))],
         [['--lock', lock, '--manifest', manifest], [...asksOf(read(manifest)), ...asksOfLock(read(lock))]]]) {
         const all = chance(50);
         const made = madeOptions();

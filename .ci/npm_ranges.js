@@ -73,6 +73,11 @@ const RULES = [
     example: [many(256, 'v') + '1', '1.0.0', STRICT, 'y', 'x'],
   },
   {
+    name: 'leading zeros',
+    covers: (text, version, options) => options.loose && /0{240}/.test(text),
+    example: [many(253, '0'), '0.1.0', LOOSE, 'x', 'y'],
+  },
+  {
     name: 'a prerelease of 251 characters without its hyphen',
     covers: (text, version, options) => options.loose && /[^\s|]{256}/.test(text),
     example: ['~1.2.3' + many(251, 'a'), '1.2.3', LOOSE, 'x', 'y'],

@@ -54,6 +54,8 @@ const written = (...versions) => ({ status: 0, output: versions.map((version) =>
 const stopped = (error) => ({ status: 2, output: '', error });
 const NOTHING = { status: 1, output: '', error: '' };
 const ROWS = [
+    [['-r', 'vv1.2.3', '1.2.3'], NOTHING, written('1.2.3')],
+    [['-c', '-p', `1.2.3+${'a'.repeat(251)}`], written('1.2.3'), NOTHING],
     [['-l', '-c', '01.2.3'], written('1.2.3'), NOTHING],
     [['-i', 'prerelease', '--preid', 'beta.1', '1.2.3'], written('1.2.4-beta.1.0'), stopped(BAD_IDENTIFIER)],
     [['-i', 'prerelease', '--preid', 'a b', '1.2.3'], written('1.2.4-a b.0'), stopped(BAD_IDENTIFIER)],

@@ -41,11 +41,12 @@ def add(archive, folder, name, inside, date):
 
 
 def tar_of(folder, date, top=""):
-    """A tar archive of a folder, in memory. `top` is put before each path."""
+    """A tar archive of a folder, in memory. `top` is put before each path. A Debian package (`top` is `./`) lists its folders.
+    Another archive does not: tar makes those that are missing, and the mode of one that is there stays as it is."""
     out = io.BytesIO()
     names = files_below(folder)
     with tarfile.open(fileobj=out, mode="w", format=tarfile.GNU_FORMAT) as archive:
-        for name in ["", *folders_above(names)] if top else folders_above(names):
+        for name in ["", *folders_above(names)] if top == "./" else []:
             add(archive, folder, name, (top + name).rstrip("/"), date)
         for name in names:
             add(archive, folder, name, top + name, date)
@@ -78,11 +79,14 @@ def ar_of(members, date):
     return out
 
 
-def deb_of(folder, control, date):
-    """A Debian package of the files in a folder, with these fields of its control file."""
+def deb_of(folder, control, scripts, date):
+    """A Debian package of the files in a folder, with these fields of its control file, and scripts by name."""
     sums = "".join(f"{sum_of(os.path.join(folder, name), 'md5')}  {name}\n" for name in files_below(folder))
     with tempfile.TemporaryDirectory() as told:
         write(os.path.join(told, "control"), control)
         write(os.path.join(told, "md5sums"), sums)
+        for name, script in scripts.items():
+            write(os.path.join(told, name), script)
+            os.chmod(os.path.join(told, name), 0o755)
         parts = [gzipped(tar_of(it, date, "./"), date) for it in (told, folder)]
     return ar_of(zip(("debian-binary", "control.tar.gz", "data.tar.gz"), (b"2.0\n", *parts)), date)

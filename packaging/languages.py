@@ -95,6 +95,8 @@ def node_package(room, out):
     with open(path, encoding="utf-8") as file:
         package = json.load(file)
     package["files"] = sorted([*package["files"], "prebuilt/"])
+    # The package finds them itself, so it works where no install script is run.
+    del package["scripts"]["install"]
     archives.write(path, json.dumps(package, indent=2) + "\n")
     run("npm", "pack", "--ignore-scripts", "--pack-destination", out, at=at)
 

@@ -51,10 +51,12 @@ def object_of(crate):
 
 
 def link(crate, path):
-    """Links the program of a crate, if it was built of the sources as they stand."""
+    """Links the program of a crate, if it was built of the sources as they stand: it can be loaded at any address, what is
+    relocated cannot be written later, and the stack cannot be run."""
     made = object_of(crate)
     parts = [os.path.join(KIT, "c", name) for name in ("libos_c.a", "liblibc_c.a")]
-    subprocess.run(["cc", "-static", "-s", "-Wl,--build-id=none", "-o", path, made, *parts], check=True)
+    hardened = "-Wl,-z,relro,-z,now,-z,noexecstack"
+    subprocess.run(["cc", "-static-pie", hardened, "-s", "-Wl,--build-id=none", "-o", path, made, *parts], check=True)
 
 
 def help_of(path):

@@ -1,5 +1,6 @@
 """What npm_lock_check writes in the formats github and sarif for lock files that are written in one line."""
 import json
+import re
 
 RULES = {
     "missing": ("error", "A dependency is not installed."),
@@ -77,12 +78,17 @@ def github(lock, findings):
     return [f"::{COMMANDS[one.level]} file=-,line=1,col={one.column(known)}::{one.message.replace('%', '%25')}" for one in findings]
 
 
+def plain(text):
+    """A text as a plain text of a message: SARIF 2.1.0, sections 3.11.5 and 3.11.6."""
+    return re.sub(r"[{}]", r"\g<0>\g<0>", re.sub(r"[][\\]", r"\\\g<0>", text))
+
+
 def sarif(lock, findings):
     """The log, for the file `-`."""
     known = columns(lock)
     rules = [{"id": rule, "shortDescription": {"text": text}, "defaultConfiguration": {"level": level}} for rule, (level, text) in RULES.items()]
     results = [{
-        "ruleId": one.rule, "ruleIndex": list(RULES).index(one.rule), "level": one.level, "message": {"text": one.message},
+        "ruleId": one.rule, "ruleIndex": list(RULES).index(one.rule), "level": one.level, "message": {"text": plain(one.message)},
         "locations": [{"physicalLocation": {"artifactLocation": {"uri": "-"}, "region": {"startLine": 1, "startColumn": one.column(known)}}}],
     } for one in findings]
     driver = {"name": "npm_lock_check", "version": "1.0.0", "rules": rules}

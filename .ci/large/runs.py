@@ -228,3 +228,68 @@ def explained_runs():
     yield ["--range", before + "foo"], (1, "", f"{before}foo\n{' ' * len(before)}^\n")
     yield ["--loose", "--range", before + "foo"], (0, ">=1.0.0  no prereleases\n", "")
     yield ["--range", "f" * LONG_WORD, "--range", "1.2.3"], (1, "1.2.3  no prereleases\n", "f" * LONG_WORD + "\n^\n")
+
+
+class PickRun:
+    """A run of npm_pick_command: the words, the documents of its mirror and other files, and all that is written."""
+
+    def __init__(self, words, files, lines, error=(), status=0):
+        self.words, self.files, self.status = words, files, status
+        self.output, self.error = ("".join(line + "\n" for line in it) for it in (lines, error))
+
+    def arguments(self, folder):
+        """Writes the files, and returns the words."""
+        os.makedirs(os.path.join(folder, "mirror"))
+        for at, value in self.files.items():
+            with open(os.path.join(folder, at), "w", encoding="utf-8") as file:
+                file.write(text_of(value))
+        return self.words
+
+
+def document(*versions, **members):
+    return {"dist-tags": {"latest": versions[-1]}, "versions": {version: {} for version in versions}, **members}
+
+
+def pick_runs():
+    """Runs of npm_pick_command on many dependencies, packages, versions, manifests and notes."""
+    numbers = [f"{number:04}" for number in range(MANY)]
+    outdated = ["--packuments", "mirror", "--lock", "lock.json", "--outdated"]
+    keep = ["--packuments", "mirror", "--manifest", "package.json", "--keep"]
+    three = document("1.0.0", "1.2.0", "2.0.0")
+
+    def of_root(spec, version):
+        packages = {f"node_modules/n{at}": {"version": version} for at in numbers}
+        return lock_of({"dependencies": {f"n{at}": spec for at in numbers}}, packages)
+
+    behind = [f"n{at} 1.0.0 1.2.0 2.0.0" for at in numbers]
+    files = {"lock.json": of_root("npm:a@^1", "1.0.0"), "mirror/a.json": three}
+    yield PickRun(outdated, files, behind, status=1)
+    yield PickRun(outdated, {"lock.json": of_root("npm:a@*", "2.0.0"), "mirror/a.json": three}, [])
+    error = [f"npm_pick: {MANY} dependencies have no document in the folder"]
+    yield PickRun(outdated, {"lock.json": of_root("1", "1.0.0")}, [], error)
+    files = {"lock.json": of_root("1", "1.0.0"), **{f"mirror/n{at}.json": three for at in numbers}}
+    yield PickRun(outdated, files, behind, status=1)
+    many = {f"n{at}": "^1" for at in numbers}
+    files = {"package.json": {"dependencies": many}, **{f"mirror/n{at}.json": three for at in numbers}}
+    yield PickRun(keep, files, [f"n{at}@1.2.0" for at in numbers])
+    yield PickRun([*keep, "--all"], files, [f"n{at}@{key}" for at in numbers for key in ("1.0.0", "1.2.0")])
+    absent = [f"npm_pick: no document in the folder: n{at}" for at in numbers]
+    yield PickRun(keep, {"package.json": {"dependencies": many}}, [], absent, 1)
+    notes = [f"npm_pick: not from a registry: n{at} (./n{at})" for at in numbers]
+    yield PickRun(keep, {"package.json": {"dependencies": {f"n{at}": f"./n{at}" for at in numbers}}}, [], notes)
+    versions = [f"1.{number}.0" for number in range(MANY)]
+    files = {"package.json": {"dependencies": {"a": "*"}}, "mirror/a.json": document(*versions)}
+    yield PickRun([*keep, "--all"], files, [f"a@{key}" for key in versions])
+    words = ["--packument", "mirror/a.json", f">=1.0.0 <1.{MANY - 1}.0"]
+    yield PickRun(words, files, [f"1.{MANY - 2}.0"])
+    # as many manifests as the words of a command line name, with a dependency each
+    few = numbers[:450]
+    files = {f"{at}.json": {"dependencies": {f"n{at}": "npm:a@1.0.0" if int(at) % 2 else "npm:a@2"}} for at in few}
+    words = ["--packuments", "mirror", "--keep", *[word for at in few for word in ("--manifest", f"{at}.json")]]
+    yield PickRun(words, {**files, "mirror/a.json": three}, ["a@1.0.0", "a@2.0.0"])
+    files = {f"{at}.json": {"dependencies": {f"n{at}": "1"}} for at in few}
+    yield PickRun(words, files, [], absent[: len(few)], 1)
+    # long texts
+    long = "a" * 200
+    yield PickRun(keep, {"package.json": {"dependencies": {long: "^1 " + "|| ^1 " * (LONG // 6)}}, f"mirror/{long}.json": three},
+                  [f"{long}@1.2.0"])

@@ -103,6 +103,37 @@ def index_faults(log):
     return faults
 
 
+# A message string by the standard, sections 3.11.5 and 3.11.6: a brace written twice, a bracket or a backslash after a backslash, a
+# placeholder, a link, or another character.
+PIECES = re.compile(r"(\{\{|\}\}|\\[][\\])|(\{\d+\}|\[(?:[^][\\]|\\.)+\]\([^)]*\))|([^{}])", re.S)
+
+
+def plain(text):
+    """The text that a message string writes, which has neither a placeholder nor a link."""
+    at, read = 0, ""
+    while at < len(text):
+        piece = PIECES.match(text, at)
+        if piece is None or piece[2]:
+            raise ValueError(f"a placeholder, a link or a lone brace at {at} of {text!r}")
+        read += piece[1][1] if piece[1] else piece[3]
+        at = piece.end()
+    return read
+
+
+def message_faults(log):
+    """Messages in which a text is read as a placeholder or as a link, which no schema can say."""
+    faults = []
+    for run in log.get("runs", []):
+        texts = [it["message"]["text"] for it in run.get("results", [])]
+        texts += [it["shortDescription"]["text"] for it in run["tool"]["driver"].get("rules", []) if "shortDescription" in it]
+        for text in texts:
+            try:
+                plain(text)
+            except ValueError as error:
+                faults.append(str(error))
+    return faults
+
+
 def faults(text):
     """What is wrong with a text that is to be a log."""
     import jsonschema
@@ -113,7 +144,7 @@ def faults(text):
     found = member_faults(log)
     checker = jsonschema.Draft7Validator(schema(), format_checker=jsonschema.FormatChecker())
     found += [f"{it.json_path}: {it.message}" for it in checker.iter_errors(log)]
-    return found or index_faults(log)
+    return found or index_faults(log) + message_faults(log)
 
 
 MADE_UP = {
@@ -125,7 +156,7 @@ MADE_UP = {
         "invocations": [{"executionSuccessful": False}],
         "columnKind": "unicodeCodePoints",
         "results": [{
-            "ruleId": "invalid", "ruleIndex": 0, "level": "error", "message": {"text": "b 1.0.0 is outside"},
+            "ruleId": "invalid", "ruleIndex": 0, "level": "error", "message": {"text": "b 1.0.0 is outside: a{{0}}, [0], \\\\x, \\[b\\](1)"},
             "locations": [{"physicalLocation": {
                 "artifactLocation": {"uri": "a%20b/package-lock.json"}, "region": {"startLine": 3, "startColumn": 7}}}]}],
     }],
@@ -150,6 +181,10 @@ CHANGES = [
     (("runs", 0, "invocations", 0, "successful"), True),
     (("runs", 0, "columnKind"), "bytes"),
     ((*RESULT, "message"), "text"),
+    ((*RESULT, "message", "text"), "a{0} is outside"),
+    ((*RESULT, "message", "text"), "a} is outside"),
+    ((*RESULT, "message", "text"), "see [the fix](https://a.example)"),
+    ((*RESULT, "message", "text"), "see \\\\[the fix](1)"),
     ((*RESULT, "message"), None),
     ((*RESULT, "level"), "fatal"),
     ((*RESULT, "ruleId"), "missing"),

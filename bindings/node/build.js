@@ -1,8 +1,8 @@
 // SPDX-License-Identifier: Apache-2.0
 // Builds the two native parts with the node-gyp that npm ships: one of the package, and one of `pick.js`. In a clone it
 // first builds the C libraries of `../c`, and copies them into `lib`, and the licence to here; a package from `npm pack`
-// has them. The package of a release also has the native parts themselves, in `prebuilt`, which are taken where they can
-// be loaded.
+// has them. The package of a release also has the native parts themselves, in `prebuilt`, where internal/load.js finds them: then
+// nothing is built.
 //
 //     node build.js              builds build/Release/node_semver.node and build/Release/npm_pick.node
 //     node build.js --library    builds and copies the libraries and the licence alone
@@ -46,17 +46,13 @@ function copyLibrary() {
 
 const NATIVE = ['node_semver.node', 'npm_pick.node'];
 
-// Takes the native parts of `prebuilt` if they are there for this system, and a process of its own can load them.
-function takePrebuilt() {
+// Whether the native parts of `prebuilt` are there for this system, and a process of its own can load them: then they are used
+// where they are.
+function isPrebuilt() {
     const from = path.join(__dirname, 'prebuilt', `${process.platform}-${process.arch}`);
     const files = NATIVE.map((name) => path.join(from, name));
     const load = ['-e', 'process.argv.slice(1).forEach(require)', ...files];
-    if (!files.every((file) => fs.existsSync(file)) || spawnSync(process.execPath, load).status !== 0) {
-        return false;
-    }
-    fs.mkdirSync(path.join(__dirname, 'build/Release'), { recursive: true });
-    NATIVE.forEach((name) => fs.copyFileSync(path.join(from, name), path.join(__dirname, 'build/Release', name)));
-    return true;
+    return files.every((file) => fs.existsSync(file)) && spawnSync(process.execPath, load).status === 0;
 }
 
 // npm passes the path of its node-gyp to its scripts. Otherwise it is in the npm beside Node.
@@ -84,7 +80,7 @@ function headers() {
 
 if (process.argv.includes('--library')) {
     copyLibrary();
-} else if (!takePrebuilt()) {
+} else if (!isPrebuilt()) {
     copyLibrary();
     run(process.execPath, [findGyp(), 'rebuild', '--silent', ...headers()]);
 }

@@ -24,9 +24,9 @@ PICK = "libnpm_pick.a"
 # What the extension and the library call to allocate.
 ALLOCATORS = [
     "malloc", "realloc", "_PyObject_GC_New", "PyMem_Malloc", "PyMem_Calloc", "PyUnicode_FromString",
-    "PyUnicode_FromStringAndSize", "PyUnicode_FromFormat", "PyTuple_New", "PyList_New", "PyList_Append",
-    "PyList_AsTuple", "PySequence_List", "PyLong_FromUnsignedLongLong", "PyLong_FromString", "PyObject_CallFunction",
-    "Py_BuildValue",
+    "PyUnicode_FromStringAndSize", "PyUnicode_FromFormat", "PyBytes_FromStringAndSize", "PyTuple_New", "PyList_New",
+    "PyList_Append", "PyList_AsTuple", "PySequence_List", "PyLong_FromUnsignedLong", "PyLong_FromUnsignedLongLong",
+    "PyLong_FromString", "PyObject_CallFunction", "Py_BuildValue",
 ]  # fmt: skip
 
 

@@ -22,6 +22,9 @@
  *   It may be made again.
  * - No call is made from a signal handler, or in the forked child of a program with threads. The library keeps no
  *   state.
+ * - Time. A call takes time in proportion to its texts, but for these: an intersection and a difference may make a set of each
+ *   two sets of the ranges, and a search for a least version of two ranges may try each end of a set against all sets of
+ *   both. If strangers write the ranges, ask node_semver_range_set_count first: 4,000 sets each are 16 million pairs.
  */
 #ifndef NODE_SEMVER_H
 #define NODE_SEMVER_H
@@ -98,7 +101,8 @@ node_semver_status node_semver_version_parse(const char *text, size_t length, no
                                              node_semver_fault *fault);
 
 /* Parses a version by the grammar of SemVer 2.0.0: `1.2.3-alpha.1+5`, and not `v1.2.3`, `01.2.3`, `1.2.3alpha` or
- * `1.2.3-01`. If node_semver_version_parse reads the text and this call does not, the fault is NODE_SEMVER_OTHER at the
+ * `1.2.3-01`. That grammar has zeros at the start of a number in the build, and they are not kept: `1.2.3+001` is read, and
+ * is the version `1.2.3+1`. If node_semver_version_parse reads the text and this call does not, the fault is NODE_SEMVER_OTHER at the
  * first number or identifier that this grammar does not have: at 4 in `1.2.3alpha`. */
 #define NODE_SEMVER_HAS_PARSE_STRICT 1
 node_semver_status node_semver_version_parse_strict(const char *text, size_t length, node_semver_version *version,
@@ -107,7 +111,8 @@ node_semver_status node_semver_version_parse_strict(const char *text, size_t len
 /* Frees a version. Does nothing for an empty handle. */
 void node_semver_version_free(node_semver_version version);
 
-/* Prints a version: major, minor and patch with dots between, `-` and the prerelease, `+` and the build. Returns the
+/* Prints a version: major, minor and patch with dots between, `-` and the prerelease, `+` and the build. It prints the
+ * version and not the text that was parsed: `1.2.3+1` for `1.2.3+001`, and `1.2.3-alpha` for `v1.2.3alpha`. Returns the
  * length of the text. If the text fits the array, it is written at the start of the array, with no zero after it; the
  * rest of the array, or all of it where the text does not fit, stays as it was. Returns 0 and writes nothing if an
  * allocation fails. */
@@ -173,7 +178,9 @@ node_semver_status node_semver_version_coerce(const char *text, size_t length, b
 node_semver_status node_semver_version_coerce_with_prerelease(const char *text, size_t length, bool rtl,
                                                               node_semver_version *answer);
 
-/* Returns a hash. Versions for which node_semver_version_compare returns 0 have the same hash. */
+/* Returns a hash. Versions for which node_semver_version_compare returns 0 have the same hash. It has no seed, and others can
+ * write versions that all have one hash: in a table of strangers' versions hash the bytes of node_semver_version_key with a
+ * seed of your own. */
 uint64_t node_semver_version_hash(const node_semver_version *version);
 
 /* Returns whether the version has a prerelease. */
@@ -219,7 +226,7 @@ size_t node_semver_range_print(const node_semver_range *range, char *room, size_
 /* Returns whether both ranges have the same number of sets, and at each place the same ends but for builds. */
 bool node_semver_range_equals(const node_semver_range *one, const node_semver_range *other);
 
-/* Returns a hash. Ranges that are equal have the same hash. */
+/* Returns a hash. Ranges that are equal have the same hash. It has no seed either. */
 uint64_t node_semver_range_hash(const node_semver_range *range);
 
 /* Returns whether the version satisfies the range: it lies inside one of the sets and, if it is a prerelease, an end

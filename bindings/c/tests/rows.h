@@ -18,6 +18,8 @@ static const struct row rows[] = {
     {"print", "v", {"\xff"}, "not UTF-8"},
     /* The grammar of SemVer 2.0.0. */
     {"print", "s", {"1.2.3-a.1+b"}, "1.2.3-a.1+b"},
+    {"print", "s", {"1.2.3+001"}, "1.2.3+1"},
+    {"print", "s", {"1.2.3+0.00.0a"}, "1.2.3+0.0.0a"},
     {"print", "s", {"0.0.0-0"}, "0.0.0-0"},
     {"print", "s", {"v1.2.3"}, "refused 7 0 0"},
     {"print", "s", {" 1.2.3"}, "refused 7 0 0"},

@@ -95,12 +95,16 @@ function judge(modules) {
     return result;
 }
 
-module.exports = { judge };
+// A text for a terminal: what it would obey, and what no line has, by its number.
+const shown = (text) => String(text).replace(/[\x00-\x1f\x7f-\x9f\u061c\u200e\u200f\u2028-\u202e\u2066-\u2069]/g,
+    (character) => `\\u${character.charCodeAt(0).toString(16).padStart(4, '0')}`);
+
+module.exports = { judge, shown };
 
 if (require.main === module) {
     const { packages, dependencies, wrong, notRanges } = judge(process.argv[2] ?? 'node_modules');
     wrong.forEach(({ asks, name, range, version }) =>
-        console.log(`${asks}\t${name}\t${range}\t${version ?? 'missing'}`));
+        console.log([asks, name, range, version ?? 'missing'].map(shown).join('\t')));
     console.error(`${packages} packages, ${dependencies} dependencies, ${wrong.length} not satisfied, `
         + `${notRanges.length} without a range`);
     process.exitCode = wrong.length > 0 ? 1 : 0;

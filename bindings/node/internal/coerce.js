@@ -4,6 +4,7 @@
 'use strict';
 
 const native = require('./native.js');
+const { isForeignSemVer } = require('./foreign.js');
 const { parseOptions } = require('./options.js');
 const { SemVer } = require('./semver.js');
 const { parse } = require('./versions.js');
@@ -41,7 +42,7 @@ function coerce(version, options) {
     }
     const text = typeof version === 'number' ? String(version) : version;
     if (typeof text !== 'string') {
-        return null;
+        return isForeignSemVer(version) ? parse(version, options) : null;
     }
     const { rtl, includePrerelease } = options || {};
     if (!parseOptions(options).loose) {

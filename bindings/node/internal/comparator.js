@@ -3,6 +3,7 @@
 'use strict';
 
 const native = require('./native.js');
+const { isForeignComparator } = require('./foreign.js');
 const { flagsOf, parseOptions } = require('./options.js');
 const { keptKey } = require('./kept.js');
 const { SemVer, compareVersions, keyOfSemVer } = require('./semver.js');
@@ -15,6 +16,9 @@ const [FORM, LOOSE_FORM] = [safeRe[t.COMPARATOR], safeRe[t.COMPARATORLOOSE]];
 
 // The `semver` of a comparator that admits any version.
 const ANY = Symbol('SemVer ANY');
+
+// That of npm's own package is another symbol of the same name.
+const isAny = (value) => value === ANY || (typeof value === 'symbol' && value.description === ANY.description);
 
 // Marks a constructor's call that passes an operator and a version.
 const MADE = Symbol('made');
@@ -32,6 +36,8 @@ class Comparator {
                 return comparator;
             }
             text = comparator.value;
+        } else if (isForeignComparator(comparator)) {
+            text = comparator.value;
         }
         this.options = parsed;
         this.loose = !!parsed.loose;
@@ -45,8 +51,9 @@ class Comparator {
 
     parse(text) {
         const [, operator, version] = /^([<>]?=?)\s*(.*)$/s.exec(text);
+        const semver = text === '' ? ANY : readVersion(version, text, this.loose);
         this.operator = operator === '=' ? '' : operator;
-        this.semver = text === '' ? ANY : readVersion(version, text, this.loose);
+        this.semver = semver;
     }
 
     toString() {
@@ -54,7 +61,7 @@ class Comparator {
     }
 
     test(version) {
-        if (this.semver === ANY || version === ANY) {
+        if (this.semver === ANY || isAny(version)) {
             return true;
         }
         let read = version;
@@ -73,6 +80,9 @@ class Comparator {
 
     // Whether the two have a version in common, as npm decides it.
     intersects(comparator, options) {
+        if (isForeignComparator(comparator) && !(comparator instanceof Comparator)) {
+            return this.intersects(new Comparator(comparator, comparator.loose), options);
+        }
         if (!(comparator instanceof Comparator)) {
             throw new TypeError('a Comparator is required');
         }

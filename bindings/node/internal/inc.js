@@ -45,14 +45,16 @@ const anew = (call) => (semVer) => {
     call(semVer);
 };
 
-// What a release type without a prerelease does with the numbers; `undefined` for another one.
-function numbersRaiser(release) {
+// Raises the numbers for a release type without a prerelease. Returns false, and changes nothing, for another one.
+function isRaised(semVer, release) {
     switch (release) {
-        case 'major': return raiseMajor;
-        case 'minor': return raiseMinor;
-        case 'patch': return raisePatch;
-        default: return undefined;
+        case 'major': raiseMajor(semVer); break;
+        case 'minor': raiseMinor(semVer); break;
+        case 'patch': raisePatch(semVer); break;
+        default: return false;
     }
+    semVer.prerelease = [];
+    return true;
 }
 
 // Those with a prerelease, and whether it follows that of the old version.
@@ -100,11 +102,7 @@ function raisePrerelease(semVer, release, identifier, identifierBase) {
 
 // Raises a SemVer in place. Its build stays.
 function raise(semVer, release, identifier, identifierBase) {
-    const raiseNumbers = numbersRaiser(release);
-    if (raiseNumbers !== undefined) {
-        raiseNumbers(semVer);
-        semVer.prerelease = [];
-    } else {
+    if (!isRaised(semVer, release)) {
         raisePrerelease(semVer, release, identifier, identifierBase);
     }
     const version = semVer.format();

@@ -5,9 +5,14 @@
 const native = require('./native.js');
 const { trimmedRange } = require('./texts.js');
 
-// How many ranges the native part keeps, `PLACES` of src/binding.h, and the greatest length of a text that is kept.
+// How many ranges of short texts the native part keeps, `PLACES` of src/binding.h, and the greatest length of such a text.
 const PLACES = 512;
-const LONGEST_KEPT = 128;
+const LONGEST_SHORT = 128;
+
+// How many ranges of longer texts it keeps in another table, and how many characters these have in all. A text that has more is
+// read at each call. So no text takes memory that grows with the calls.
+const LONG_PLACES = 64;
+const MOST_CHARACTERS = 2 ** 18;
 
 // The places of this load of the package. The native part frees them with this object.
 const table = native.makeTable();
@@ -31,8 +36,10 @@ const prints = new Map();
 // text that is too long. The next text that is kept may take the place, so nothing runs between this and the call that
 // gets the place.
 function placeOf(text, flags, isTrimmed) {
-    return newer[flags][text] ?? older[flags][text]
-        ?? (text.length > LONGEST_KEPT ? undefined : keep(text, flags, isTrimmed));
+    if (text.length > LONGEST_SHORT) {
+        return longs[flags].get(text) ?? keepLong(text, flags, isTrimmed);
+    }
+    return newer[flags][text] ?? older[flags][text] ?? keep(text, flags, isTrimmed);
 }
 
 // The key of a range text: its place, or the text itself; or -1.
@@ -40,6 +47,7 @@ const keptKey = (text, flags, isTrimmed) => placeOf(text, flags, isTrimmed) ?? t
 
 // The key of a range text, which stays its key.
 const textKey = (text, flags) => `${flags}${text}`;
+const textOfKey = (key) => key.slice(1);
 
 function keep(text, flags, isTrimmed) {
     const place = table.first + next;
@@ -54,4 +62,44 @@ function keep(text, flags, isTrimmed) {
     return found;
 }
 
-module.exports = { LONGEST_KEPT, REFUSED, keptKey, placeOf, prints, textKey };
+// ---- longer texts ----
+
+const longTable = native.makeTable();
+const longs = Array.from({ length: 4 }, () => new Map());
+const free = Array.from({ length: LONG_PLACES }, (_, i) => longTable.first + i);
+
+// The texts in the order in which they came, of which the oldest go first.
+const inOrder = new Set();
+let characters = 0;
+
+function forgetOldest() {
+    const [entry] = inOrder;
+    inOrder.delete(entry);
+    longs[entry.flags].delete(entry.text);
+    characters -= entry.text.length;
+    free.push(entry.place);
+    prints.delete(entry.place);
+    native.keep(entry.place, NO_RANGE, 0);
+}
+
+// A text that is no range, for which a place is made empty.
+const NO_RANGE = '\0';
+
+function keepLong(text, flags, isTrimmed) {
+    if (text.length > MOST_CHARACTERS) {
+        return undefined;
+    }
+    while (free.length === 0 || characters + text.length > MOST_CHARACTERS) {
+        forgetOldest();
+    }
+    const place = free.pop();
+    const found = native.keep(place, isTrimmed ? text : trimmedRange(text), flags) ? place : REFUSED;
+    // A string of its own, for the same reason.
+    const entry = { text: textOfKey(textKey(text, flags)), flags, place };
+    longs[flags].set(entry.text, found);
+    inOrder.add(entry);
+    characters += text.length;
+    return found;
+}
+
+module.exports = { REFUSED, keptKey, placeOf, prints, textKey, textOfKey };

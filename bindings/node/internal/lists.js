@@ -51,7 +51,7 @@ function keyOf(version, options) {
         return keyOfSemVer(new SemVer(version, options));
     }
     const key = trimmedVersion(version);
-    return options && parseOptions(options).loose ? strictText(key) || key : key;
+    return parseOptions(options).loose ? strictText(key) || key : key;
 }
 
 // The lines of versions, or `undefined` if they cannot be written so.

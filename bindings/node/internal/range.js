@@ -4,8 +4,9 @@
 
 const native = require('./native.js');
 const { caught } = require('./errors.js');
-const { Comparator } = require('./comparator.js');
-const { LONGEST_KEPT, REFUSED, keptKey, textKey } = require('./kept.js');
+const { isForeignComparator, isForeignRange, optionsOfForeign } = require('./foreign.js');
+const { Comparator, comparatorOf, ANY } = require('./comparator.js');
+const { REFUSED, keptKey, placeOf, textKey, textOfKey } = require('./kept.js');
 const { flagsOf, parseOptions } = require('./options.js');
 const { SemVer, keyOfSemVer, semVerOfKey } = require('./semver.js');
 const { strictText, trimmedRange, trimmedVersion } = require('./texts.js');
@@ -14,11 +15,12 @@ const { readAlternative, readSet, refusal, setOf } = require('./words.js');
 // The kinds of cuts, by their numbers in node_semver.h.
 const KINDS = ['start', 'before', 'after', 'end'];
 
-// Replaces `||` in a text that is read as one alternative. No comparator has it.
-const BAR = '\0';
-
-// A word with it, whose operator is joined with a partial that follows.
-const APART = /(\0[^ ]*[<>=~^]) (?=[v=]*[\dxX*])/g;
+// Replaces `||` in a text that is read as one alternative: no comparator has such a character. The character itself is
+// replaced too, so that a text can be put together again.
+const MARK = '\0';
+const [BAR, SAME] = [`${MARK}\x02`, `${MARK}\x01`];
+const withoutBars = (text) => text.replaceAll(MARK, SAME).replaceAll('||', BAR);
+const withBars = (text) => text.replaceAll(BAR, '||').replaceAll(SAME, MARK);
 
 let keyOfRange;
 let callKey;
@@ -32,11 +34,10 @@ const standIns = new WeakMap();
 const MADE = Symbol('made');
 
 class Range {
-    // The text and its options; `#held` is what the native part holds of a long text, or of a range that no text writes.
+    // The text and its options; or the key of a range that was made of others.
     #text;
     #flags;
-    #held;
-    #isMade;
+    #made;
     #set;
     #range;
 
@@ -50,28 +51,15 @@ class Range {
         this.loose = !!loose;
         this.includePrerelease = !!includePrerelease;
         this.#flags = flagsOf(this);
-        this.#isMade = made === MADE;
         if (made === MADE) {
-            this.#held = range;
-            if (typeof range === 'string') {
-                this.raw = native.rangeText(range);
-            } else {
-                printLater(this, range);
-            }
+            this.#made = range;
+            this.raw = typeof range === 'string' ? textOfKey(range) : native.rangeText(range);
         } else {
             this.raw = typeof range === 'string' ? trimmedRange(range) : textOfRange(range);
             this.#text = this.raw;
-            this.#read();
-        }
-    }
-
-    // Reads the text, which the native part keeps, or this object holds.
-    #read() {
-        if (this.raw.length > LONGEST_KEPT) {
-            this.#held = native.heldRange(textKey(this.raw, this.#flags));
-        }
-        if (this.#held === null || (this.#held === undefined && keptKey(this.raw, this.#flags, true) === REFUSED)) {
-            throw new TypeError(refusal(this.raw, this.#flags));
+            if (!isRead(this.raw, this.#flags)) {
+                throw new TypeError(refusal(this.raw, this.#flags));
+            }
         }
     }
 
@@ -81,11 +69,11 @@ class Range {
         own = (range) => (#text in range ? range : standIn(range));
         callKey = (range) => {
             const mine = own(range);
-            return mine.#held ?? keptKey(mine.#text, mine.#flags, true);
+            return mine.#made ?? keptKey(mine.#text, mine.#flags, true);
         };
         keyOfRange = (range) => {
             const mine = own(range);
-            return mine.#held ?? textKey(mine.#text, mine.#flags);
+            return mine.#made ?? textKey(mine.#text, mine.#flags);
         };
         rangeOfKey = (key, options) => (key === null ? null : new Range(key, options, MADE));
     }
@@ -116,7 +104,8 @@ class Range {
     // npm's comparators, which are made when they are first asked for.
     get set() {
         const mine = own(this);
-        mine.#set ??= mine.#isMade ? setOf(keyOfRange(mine), mine.options) : readSet(mine.#text, mine.#flags, mine.options);
+        mine.#set ??= mine.#made !== undefined ? setOf(mine.#made, mine.options)
+            : readSet(mine.#text, mine.#flags, mine.options);
         return mine.#set;
     }
 
@@ -151,12 +140,15 @@ class Range {
     // The comparators of a text without `||`: a word with it is none.
     parseRange(range) {
         const flags = flagsOf(this);
-        const text = trimmedRange(range).replaceAll('||', BAR).replace(APART, '$1');
+        const text = joined(withoutBars(trimmedRange(range)));
         const comparators = readAlternative(text, flags, this.options);
-        if (comparators.length === 0 && !this.loose) {
-            throw new TypeError(refusal(text, flags).replaceAll(BAR, '||'));
+        if (comparators.length > 0) {
+            return comparators;
         }
-        return comparators;
+        if (!this.loose) {
+            throw new TypeError(withBars(refusal(text, flags)));
+        }
+        return /^ | $/.test(range) ? [comparatorOf('', ANY, this.options)] : [];
     }
 
     test(version) {
@@ -171,6 +163,9 @@ class Range {
     }
 
     intersects(range, options) {
+        if (isForeignRange(range) && !(range instanceof Range)) {
+            return this.intersects(new Range(range.raw, optionsOfForeign(range)), options);
+        }
         if (!(range instanceof Range)) {
             throw new TypeError('a Range is required');
         }
@@ -180,12 +175,20 @@ class Range {
     }
 }
 
-// Gives a Range that was made of others its text when it is first asked for, since it may be long.
-function printLater(range, key) {
-    const put = (value) => Object.defineProperty(range, 'raw', { value, enumerable: true, configurable: true, writable: true });
-    const get = () => put(native.rangeText(key)).raw;
-    Object.defineProperty(range, 'raw', { get, set: put, enumerable: true, configurable: true });
+// Whether the library reads the text.
+function isRead(text, flags) {
+    const place = placeOf(text, flags, true);
+    return place === undefined ? native.refusedAt(textKey(text, flags)) === null : place !== REFUSED;
 }
+
+// A word with `||` whose operator is joined with a partial that follows. The words of other texts are joined as the library
+// joins them.
+const isJoined = (word, next) => word.includes(BAR) && /[<>=~^]/.test(word.at(-1)) && /^[v=]*[\dxX*]/.test(next);
+
+const joined = (text) => text.split(' ').reduce((list, word, i, words) => {
+    list.push(i > 0 && !isJoined(words[i - 1], word) ? ' ' : '', word);
+    return list;
+}, []).join('');
 
 // The Range of the text of an object that has no private fields.
 function standIn(range) {
@@ -224,20 +227,14 @@ function textOfRange(range) {
     if (range instanceof Range) {
         return range.raw;
     }
-    if (range instanceof Comparator) {
+    if (range instanceof Comparator || isForeignComparator(range)) {
         return range.value;
     }
-    const text = otherText(range) ?? range.trim().split(/\s+/).join(' ');
+    const text = isForeignRange(range) ? range.raw : range.trim().split(/\s+/).join(' ');
     if (typeof text !== 'string') {
         throw new TypeError(`Invalid range. Must be a string. Got type "${typeof range}".`);
     }
     return text;
-}
-
-// The text of a Range of npm's own package.
-function otherText(range) {
-    return typeof range === 'object' && range?.constructor?.name === 'Range' && typeof range.trim !== 'function'
-        ? range.raw : undefined;
 }
 
 // The Range of an argument; `undefined` if it is none.

@@ -14,7 +14,7 @@ const { gt } = require('./versions.js');
 
 function satisfies(version, range, options) {
     if (typeof version === 'string' && typeof range === 'string') {
-        const flags = options ? flagsOf(parseOptions(options)) : 0;
+        const flags = flagsOf(parseOptions(options));
         const text = trimmedVersion(version);
         const key = keptKey(range, flags);
         return key !== REFUSED && (native.satisfies(text, key)
@@ -99,20 +99,20 @@ const intersects = (one, other, options) => new Range(one, options).intersects(n
 // The keys of two ranges. Throws where one is none.
 const both = (one, other, options) => [keyOfRange(new Range(one, options)), keyOfRange(new Range(other, options))];
 
-// The range that the native part makes of two, or null. It makes none of more than 1,000,000 pairs of sets.
+// The key that the native part makes of two ranges, or null. It makes none of more than 1,000,000 pairs of sets, since the time
+// grows with them.
 function madeOf(call, one, other, options) {
     const key = call(...both(one, other, options));
     if (key === undefined) {
         throw Object.assign(new RangeError('the two ranges have more than 1,000,000 pairs of sets'),
             { code: 'ERR_OUT_OF_RANGE' });
     }
-    return rangeOfKey(key, options);
+    return key;
 }
 
-const intersect = (one, other, options) => madeOf(native.intersect, one, other, options);
-const difference = (one, other, options) => madeOf(native.difference, one, other, options);
-
-const leastBeyond = (one, other, options) => semVerOfKey(native.leastBeyond(...both(one, other, options)));
+const intersect = (one, other, options) => rangeOfKey(madeOf(native.intersect, one, other, options), options);
+const difference = (one, other, options) => rangeOfKey(madeOf(native.difference, one, other, options), options);
+const leastBeyond = (one, other, options) => semVerOfKey(madeOf(native.leastBeyond, one, other, options));
 const leastCommon = (one, other, options) => semVerOfKey(native.leastCommon(...both(one, other, options)));
 
 module.exports = {

@@ -3,16 +3,17 @@
 'use strict';
 
 const native = require('./native.js');
+const { isForeignSemVer, optionsOfForeign, textWithBuild } = require('./foreign.js');
 const { compareIdentifiers } = require('./identifiers.js');
 const { parseOptions } = require('./options.js');
 const { LONGEST_VERSION, strictText, trimmedVersion, withoutBuild, withoutV } = require('./texts.js');
 
-// Where `native.readVersion` puts the three numbers of a version.
-const numbers = native.triple;
-
-// What `native.readVersion` returns, beside 2 for a version with a prerelease or a build.
+// What `native.readVersion` returns is 0, or a number of which the last three bits are the form of the version, the next 16 are
+// the patch, and then the minor and the major. Where one of these is larger, they are not in it.
 const REFUSED = 0;
 const IS_TRIPLE = 1;
+const LARGE = 4;
+const [OF_PATCH, OF_MINOR, OF_MAJOR, BITS] = [2 ** 3, 2 ** 19, 2 ** 35, 0xffff];
 
 // An identifier of digits is a number where JavaScript has that number, as with npm.
 function identifierOf(text) {
@@ -20,12 +21,20 @@ function identifierOf(text) {
     return /^[0-9]+$/.test(text) && number < Number.MAX_SAFE_INTEGER ? number : text;
 }
 
-// Puts the parts of a version, of which the native part has just read the text and put the triple into `numbers`.
-function putParts(semVer, text, form) {
-    semVer.major = numbers[0];
-    semVer.minor = numbers[1];
-    semVer.patch = numbers[2];
-    if (form === IS_TRIPLE) {
+function putNumbers(semVer, text, read) {
+    if (read & LARGE) {
+        [semVer.major, semVer.minor, semVer.patch] = text.split(/[-+]/, 1)[0].split('.').map(Number);
+    } else {
+        semVer.major = (read / OF_MAJOR) | 0;
+        semVer.minor = (read / OF_MINOR) & BITS;
+        semVer.patch = (read / OF_PATCH) & BITS;
+    }
+}
+
+// Puts the parts of a version, of whose text the native part has read this.
+function putParts(semVer, text, read) {
+    putNumbers(semVer, text, read);
+    if (read & IS_TRIPLE) {
         semVer.prerelease = [];
         semVer.build = [];
         semVer.version = text;
@@ -54,7 +63,7 @@ class SemVer {
                 && version.includePrerelease === !!includePrerelease) {
                 return version;
             }
-            text = textOfSemVer(version);
+            text = textOfSemVer(version, parsed);
         }
         if (text.length > LONGEST_VERSION) {
             throw new TypeError(`version is longer than ${LONGEST_VERSION} characters`);
@@ -63,16 +72,16 @@ class SemVer {
         this.loose = !!loose;
         this.includePrerelease = !!includePrerelease;
         let key = made === MADE ? version : text.trim();
-        let form = native.readVersion(key);
-        if (form === REFUSED && loose) {
+        let read = native.readVersion(key);
+        if (read === REFUSED && loose) {
             key = strictText(key);
-            form = native.readVersion(key);
+            read = native.readVersion(key);
         }
-        if (form === REFUSED) {
+        if (read === REFUSED) {
             throw new TypeError(refusal(text, !!loose));
         }
         this.raw = made === MADE ? native.versionText(key) : text;
-        putParts(this, made === MADE ? this.raw : withoutV(key), form);
+        putParts(this, made === MADE ? this.raw : withoutV(key), read);
         if (made === MADE && typeof key !== 'string') {
             held.set(this, key);
         }
@@ -110,18 +119,19 @@ class SemVer {
     }
 }
 
-const semVerOf = (version, { options }) => (version instanceof SemVer ? version : new SemVer(version, options));
+// A SemVer stays as it is, and one of another package keeps its own options, and so its build.
+const readVersion = (version, options) => (version instanceof SemVer ? version
+    : new SemVer(version, isForeignSemVer(version) ? optionsOfForeign(version) : options));
+const semVerOf = (version, { options }) => readVersion(version, options);
 
-// The text of an object that is passed for a version: a SemVer of this package with other options, or of npm's package.
-function textOfSemVer(version) {
+// The text of an object that is passed for a version. With other options it loses its build, as with npm.
+function textOfSemVer(version, { loose, includePrerelease }) {
     if (version instanceof SemVer) {
         return version.version;
     }
-    if (typeof version === 'object' && version?.constructor?.name === 'SemVer') {
-        const { version: text } = version;
-        if (typeof text === 'string') {
-            return text;
-        }
+    if (isForeignSemVer(version)) {
+        const isSame = version.loose === !!loose && version.includePrerelease === !!includePrerelease;
+        return isSame ? textWithBuild(version) : version.version;
     }
     throw new TypeError(`Invalid version. Must be a string. Got type "${typeof version}".`);
 }
@@ -247,6 +257,6 @@ const compareWithBuilds = (one, other, options) => compareBy(one, other, options
     compareSemVersWithBuilds);
 
 module.exports = {
-    FIRST_REFUSED, SemVer, identifierOf, semVerOfKey, keyOfSemVer, compareSemVers, compareSemVersWithBuilds,
+    FIRST_REFUSED, SemVer, identifierOf, readVersion, semVerOfKey, keyOfSemVer, compareSemVers, compareSemVersWithBuilds,
     compareVersions, compareWithBuilds,
 };

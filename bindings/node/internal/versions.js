@@ -5,8 +5,9 @@
 const native = require('./native.js');
 const { BUMPS } = require('./bumps.js');
 const { caught } = require('./errors.js');
+const { parseOptions } = require('./options.js');
 const {
-    FIRST_REFUSED, SemVer, compareSemVers, compareVersions, compareWithBuilds, keyOfSemVer,
+    FIRST_REFUSED, SemVer, compareSemVers, compareVersions, compareWithBuilds, keyOfSemVer, readVersion,
 } = require('./semver.js');
 const { trimmedVersion, withoutBuild, withoutV } = require('./texts.js');
 
@@ -15,7 +16,7 @@ function parse(version, options, throwErrors = false) {
         return version;
     }
     try {
-        return new SemVer(version, options);
+        return readVersion(version, options);
     } catch (error) {
         if (throwErrors) {
             throw error;
@@ -30,7 +31,7 @@ function valid(version, options) {
         if (native.readVersion(key) !== 0) {
             return withoutBuild(withoutV(key));
         }
-        if (!options) {
+        if (!options && !parseOptions(options).loose) {
             return null;
         }
     }

@@ -6,7 +6,7 @@
 
 const native = require('./native.js');
 const { ANY, comparatorOf } = require('./comparator.js');
-const { LONGEST_KEPT, textKey } = require('./kept.js');
+const { textKey } = require('./kept.js');
 const { INCLUDES_PRERELEASES, IS_LOOSE } = require('./options.js');
 const { semVerOfKey } = require('./semver.js');
 const { withoutBuild } = require('./texts.js');
@@ -29,8 +29,24 @@ function comparatorsOf([lower, from, upper, to], options) {
     return found.length > 0 ? found : [comparatorOf('', ANY, options)];
 }
 
-// What npm does not take for the least version, as `>=0.0.0+b`: it looks at the text of the numbers before an x.
-const ODD_ZERO = /^[^~^]*0+\.0+\.0+(?:-0+)?\+|^[^\dxX*]*(?:(?:0+\.){0,2}00|0+\.0+\.0+-00)/;
+// What a word has before its three numbers, these numbers, and what it has after them.
+const PARTS = /^([<>=~^v ]*)([\dxX*]+)(?:\.([\dxX*]+)(?:\.([\dxX*]+)(.*))?)?/s;
+
+const isX = (number) => number === undefined || /^[xX*]/.test(number);
+
+// npm leaves out a comparator of which the text is `>=0.0.0`, or `>=0.0.0-0` with prereleases: so it goes by the text of the
+// word whose comparator has this value. Where a word has three numbers and neither `~` nor `^`, npm keeps the text as it is
+// written, with a `v`, zeros or a build; otherwise npm writes it, with the numbers before an x as they are written.
+function isLeftOut(word, least) {
+    const [, before = '', major, minor, patch, after] = PARTS.exec(word) ?? [];
+    const [isMajor, isMinor] = [isX(minor), isX(patch)];
+    if (!isMajor && !isMinor && !/[~^]/.test(before)) {
+        const [lower, upper] = word.split(' - ');
+        const text = upper === undefined ? lower.replace(/^(?:>= |> =)/, '>=') : `>=${lower}`;
+        return text === least || `${text}-0` === least;
+    }
+    return major === '0' && (isMajor || (minor === '0' && (isMinor || (patch === '0' && !/^-?00/.test(after)))));
+}
 
 // Whether the library reads a text as a partial.
 const isPartial = (text, flags) => native.sets(textKey(`^${text}`, flags)) !== null;
@@ -76,7 +92,7 @@ function comparatorsOfText(alternative, flags, options) {
             if (comparator.value === '<0.0.0-0') {
                 return [comparator];
             }
-            const isAny = comparator.value === least && !ODD_ZERO.test(word);
+            const isAny = comparator.value === least && isLeftOut(word, least);
             const one = isAny ? comparatorOf('', ANY, options) : comparator;
             found.set(one.value, one);
         }
@@ -108,8 +124,10 @@ const alternatives = new WeakMap();
 const isSameText = (one, other) => one === other
     || (alternatives.has(one) && alternatives.get(one) === alternatives.get(other));
 
-// The alternatives that were read last, as properties: see kept.js. npm keeps them too.
+// The alternatives that were read last, as properties: see kept.js. npm keeps them too. A long one has many comparators, so it
+// is not kept.
 const MOST_KEPT = 500;
+const LONGEST_KEPT = 128;
 let kept = Object.create(null);
 let count = 0;
 

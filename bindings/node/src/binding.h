@@ -55,6 +55,9 @@ bool get_arguments(napi_env env, napi_callback_info info, size_t wanted, napi_va
 node_semver_status get_text(napi_env env, napi_value value, struct text *text);
 void free_text(struct text *text);
 
+/* Puts a property on an object. No setter that the object inherits is called, so no JavaScript sees it before it is whole. */
+bool define(napi_env env, napi_value object, const char *name, napi_value value);
+
 /* Results for JavaScript. */
 napi_value of_bool(napi_env env, bool value);
 napi_value of_int(napi_env env, int32_t value);
@@ -74,7 +77,6 @@ napi_value version_key(napi_env env, node_semver_version version);
 
 /* The key of a range may also be the number of a place where it is kept; a place that is empty or not there is refused. */
 node_semver_status get_range(napi_env env, napi_value key, struct range *range);
-node_semver_status get_range_text(napi_env env, napi_value text, struct range *range);
 
 /* Reads the key of a range text: NODE_SEMVER_REFUSED with the fault of a text that is refused. */
 node_semver_status get_range_fault(napi_env env, napi_value text, node_semver_fault *fault);
@@ -94,24 +96,17 @@ bool range_admits_text(const struct range *range, const char *text, size_t lengt
 bool range_best(const struct range *range, const node_semver_version *versions, size_t count, bool is_greatest,
                 size_t *place);
 
-/* An object that holds a range, which is freed when JavaScript has no use of the object. */
-napi_value held_range(napi_env env, const struct range *range);
-
 /* ---- state.c ---- */
 
 /* What an environment has for itself, since each worker thread has its own: the tables of the ranges that are kept, by
- * their numbers, NULL where one is freed; and the triple of the version that was read last, in an array of JavaScript
- * that is as old as the environment. The environment and each table use it. */
+ * their numbers, NULL where one is freed. The environment and each table use it. */
 struct state {
     struct table **tables;
     uint32_t count;
     uint32_t users;
-    double *triple;
-    napi_ref array;
 };
 
-/* Makes the state, and puts its triple on the exports. */
-bool make_state(napi_env env, napi_value exports);
+bool make_state(napi_env env);
 struct state *state_of(napi_env env);
 
 /* Frees the state when its last user is done. */
@@ -140,8 +135,8 @@ napi_value keep(napi_env env, napi_callback_info info);
 napi_value order(napi_env env, napi_callback_info info);
 
 /* best(bytes, length, count, range, isGreatest): the number of the line with the greatest or least version that satisfies the
- * range, or -1; the lines are the first `length` bytes of an Uint8Array. Of equal versions it is the first. What is no
- * version is left out. Returns -1 too if there are not `count` lines. */
+ * range, or -1; the lines are the first `length` bytes of an Uint8Array, and no other thread can write them. Of equal versions
+ * it is the first. What is no version is left out. Returns -1 too if there are not `count` lines. */
 napi_value best(napi_env env, napi_callback_info info);
 
 /* ---- sets.c ---- */

@@ -17,8 +17,9 @@ struct table {
 
 static void free_table(napi_env env, void *data, void *hint) {
     struct table *table = data;
-    (void)env;
+    int64_t all;
     (void)hint;
+    napi_adjust_external_memory(env, -(int64_t)sizeof *table, &all);
     for (size_t i = 0; i < PLACES; i++) {
         node_semver_range_free(table->places[i].handle);
     }
@@ -62,13 +63,15 @@ napi_value make_table(napi_env env, napi_callback_info info) {
     napi_value result, first;
     struct state *state = state_of(env);
     struct table *table = state == NULL ? NULL : new_table(state);
+    int64_t all;
     (void)info;
     if (table == NULL) {
         return out_of_memory(env);
     }
+    napi_adjust_external_memory(env, sizeof *table, &all);
     if (napi_create_object(env, &result) != napi_ok
         || napi_create_uint32(env, table->number * PLACES, &first) != napi_ok
-        || napi_set_named_property(env, result, "first", first) != napi_ok
+        || !define(env, result, "first", first)
         || napi_wrap(env, result, table, free_table, NULL, NULL) != napi_ok) {
         free_table(env, table, NULL);
         return out_of_memory(env);

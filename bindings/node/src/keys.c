@@ -5,15 +5,18 @@
 #include <stdlib.h>
 #include <string.h>
 
-/* What an object of this package holds: a version or a range, and the other handle is empty. */
+/* What an object of this package holds: a version or a range, and the other handle is empty. `size` is about how many
+ * bytes it takes, which V8 does not see. */
 struct held {
     node_semver_version version;
     node_semver_range range;
     bool includes_prereleases;
+    int64_t size;
 };
 
-/* How many sets a range has at most that is printed for its key. */
-#define MOST_PRINTED 64u
+/* About how many bytes a version takes, and a set of a range. */
+#define VERSION_SIZE 512
+#define SET_SIZE 256
 
 /* Node keeps a tag with each of these objects, which no other package and no JavaScript can put on an object. */
 static const napi_type_tag version_tag = {0x6d1f0c5e8a2b4973, 0xb5e09d3c7142f68a};
@@ -26,21 +29,24 @@ static void let_held_go(struct held holds) {
 
 static void free_held(napi_env env, void *data, void *hint) {
     struct held *held = data;
-    (void)env;
+    int64_t all;
     (void)hint;
+    napi_adjust_external_memory(env, -held->size, &all);
     let_held_go(*held);
     free(held);
 }
 
-/* An object that frees what it holds. What it could not take is freed at once. */
+/* An object that frees what it holds when JavaScript has no use of it. What it could not take is freed at once. */
 static napi_value object_of(napi_env env, const napi_type_tag *tag, struct held holds) {
     napi_value result = NULL;
     struct held *held = malloc(sizeof *held);
+    int64_t all;
     if (held == NULL) {
         let_held_go(holds);
         return out_of_memory(env);
     }
     *held = holds;
+    napi_adjust_external_memory(env, held->size, &all);
     if (napi_create_object(env, &result) == napi_ok && napi_type_tag_object(env, result, tag) == napi_ok
         && napi_wrap(env, result, held, free_held, NULL, NULL) == napi_ok) {
         return result;
@@ -114,7 +120,7 @@ node_semver_status read_range(const char *text, size_t length, unsigned options,
                                                &range->handle, NULL));
 }
 
-node_semver_status get_range_text(napi_env env, napi_value value, struct range *range) {
+static node_semver_status get_range_text(napi_env env, napi_value value, struct range *range) {
     struct text text;
     node_semver_status status = get_text(env, value, &text);
     if (status == NODE_SEMVER_OK) {
@@ -196,7 +202,7 @@ napi_value version_key(napi_env env, node_semver_version version) {
     napi_value print = version_print(env, &version);
     node_semver_status status = print == NULL ? THROWN : get_version(env, print, &again);
     if (status == NODE_SEMVER_REFUSED) {
-        return object_of(env, &version_tag, (struct held){.version = version});
+        return object_of(env, &version_tag, (struct held){.version = version, .size = VERSION_SIZE});
     }
     if (status == NODE_SEMVER_OK) {
         let_version_go(&again);
@@ -226,8 +232,16 @@ static napi_value text_key(napi_env env, const struct range *range) {
     return result != NULL ? result : out_of_memory(env);
 }
 
-/* The key that a print gives, where the print is read as the same range; else an object. */
-static napi_value printed_key(napi_env env, const struct range *range) {
+/* An object that holds a range. */
+static napi_value held_range(napi_env env, const struct range *range) {
+    return object_of(env, &range_tag, (struct held){
+        .range = range->handle, .includes_prereleases = range->includes_prereleases,
+        .size = SET_SIZE * (int64_t)node_semver_range_set_count(&range->handle)});
+}
+
+/* Takes the range. Its print is its key where the print is read as the same range: V8 knows how large a string is, and
+ * frees it at once. Otherwise the key is an object, which is freed when the event loop turns. */
+napi_value range_key(napi_env env, const struct range *range) {
     struct range again;
     napi_value key = text_key(env, range);
     node_semver_status status = key == NULL ? THROWN : get_range(env, key, &again);
@@ -242,13 +256,3 @@ static napi_value printed_key(napi_env env, const struct range *range) {
     return is_same ? key : failed(env, status);
 }
 
-/* Takes the range, in the same way. One of many sets is held, and not printed. */
-napi_value range_key(napi_env env, const struct range *range) {
-    return node_semver_range_set_count(&range->handle) > MOST_PRINTED ? held_range(env, range)
-                                                                      : printed_key(env, range);
-}
-
-napi_value held_range(napi_env env, const struct range *range) {
-    return object_of(env, &range_tag, (struct held){
-        .range = range->handle, .includes_prereleases = range->includes_prereleases});
-}

@@ -41,25 +41,22 @@ static void free_items(struct items *items) {
     free(items->at);
 }
 
-/* Reads each line. Where `is_each` is true, stops at the first that is no version: its number is in `line`. Otherwise
- * leaves out each line that is no version. */
-static node_semver_status read_lines(const struct text *text, bool is_each, struct items *items, uint32_t *line) {
+/* Reads each line. Stops at the first that is no version: its number is in `line`. */
+static node_semver_status read_lines(const struct text *text, struct items *items, uint32_t *line) {
     const char *begin = text->bytes, *end = text->bytes + text->length, *stop;
     for (*line = 0; (stop = memchr(begin, '\n', (size_t)(end - begin))) != NULL; ++*line) {
         struct item item = {.version = NODE_SEMVER_EMPTY, .line = *line};
         node_semver_status status = read_version(begin, (size_t)(stop - begin), &item.version);
-        if (status == NODE_SEMVER_OK) {
-            items->at[items->count++] = item;
-        } else if (is_each || status == NODE_SEMVER_OUT_OF_MEMORY) {
+        if (status != NODE_SEMVER_OK) {
             return status;
         }
+        items->at[items->count++] = item;
         begin = stop + 1;
     }
     return NODE_SEMVER_OK;
 }
 
-static node_semver_status get_items(napi_env env, napi_value lines, bool is_each, struct items *items,
-                                    uint32_t *line) {
+static node_semver_status get_items(napi_env env, napi_value lines, struct items *items, uint32_t *line) {
     struct text text;
     *items = (struct items){0};
     node_semver_status status = get_text(env, lines, &text);
@@ -67,7 +64,7 @@ static node_semver_status get_items(napi_env env, napi_value lines, bool is_each
         return status == NODE_SEMVER_REFUSED ? wrong_type(env, "no lines of versions") : status;
     }
     items->at = malloc((count_lines(&text) + 1) * sizeof *items->at);
-    status = items->at == NULL ? NODE_SEMVER_OUT_OF_MEMORY : read_lines(&text, is_each, items, line);
+    status = items->at == NULL ? NODE_SEMVER_OUT_OF_MEMORY : read_lines(&text, items, line);
     free_text(&text);
     return status;
 }
@@ -113,7 +110,7 @@ napi_value order(napi_env env, napi_callback_info info) {
         return NULL;
     }
     napi_get_value_bool(env, arguments[1], &is_descending);
-    node_semver_status status = get_items(env, arguments[0], true, &items, &line);
+    node_semver_status status = get_items(env, arguments[0], &items, &line);
     if (status == NODE_SEMVER_OK) {
         qsort(items.at, items.count, sizeof *items.at, is_descending ? descending : ascending);
         result = lines_of(env, &items);
@@ -148,10 +145,11 @@ static struct line trimmed(const char *begin, const char *end) {
     return (struct line){begin, (size_t)(end - begin)};
 }
 
-/* Reads the lines with a version that satisfies the range. */
-static node_semver_status read_satisfying(const struct text *text, const struct range *range, struct items *items) {
+/* Reads the lines with a version that satisfies the range, at most `count` lines. */
+static node_semver_status read_satisfying(const struct text *text, size_t count, const struct range *range,
+                                          struct items *items) {
     const char *begin = text->bytes, *end = text->bytes + text->length, *stop;
-    for (uint32_t number = 0; (stop = memchr(begin, '\n', (size_t)(end - begin))) != NULL; number++) {
+    for (uint32_t number = 0; number < count && (stop = memchr(begin, '\n', (size_t)(end - begin))) != NULL; number++) {
         struct line line = trimmed(begin, stop);
         struct item item = {.version = NODE_SEMVER_EMPTY, .line = number};
         if (range_admits_text(range, line.at, line.length)) {
@@ -189,7 +187,7 @@ static napi_value best_of(napi_env env, const struct text *text, size_t count, n
     int32_t line = -1;
     node_semver_status status = items.at == NULL ? NODE_SEMVER_OUT_OF_MEMORY : get_range(env, key, &range);
     if (status == NODE_SEMVER_OK) {
-        status = read_satisfying(text, &range, &items);
+        status = read_satisfying(text, count, &range, &items);
         if (status == NODE_SEMVER_OK) {
             status = best_line(&items, &range, is_greatest, &line);
         }
@@ -200,12 +198,12 @@ static napi_value best_of(napi_env env, const struct text *text, size_t count, n
 }
 
 napi_value best(napi_env env, napi_callback_info info) {
-    napi_value arguments[5];
+    napi_value arguments[5], buffer = NULL;
     struct text text;
     uint32_t length = 0, wanted = 0;
     size_t room = 0;
     void *bytes = NULL;
-    bool is_greatest = false;
+    bool is_greatest = false, is_own = false;
     napi_typedarray_type type = napi_int8_array;
     if (!get_arguments(env, info, 5, arguments)) {
         return NULL;
@@ -213,8 +211,9 @@ napi_value best(napi_env env, napi_callback_info info) {
     napi_get_value_uint32(env, arguments[1], &length);
     napi_get_value_uint32(env, arguments[2], &wanted);
     napi_get_value_bool(env, arguments[4], &is_greatest);
-    if (napi_get_typedarray_info(env, arguments[0], &type, &room, &bytes, NULL, NULL) != napi_ok
-        || type != napi_uint8_array || length > room) {
+    /* A SharedArrayBuffer, which other threads write, is no ArrayBuffer to Node. */
+    if (napi_get_typedarray_info(env, arguments[0], &type, &room, &bytes, &buffer, NULL) != napi_ok
+        || napi_is_arraybuffer(env, buffer, &is_own) != napi_ok || !is_own || type != napi_uint8_array || length > room) {
         wrong_type(env, "no lines of versions");
         return NULL;
     }

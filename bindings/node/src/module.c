@@ -26,51 +26,54 @@ static napi_value version_text(napi_env env, napi_callback_info info) {
     return result;
 }
 
-/* Puts the three numbers of the version into `triple`. Returns 1 where the version is a triple alone, and 2 where it has
- * a prerelease or a build. */
-static int32_t put_triple(struct state *state, const node_semver_version *version) {
-    state->triple[0] = (double)node_semver_version_major(version);
-    state->triple[1] = (double)node_semver_version_minor(version);
-    state->triple[2] = (double)node_semver_version_patch(version);
-    return node_semver_version_is_prerelease(version) || node_semver_version_build_count(version) > 0 ? 2 : 1;
+/* Three numbers below this are packed into one. */
+#define SMALL 65536u
+
+/* Whether the version is a triple alone, or has a prerelease or a build; or'ed with LARGE, its numbers are not in the result. */
+enum { IS_TRIPLE = 1, HAS_MORE = 2, LARGE = 4, FORMS = 8 };
+
+static int64_t packed(const node_semver_version *version) {
+    uint64_t major = node_semver_version_major(version), minor = node_semver_version_minor(version),
+             patch = node_semver_version_patch(version);
+    bool has_more = node_semver_version_is_prerelease(version) || node_semver_version_build_count(version) > 0;
+    int64_t form = has_more ? HAS_MORE : IS_TRIPLE;
+    return major < SMALL && minor < SMALL && patch < SMALL
+        ? (int64_t)((major * SMALL + minor) * SMALL + patch) * FORMS + form : LARGE + form;
 }
 
-/* readVersion(key): puts the triple of the version into `triple`. Returns 0 where the key is none, 1 where the version
- * is a triple alone, and 2 where it has a prerelease or a build. */
+/* readVersion(key): 0 where the key is none. Otherwise one number that holds the form of the version and, where they are small,
+ * its three numbers: so no memory is shared with JavaScript. */
 static napi_value read_parts(napi_env env, napi_callback_info info) {
-    napi_value key;
+    napi_value key, result = NULL;
     struct version version;
-    struct state *state = state_of(env);
-    if (state == NULL || !get_arguments(env, info, 1, &key)) {
+    if (!get_arguments(env, info, 1, &key)) {
         return NULL;
     }
     node_semver_status status = get_version(env, key, &version);
     if (status != NODE_SEMVER_OK) {
         return status == NODE_SEMVER_REFUSED ? of_int(env, 0) : failed(env, status);
     }
-    int32_t form = put_triple(state, &version.handle);
+    napi_create_int64(env, packed(&version.handle), &result);
     let_version_go(&version);
-    return of_int(env, form);
+    return result;
 }
 
 /* The print of a bumped version, or the status for which there is none. */
 static napi_value bumped(napi_env env, const struct version *version, uint32_t number, const struct text *identifier,
                          uint32_t base) {
-    struct state *state = state_of(env);
     node_semver_version made = NODE_SEMVER_EMPTY;
     node_semver_status status =
         node_semver_version_bump(&version->handle, number, identifier->bytes, identifier->length, base, &made);
-    if (status != NODE_SEMVER_OK || state == NULL) {
+    if (status != NODE_SEMVER_OK) {
         return status == NODE_SEMVER_OUT_OF_MEMORY ? out_of_memory(env) : of_int(env, (int32_t)status);
     }
-    put_triple(state, &made);
     napi_value print = version_print(env, &made);
     node_semver_version_free(made);
     return print;
 }
 
-/* bump(key, number, identifier, base): puts the triple of the version after the bump into `triple`, and returns its
- * print; or the status of node_semver.h for which there is none. */
+/* bump(key, number, identifier, base): the print of the version after the bump; or the status of node_semver.h for which
+ * there is none. */
 static napi_value bump(napi_env env, napi_callback_info info) {
     napi_value arguments[4], result = NULL;
     struct version version;
@@ -137,20 +140,6 @@ static napi_value range_text(napi_env env, napi_callback_info info) {
     result = range_print(env, &range.handle);
     let_range_go(&range);
     return result;
-}
-
-/* heldRange(text): an object for a long text, so that it is not read again at each call; null where it is refused. */
-static napi_value held_text(napi_env env, napi_callback_info info) {
-    napi_value value;
-    struct range range;
-    if (!get_arguments(env, info, 1, &value)) {
-        return NULL;
-    }
-    node_semver_status status = get_range_text(env, value, &range);
-    if (status == NODE_SEMVER_REFUSED) {
-        return of_null(env);
-    }
-    return status == NODE_SEMVER_OK ? held_range(env, &range) : failed(env, status);
 }
 
 /* refusedAt(text): the byte offset at which a range text is refused; null where it is read. */
@@ -299,7 +288,7 @@ static napi_value made_version(napi_env env, node_semver_status status, node_sem
 }
 
 /* Whether the sets of two ranges are at most `MOST_PAIRS` pairs. A range that is made of both may have a set for each
- * pair. */
+ * pair, and the least version of the one beyond the other is looked for in each. */
 static bool are_few(const struct range *one, const struct range *other) {
     size_t left = node_semver_range_set_count(&one->handle), right = node_semver_range_set_count(&other->handle);
     return right == 0 || left <= MOST_PAIRS / right;
@@ -324,6 +313,9 @@ static napi_value rest(napi_env env, const struct range *one, const struct range
 }
 
 static napi_value beyond(napi_env env, const struct range *one, const struct range *other) {
+    if (!are_few(one, other)) {
+        return NULL;
+    }
     node_semver_version made = NODE_SEMVER_EMPTY;
     node_semver_status status = include_prereleases(one, other)
         ? node_semver_least_beyond_with_prereleases(&one->handle, &other->handle, &made)
@@ -340,7 +332,7 @@ static napi_value least_of_both(napi_env env, const struct range *one, const str
 }
 
 /* intersect(one, other), difference(one, other), leastBeyond(one, other), leastCommon(one, other): the key of the new
- * range or version, or null if there is none. The first two return undefined for too many pairs of sets. */
+ * range or version, or null if there is none. The first three return undefined for too many pairs of sets. */
 static napi_value intersect(napi_env env, napi_callback_info info) {
     return with_ranges(env, info, common);
 }
@@ -362,19 +354,18 @@ static napi_value least_common(napi_env env, napi_callback_info info) {
 NAPI_MODULE_INIT() {
     const napi_property_descriptor functions[] = {
         FUNCTION("versionText", version_text), FUNCTION("rangeText", range_text),
-        FUNCTION("heldRange", held_text),      FUNCTION("compare", compare),
-        FUNCTION("compareBuild", compare_build), FUNCTION("satisfies", satisfies),
-        FUNCTION("best", best),                FUNCTION("order", order),
-        FUNCTION("diff", diff),                FUNCTION("intersect", intersect),
-        FUNCTION("difference", difference),    FUNCTION("leastBeyond", least_beyond),
+        FUNCTION("compare", compare),          FUNCTION("compareBuild", compare_build),
+        FUNCTION("satisfies", satisfies),      FUNCTION("best", best),
+        FUNCTION("order", order),              FUNCTION("diff", diff),
+        FUNCTION("intersect", intersect),      FUNCTION("difference", difference),
+        FUNCTION("leastBeyond", least_beyond), FUNCTION("leastCommon", least_common),
         FUNCTION("keep", keep),                FUNCTION("bump", bump),
         FUNCTION("readVersion", read_parts),   FUNCTION("sets", sets),
-        FUNCTION("fromSets", from_sets),       FUNCTION("leastCommon", least_common),
-        FUNCTION("coerce", coerce),            FUNCTION("makeTable", make_table),
-        FUNCTION("sortKey", sort_key),         FUNCTION("intervals", intervals),
-        FUNCTION("refusedAt", refused_at),
+        FUNCTION("fromSets", from_sets),       FUNCTION("coerce", coerce),
+        FUNCTION("makeTable", make_table),     FUNCTION("sortKey", sort_key),
+        FUNCTION("intervals", intervals),      FUNCTION("refusedAt", refused_at),
     };
-    if (!make_state(env, exports)) {
+    if (!make_state(env)) {
         return out_of_memory(env);
     }
     napi_define_properties(env, exports, sizeof functions / sizeof functions[0], functions);

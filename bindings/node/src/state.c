@@ -17,22 +17,13 @@ static void free_state(napi_env env, void *data, void *hint) {
     let_state_go(data);
 }
 
-/* A Float64Array of three numbers, which a reference keeps. */
-static bool make_triple(napi_env env, napi_value exports, struct state *state) {
-    napi_value buffer, array;
-    return napi_create_arraybuffer(env, 3 * sizeof(double), (void **)&state->triple, &buffer) == napi_ok
-        && napi_create_typedarray(env, napi_float64_array, 3, buffer, 0, &array) == napi_ok
-        && napi_create_reference(env, array, 1, &state->array) == napi_ok
-        && napi_set_named_property(env, exports, "triple", array) == napi_ok;
-}
-
-bool make_state(napi_env env, napi_value exports) {
+bool make_state(napi_env env) {
     struct state *state = calloc(1, sizeof *state);
     if (state == NULL) {
         return false;
     }
     state->users = 1;
-    if (make_triple(env, exports, state) && napi_set_instance_data(env, state, free_state, NULL) == napi_ok) {
+    if (napi_set_instance_data(env, state, free_state, NULL) == napi_ok) {
         return true;
     }
     free(state);

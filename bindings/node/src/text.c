@@ -61,6 +61,11 @@ void free_text(struct text *text) {
     }
 }
 
+bool define(napi_env env, napi_value object, const char *name, napi_value value) {
+    const napi_property_descriptor property = {name, NULL, NULL, NULL, NULL, value, napi_enumerable, NULL};
+    return napi_define_properties(env, object, 1, &property) == napi_ok;
+}
+
 napi_value of_bool(napi_env env, bool value) {
     napi_value result = NULL;
     napi_get_boolean(env, value, &result);

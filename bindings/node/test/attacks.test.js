@@ -135,7 +135,7 @@ describe('the process goes on', () => {
     test('the native part is called with anything', () => {
         const [count] = said(`
             const version = native.leastBeyond('0>1.2.9007199254740991', '0<1');
-            const range = native.heldRange('0>=1 <3 || 5');
+            const range = native.fromSets([1, version, 3, null]);
             const { proxy, revoke } = Proxy.revocable({}, {});
             revoke();
             const trap = new Proxy([], { get() { evict(); gc(); return '1.0.0'; } });
@@ -168,6 +168,32 @@ describe('the process goes on', () => {
             say(count);
         `);
         assert.ok(count > 20000, `${count} calls`);
+    });
+    test('another thread cannot write the lines of a list as they are read', () => {
+        assert.deepStrictEqual(said(`
+            const shared = new Uint8Array(new SharedArrayBuffer(1 << 20)).fill(10);
+            const lines = (bytes) => outcome(() => native.best(bytes, 6, 1, '0^1', true));
+            shared.set(Buffer.from('1.2.3\\n'));
+            say([lines(shared), lines(Uint8Array.from(shared)), lines(new Uint8Array(new ArrayBuffer(8, { maxByteLength: 16 })))]);
+            const { Worker } = require('node:worker_threads');
+            const worker = new Worker(\`
+                const { workerData } = require('node:worker_threads');
+                for (;;) for (let i = 0; i < workerData.length; i++) Atomics.store(workerData, i, i % 2 ? 10 : 49);
+            \`, { eval: true, workerData: shared });
+            worker.once('online', () => {
+                for (let i = 0; i < 2000; i++) {
+                    for (let lines = 0; lines < 4; lines++) outcome(() => native.best(shared, 1 << 18, lines, '0*', true));
+                }
+                process.exit();
+            });
+        `), [['TypeError', 0, -1]]);
+    });
+    test('no memory of the native part is seen by JavaScript, which could transfer it', () => {
+        assert.deepStrictEqual(said(`
+            const seen = Object.values(native).filter((value) => typeof value !== 'function');
+            for (const value of seen) structuredClone(value.buffer, { transfer: [value.buffer] });
+            say([seen.length, new semver.SemVer('1.2.3').minor, new semver.SemVer('4.5.65536-rc').patch]);
+        `), [[0, 2, 65536]]);
     });
     test('a version is passed for a range, and a range for a version', () => {
         assert.deepStrictEqual(said(`

@@ -8,7 +8,7 @@ const { spawnSync } = require('node:child_process');
 const fs = require('node:fs');
 const os = require('node:os');
 const path = require('node:path');
-const { judge } = require('../examples/installed.js');
+const { judge, shown } = require('../examples/installed.js');
 const { createNpm, npmFolder } = require('./npm.js');
 
 const example = path.join(__dirname, '../examples/installed.js');
@@ -17,6 +17,7 @@ test("npm's own node_modules: each dependency is satisfied", () => {
     const { packages, dependencies, wrong, notRanges } = judge(path.join(npmFolder(), 'node_modules'));
     assert.ok(packages > 100 && dependencies > 200, `${packages} packages, ${dependencies} dependencies`);
     assert.deepStrictEqual([wrong, notRanges], [[], []]);
+    assert.strictEqual(shown('a\x1b[2J\u202e\tb\n é'), 'a\\u001b[2J\\u202e\\u0009b\\u000a é');
 });
 
 // The same packages with other versions: exactly those are reported that npm's `satisfies` refuses.

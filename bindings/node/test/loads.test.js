@@ -12,6 +12,7 @@ const { test } = require('node:test');
 const { setImmediate: turn } = require('node:timers/promises');
 
 const root = path.join(__dirname, '..');
+const { name } = require('../package.json');
 const inside = (file) => file.startsWith(root + path.sep) && !file.startsWith(__dirname + path.sep);
 
 // The package, whose JavaScript is loaded anew, over the native part that is there or over one that is loaded anew.
@@ -74,15 +75,97 @@ function said(folder, ...options) {
     return stderr;
 }
 
-test('a package that was installed without its scripts says what to do', () => {
+// Calls with a copy of the package that has no native parts.
+function withCopy(call) {
     const room = fs.mkdtempSync(path.join(os.tmpdir(), 'loads-'));
     try {
-        ['index.js', 'internal', 'package.json'].forEach((name) =>
+        ['index.js', 'pick.js', 'internal', 'package.json'].forEach((name) =>
             fs.cpSync(path.join(root, name), path.join(room, name), { recursive: true }));
-        const { name } = require('../package.json');
-        const text = said(room);
+        call(room);
+    } finally {
+        fs.rmSync(room, { recursive: true });
+    }
+}
+
+const native = (name) => Object.keys(require.cache).find((file) => file.endsWith(`${path.sep}${name}`))
+    ?? path.join(root, 'build/Release', name);
+
+// Puts native parts into a folder of a copy: those that are there, or files that are none.
+function put(room, folder, areLoadable) {
+    fs.mkdirSync(path.join(room, folder), { recursive: true });
+    for (const name of ['node_semver.node', 'npm_pick.node']) {
+        const file = path.join(room, folder, name);
+        if (areLoadable) {
+            fs.copyFileSync(native(name), file);
+        } else {
+            fs.writeFileSync(file, 'no library');
+        }
+    }
+}
+
+test('a package that was installed without its scripts says what to do', () => withCopy((room) => {
+    for (const module of ['', '/pick.js']) {
+        const text = said(room + module);
         assert.ok(text.includes(`npm rebuild ${name}`) && text.includes('--ignore-scripts'), text);
         assert.ok(text.includes("code: 'MODULE_NOT_FOUND'"), text);
+    }
+}));
+
+const prebuilt = `prebuilt/${process.platform}-${process.arch}`;
+const uses = (room) => spawnSync(process.execPath, ['-e', `
+    const semver = require(${JSON.stringify(room)});
+    const pick = require(${JSON.stringify(`${room}/pick.js`)});
+    console.log(semver.satisfies('1.9.0', '^1.2'), pick({ versions: { '1.9.0': { version: '1.9.0' } } }, '^1').version);
+`], { encoding: 'utf8' }).stdout;
+
+test('native parts in `prebuilt` are found without an install script', () => {
+    withCopy((room) => {
+        put(room, prebuilt, true);
+        assert.strictEqual(uses(room), 'true 1.9.0\n');
+    });
+    withCopy((room) => {
+        put(room, prebuilt, true);
+        put(room, 'build/Release', false);
+        assert.strictEqual(uses(room), 'true 1.9.0\n');
+    });
+    withCopy((room) => {
+        put(room, prebuilt, false);
+        const text = said(room);
+        assert.ok(text.includes('the native part is not loaded') && text.includes("code: 'ERR_DLOPEN_FAILED'"), text);
+    });
+});
+
+test('each name can be imported by a module', () => {
+    const names = Object.keys(require('..'));
+    const { stdout, stderr } = spawnSync(process.execPath, ['--input-type=module', '-e', `
+        import { ${names.join(', ')} } from '${name}';
+        import semver, * as all from '${name}';
+        import pick from '${name}/pick';
+        import minVersion_ from '${name}/ranges/min-version.js';
+        const names = { ${names.join(', ')} };
+        console.log(Object.keys(names).every((name) => names[name] === semver[name] && all[name] === semver[name]), satisfies('1.9.0', '^1.2'),
+            typeof pick, minVersion_ === minVersion);
+    `], { cwd: root, encoding: 'utf8' });
+    assert.strictEqual(stdout, 'true true function true\n', stderr);
+});
+
+// Debian's package esbuild.
+test('a bundle that leaves the package out', () => {
+    const room = fs.mkdtempSync(path.join(os.tmpdir(), 'bundle-'));
+    try {
+        fs.mkdirSync(path.join(room, 'node_modules'));
+        fs.symlinkSync(root, path.join(room, 'node_modules', name));
+        fs.writeFileSync(path.join(room, 'app.js'), `import { satisfies } from '${name}';\nconsole.log(satisfies('1.9.0', '^1.2'));\n`);
+        const bundle = (...more) => {
+            const words = ['app.js', '--bundle', '--platform=node', '--outfile=out/app.js', '--log-level=error', ...more];
+            const { status, stderr, error } = spawnSync('esbuild', words, { cwd: room, encoding: 'utf8' });
+            assert.strictEqual(error, undefined, 'there is no esbuild: apt-get install esbuild');
+            assert.deepStrictEqual({ status, stderr }, { status: 0, stderr: '' });
+            return spawnSync(process.execPath, ['out/app.js'], { cwd: room, encoding: 'utf8' });
+        };
+        assert.strictEqual(bundle(`--external:${name}`).stdout, 'true\n');
+        const text = bundle().stderr;
+        assert.ok(text.includes('a bundler has to leave this package out'), text);
     } finally {
         fs.rmSync(room, { recursive: true });
     }

@@ -5,6 +5,8 @@
 'use strict';
 
 const assert = require('node:assert');
+const { spawnSync } = require('node:child_process');
+const path = require('node:path');
 const { test } = require('node:test');
 const { setImmediate: turn } = require('node:timers/promises');
 const semver = require('..');
@@ -37,6 +39,8 @@ async function growth(call, turns, calls = CALLS) {
 const versions = Array.from({ length: 20 }, (_, i) => `1.${i}.0-rc.${i}+b.${i}`);
 const text = (i) => `^1.${i}.0 || >=2.0.0-rc.${i} <3`;
 const long = (i) => Array.from({ length: 20 }, (_, j) => `^${j}.${i}.0`).join(' || ');
+const LONG = `${'^1.2.3 || '.repeat(13)}^4.5.6-rc.1`;
+const LONGER = `${LONG} || `.repeat(2000) + LONG;
 
 const calls = {
     'satisfies, one range': () => semver.satisfies('1.2.3-rc.1+b', '^1.2.3-rc.0'),
@@ -55,12 +59,19 @@ const calls = {
     'sets, and a range from them': (i) => semver.Range.fromSets(new semver.Range(text(i)).sets),
     'key and intervals': (i) => [semver.key(`1.2.3-rc.${i}`), new semver.Range(text(i)).intervals()],
     'satisfies, a String': (i) => semver.satisfies('1.2.3', new String(text(i))),
+    // In one turn of the event loop, in which no finalizer runs.
+    'maxSatisfying, one long range': () => semver.maxSatisfying(['1.2.3'], LONG),
+    'maxSatisfying, many long ranges': (i) => i % 10 === 0 && semver.maxSatisfying(['1.2.3'], `${LONG} || ^${i}.0.0`),
 };
 
 // Calls that make the comparators of a range, which takes longer.
 const SLOW_CALLS = CALLS / 8;
 const document = large(20);
+const manySets = Array.from({ length: 80 }, (_, i) => `^${i}.2.0`).join(' || ');
 const slow = {
+    'Range, one that is not kept': (i) => i % 500 === 0 && new semver.Range(LONGER).test('1.2.3'),
+    'Range, many long ranges': (i) => i % 2 === 0 && new semver.Range(`${LONG} || ^${i}.0.0`).test('1.2.3'),
+    'intersect, many sets': (i) => semver.intersect(manySets, `>=1.2.${i}`).test('1.2.3'),
     pick: (i) => pick(document, i % 2 ? '^1' : `<=2.${i}`, { avoid: `>=2.${i}` }),
     minVersion: (i) => semver.minVersion(text(i)),
     'Range.set': (i) => new semver.Range(text(i)).set,
@@ -121,11 +132,22 @@ for (const [name, call] of Object.entries(bodies)) {
     });
 }
 
-// What JavaScript holds by an object is freed when the event loop turns after a garbage collection.
+// What no text writes is held by an object, which is freed when the event loop turns after a garbage collection.
+const beyondAll = { lower: { kind: 'before', version: beyond }, upper: { kind: 'end' } };
 const held = {
-    'a range of a long text': (i) => new semver.Range(long(i)).test('1.2.3'),
     'a version that no text writes': () => semver.leastBeyond('>1.2.9007199254740991', '<1'),
+    'a range that no text writes': () => semver.Range.fromSets(Array(50).fill(beyondAll)),
 };
+
+test('V8 knows how much memory such objects take: it collects them where JavaScript itself needs little', () => {
+    const { stdout, stderr } = spawnSync(process.execPath, ['--trace-gc', '-e', `
+        const semver = require(${JSON.stringify(path.join(__dirname, '..'))});
+        const version = semver.leastBeyond('>1.2.9007199254740991', '<1');
+        const sets = Array(1000).fill({ lower: { kind: 'before', version }, upper: { kind: 'end' } });
+        for (let i = 0; i < 1000; i++) semver.Range.fromSets(sets);
+    `], { encoding: 'utf8' });
+    assert.ok(stdout.includes('Mark-Compact'), stdout + stderr);
+});
 
 for (const [name, call] of Object.entries(held)) {
     test(`${name}: ${CALLS / 10} objects`, async () => {

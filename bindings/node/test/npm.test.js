@@ -12,9 +12,9 @@ const { test } = require('node:test');
 const { inspect } = require('node:util');
 const { isMainThread, parentPort, Worker, workerData } = require('node:worker_threads');
 const here = require('..');
-const { OPTIONS, calls, takes, result, npm } = require('./calls.js');
+const { OPTIONS, calls, result, npm } = require('./calls.js');
 const { Edited } = require('./edited.js');
-const { coversRange, rules } = require('./rules.js');
+const { covering, rules } = require('./rules.js');
 const { shrunk } = require('./shrunk.js');
 const { Texts } = require('./texts.js');
 
@@ -35,17 +35,6 @@ const value = (result) => `\`${typeof result === 'string' ? `'${escaped(result)}
 const quoted = (texts) => texts.map((text) => inspect(text)).join(', ');
 const codeOf = ({ example: [call, ...texts] }) => `${call}(${quoted(texts)})`;
 const row = (rule) => `${rule.name} | \`${escaped(codeOf(rule))}\` | ${value(rule.npm)} | ${value(rule.here)}`;
-
-const trimmed = (range) => range.trim().split(/\s+/).join(' ');
-
-// The rules that cover a call with the smallest texts: for one of its versions or of its ranges, or for its results.
-function covering(name, texts) {
-    const versions = takes[name].flatMap((word) => (['v', 'w', 'list'].includes(word) ? texts[word] : []));
-    const ranges = takes[name].flatMap((word) => (['r', 's'].includes(word) ? [trimmed(texts[word])] : []));
-    return rules.filter((rule) => (!rule.calls || rule.calls.includes(name))
-        && ((rule.version && versions.some(rule.version))
-        || (rule.range && ranges.some((text) => coversRange(rule, text, texts.o)))));
-}
 
 function pair(texts) {
     return {

@@ -203,6 +203,44 @@ test('texts of every kind', () => {
     assert.strictEqual(pick(made({ 'dist-tags': { next: long }, versions: { [long]: { version: long } } }), 'next').version, long);
 });
 
+// Each is 24 characters or another form that `Date.parse` reads.
+const TIMES = ['(xxxxxxxxxT")1 Jan 2000Z', '(xxxxxxxxxT\\)1 Jan 2000Z', '(xxxxxxxxxT\ud800)1 Jan 2000Z', '(xxxxxxxxxT\u2028)1 Jan 2000Z',
+    '(xxxxxxxxxT\n)1 Jan 2000Z', '2020-02-30T00:00:00.000Z', '2020-02-29T24:00:00.000Z', '2020-02-31T23:59:59.999Z',
+    '2020-02-29T23:59:60.000Z', '2020-13-01T00:00:00.000Z', '2020-00-10T00:00:00.000Z', '2020-02-29T12:00:00.000+', '1 Mar 2020',
+    '2020-03-01', '2020-03-01T00:00:00Z', '2020-03-01T01:00:00+01:00', 1577836800000, true, ['2020-03-01T00:00:00.000Z'], '"', 'x'];
+
+test('times of every form: npm picks the same', () => {
+    for (const one of TIMES) {
+        const document = made({ time: { '1.2.0': one, '1.3.0': '2020-03-01T00:00:00.000Z', '2.0.0': '2019-01-01T00:00:00.000Z' } });
+        for (const before of ['1999-12-31', '2000-01-03', '2020-02-29', '2020-03-01', '2020-03-02T12:00:00Z', new Date(1583020800000)]) {
+            for (const wanted of ['^1', '1.2.0', '*', '>=1.2', 'latest']) {
+                assert.deepStrictEqual(outcome(pick, document, wanted, { before }), outcome(npmPick, document, wanted, { before }),
+                    `${JSON.stringify(one)} ${wanted} ${before}`);
+            }
+        }
+    }
+});
+
+test('half a character in a document: npm picks the same', () => {
+    const half = '\ud800';
+    const documents = [
+        made({ time: { [half]: half, '1.2.0': half } }), made({ 'dist-tags': { latest: half } }),
+        made({ 'dist-tags': { latest: '1.2.0', next: `1.3.0-${half}` } }),
+        made({ versions: { ...versions, '1.4.0': { version: '1.4.0', engines: { node: half } } } }),
+        made({ versions: { ...versions, [half]: { version: half } } }),
+        made({ versions: { ...versions, '1.4.0': { version: '1.4.0', deprecated: half, engines: { npm: `>=1 ${half}` } } } }),
+        made({ versions: { ...versions, '\\ud800': { version: '1.0.0' } }, 'dist-tags': { next: '\\ud800', latest: '1.2.0' } }),
+    ];
+    for (const document of documents) {
+        for (const wanted of ['^1', '*', '1.4.0', 'latest', 'next', '>=1.3']) {
+            for (const options of [{}, { before: '2020-01-01', npmVersion: '9.0.0' }]) {
+                assert.deepStrictEqual(outcome(pick, document, wanted, options), outcome(npmPick, document, wanted, options),
+                    `${JSON.stringify(document)} ${wanted} ${JSON.stringify(options)}`);
+            }
+        }
+    }
+});
+
 test('large documents: npm picks the same', () => {
     const document = large(400);
     for (const wanted of ['^1', '^2', '^3', '*', '1.x', '>=1.5 <3', 'next', '^9', '2.20.1', '~1.3']) {

@@ -14,7 +14,7 @@ const room = build('module.c', sources, 'node_semver');
 const semver = require(room);
 const native = require(path.join(room, 'build/Release/node_semver.node'));
 
-const long = '^1.2.3-alpha.1 || '.repeat(20) + '>=2.0.0-rc.1';
+const long = '^1.2.3-alpha.1 || '.repeat(40) + '>=2.0.0-rc.1';
 const ranges = ['>=1.2.3-rc.4.a.b <2.0.0-beta.9+c || 5.x || 7.1.2-x', long].map((text) => new semver.Range(text));
 const versions = Array.from({ length: 20 }, (_, i) => `1.${i * 7 % 20}.0-rc.${i}.a+b.${i}`);
 const many = new semver.Range('>=1.2.3 || '.repeat(9) + '^1.2.3-rc.1');

@@ -5,6 +5,8 @@
 // is about, where it is not about all. `example` is a call, and `why` the reason, for readers of this file.
 'use strict';
 
+const { takes } = require('./calls.js');
+
 // Whether a text has a number that JavaScript has not, or that npm takes for none.
 const hasLarge = (text) => (text.match(/\d{16,}/g) ?? []).some((digits) => BigInt(digits) >= 9007199254740991n);
 
@@ -109,4 +111,15 @@ const isLoose = (options) => options === true || options?.loose === true;
 // Whether a row of ranges covers a range text, as npm trims it, that is read with these options.
 const coversRange = ({ range }, text, options) => range(text, isLoose(options), options ?? {});
 
-module.exports = { rules, coversRange };
+const trimmed = (range) => range.trim().split(/\s+/).join(' ');
+
+// The rules that cover a call with the smallest texts: for one of its versions or of its ranges, or for its results.
+function covering(name, texts) {
+    const versions = takes[name].flatMap((word) => (['v', 'w', 'list'].includes(word) ? texts[word] : []));
+    const ranges = takes[name].flatMap((word) => (['r', 's'].includes(word) ? [trimmed(texts[word])] : []));
+    return rules.filter((rule) => (!rule.calls || rule.calls.includes(name))
+        && ((rule.version && versions.some(rule.version))
+        || (rule.range && ranges.some((text) => coversRange(rule, text, texts.o)))));
+}
+
+module.exports = { rules, coversRange, covering };

@@ -68,6 +68,9 @@ class Texts {
     }
 
     partial() {
+        if (this.one(20)) {
+            return this.of(['', 'v', 'v', '=', 'v=', '=v']) + this.of(['0.0.0', '0.0', '0', '0.0.0-0', '0.x', '0.0.0+b', '00.0.0']);
+        }
         if (this.one(3)) {
             return `${this.number()}.${this.number()}.${this.number()}${this.extras()}`;
         }

@@ -12,7 +12,7 @@ const { test } = require('node:test');
 const DEBIAN = '/usr/share/nodejs/typescript/lib/tsc.js';
 
 test('types.ts compiles', () => {
-    const options = ['--strict', '--noEmit', '--module', 'commonjs', '--target', 'es2020'];
+    const options = ['--strict', '--exactOptionalPropertyTypes', '--noEmit', '--module', 'commonjs', '--target', 'es2020'];
     const words = [...options, path.join(__dirname, 'types.ts')];
     const [command, ...before] = fs.existsSync(DEBIAN) ? [process.execPath, DEBIAN] : ['tsc'];
     const { status, stdout, error } = spawnSync(command, [...before, ...words], { encoding: 'utf8' });

@@ -52,3 +52,165 @@ const manifest: pick.Manifest & pick.Marks = pick({ versions: null } as pick.Pac
 function codeOf(error: pick.PickError): string | undefined {
     return error.code === 'ETARGET' ? error.type : error.code;
 }
+
+// Each name, each static one and each field and method of the classes, with its exact type: what may be null is so, and nothing else
+// is. A name that is missing here, or not there, does not compile.
+type Same<A, B> = (<T>() => T extends A ? 1 : 2) extends (<T>() => T extends B ? 1 : 2) ? true : false;
+declare function is<A, B>(): Same<A, B>;
+
+type Loose = boolean | semver.Options | null;
+type Version = string | semver.SemVer;
+type Given = Version | null | undefined;
+type Wanted = string | semver.Range;
+type Order = -1 | 0 | 1;
+type Identifier = string | number | null | undefined;
+type Released = 'major' | 'premajor' | 'minor' | 'preminor' | 'patch' | 'prepatch' | 'prerelease';
+type Base = '0' | '1' | false;
+type Compare = (one: Version, other: Version, options?: Loose) => Order;
+type Ask = (one: Version, other: Version, options?: Loose) => boolean;
+type Best = <T extends Version>(versions: readonly T[], range: Wanted, options?: Loose) => T | null;
+type Beyond = (version: Version, range: Wanted, options?: Loose) => boolean;
+
+export const names: Record<keyof typeof semver, true> = {
+    parse: is<typeof semver.parse, {
+        (version: Given, options?: Loose, throwErrors?: false): semver.SemVer | null;
+        (version: Given, options: Loose | undefined, throwErrors: true): semver.SemVer;
+    }>(),
+    valid: is<typeof semver.valid, (version: Given, options?: Loose) => string | null>(),
+    clean: is<typeof semver.clean, (version: string, options?: Loose) => string | null>(),
+    inc: is<typeof semver.inc, {
+        (version: Version, release: Released, options?: Loose, identifier?: string, base?: Base): string | null;
+        (version: Version, release: Released, identifier?: string, base?: Base): string | null;
+    }>(),
+    diff: is<typeof semver.diff, (one: Version, other: Version) => Released | null>(),
+    major: is<typeof semver.major, (version: Version, options?: Loose) => number>(),
+    minor: is<typeof semver.minor, (version: Version, options?: Loose) => number>(),
+    patch: is<typeof semver.patch, (version: Version, options?: Loose) => number>(),
+    prerelease: is<typeof semver.prerelease, (version: Given, options?: Loose) => Array<string | number> | null>(),
+    compare: is<typeof semver.compare, Compare>(),
+    rcompare: is<typeof semver.rcompare, Compare>(),
+    compareLoose: is<typeof semver.compareLoose, (one: Version, other: Version) => Order>(),
+    compareBuild: is<typeof semver.compareBuild, Compare>(),
+    sort: is<typeof semver.sort, <T extends Version>(list: T[], options?: Loose) => T[]>(),
+    rsort: is<typeof semver.rsort, <T extends Version>(list: T[], options?: Loose) => T[]>(),
+    gt: is<typeof semver.gt, Ask>(),
+    lt: is<typeof semver.lt, Ask>(),
+    eq: is<typeof semver.eq, Ask>(),
+    neq: is<typeof semver.neq, Ask>(),
+    gte: is<typeof semver.gte, Ask>(),
+    lte: is<typeof semver.lte, Ask>(),
+    cmp: is<typeof semver.cmp, (one: Version, operator: semver.Operator, other: Version, options?: Loose) => boolean>(),
+    coerce: is<typeof semver.coerce, (version: Given | number, options?: semver.CoerceOptions) => semver.SemVer | null>(),
+    satisfies: is<typeof semver.satisfies, (version: Given, range: Wanted, options?: Loose) => boolean>(),
+    toComparators: is<typeof semver.toComparators, (range: Wanted, options?: Loose) => string[][]>(),
+    maxSatisfying: is<typeof semver.maxSatisfying, Best>(),
+    minSatisfying: is<typeof semver.minSatisfying, Best>(),
+    minVersion: is<typeof semver.minVersion, (range: Wanted, options?: Loose) => semver.SemVer | null>(),
+    validRange: is<typeof semver.validRange, (range: Wanted | null | undefined, options?: Loose) => string | null>(),
+    outside: is<typeof semver.outside, (version: Version, range: Wanted, side: '>' | '<', options?: Loose) => boolean>(),
+    gtr: is<typeof semver.gtr, Beyond>(),
+    ltr: is<typeof semver.ltr, Beyond>(),
+    intersects: is<typeof semver.intersects, (one: Wanted, other: Wanted, options?: Loose) => boolean>(),
+    simplifyRange: is<typeof semver.simplifyRange, {
+        (versions: Version[], range: string, options?: Loose): string;
+        (versions: Version[], range: semver.Range, options?: Loose): string | semver.Range;
+    }>(),
+    subset: is<typeof semver.subset, (sub: Wanted, dom: Wanted, options?: semver.Options) => boolean>(),
+    re: is<typeof semver.re, RegExp[]>(),
+    src: is<typeof semver.src, string[]>(),
+    tokens: is<typeof semver.tokens, Record<string, number>>(),
+    SEMVER_SPEC_VERSION: is<typeof semver.SEMVER_SPEC_VERSION, '2.0.0'>(),
+    RELEASE_TYPES: is<typeof semver.RELEASE_TYPES, readonly Released[]>(),
+    compareIdentifiers: is<typeof semver.compareIdentifiers, (one: Identifier, other: Identifier) => Order>(),
+    rcompareIdentifiers: is<typeof semver.rcompareIdentifiers, (one: Identifier, other: Identifier) => Order>(),
+    intersect: is<typeof semver.intersect, (one: Wanted, other: Wanted, options?: Loose) => semver.Range | null>(),
+    difference: is<typeof semver.difference, (one: Wanted, other: Wanted, options?: Loose) => semver.Range | null>(),
+    leastBeyond: is<typeof semver.leastBeyond, (one: Wanted, other: Wanted, options?: Loose) => semver.SemVer | null>(),
+    leastCommon: is<typeof semver.leastCommon, (one: Wanted, other: Wanted, options?: Loose) => semver.SemVer | null>(),
+    key: is<typeof semver.key, (version: Version, options?: Loose) => Uint8Array>(),
+    SemVer: is<ConstructorParameters<typeof semver.SemVer>, [version: Version, options?: Loose]>(),
+    Range: is<ConstructorParameters<typeof semver.Range>, [range: Wanted | semver.Comparator, options?: Loose]>(),
+    Comparator: is<ConstructorParameters<typeof semver.Comparator>, [comparator: string | semver.Comparator, options?: Loose]>(),
+};
+
+export const statics: Record<Exclude<keyof typeof semver.Range | keyof typeof semver.Comparator, 'prototype'>, true> = {
+    fromSets: is<typeof semver.Range.fromSets,
+        (sets: Iterable<{ readonly lower: semver.CutLike; readonly upper: semver.CutLike }>) => semver.Range | null>(),
+    ANY: is<typeof semver.Comparator.ANY, semver.SemVer & symbol>(),
+};
+
+type OfSemVer = semver.SemVer;
+export const ofSemVer: Record<keyof OfSemVer, true> = {
+    options: is<OfSemVer['options'], semver.Options>(),
+    loose: is<OfSemVer['loose'], boolean>(),
+    includePrerelease: is<OfSemVer['includePrerelease'], boolean>(),
+    raw: is<OfSemVer['raw'], string>(),
+    major: is<OfSemVer['major'], number>(),
+    minor: is<OfSemVer['minor'], number>(),
+    patch: is<OfSemVer['patch'], number>(),
+    prerelease: is<OfSemVer['prerelease'], Array<string | number>>(),
+    build: is<OfSemVer['build'], string[]>(),
+    version: is<OfSemVer['version'], string>(),
+    format: is<OfSemVer['format'], () => string>(),
+    toString: is<OfSemVer['toString'], () => string>(),
+    compare: is<OfSemVer['compare'], (other: Version) => Order>(),
+    compareMain: is<OfSemVer['compareMain'], (other: Version) => Order>(),
+    comparePre: is<OfSemVer['comparePre'], (other: Version) => Order>(),
+    compareBuild: is<OfSemVer['compareBuild'], (other: Version) => Order>(),
+    inc: is<OfSemVer['inc'], (release: Released, identifier?: string, base?: Base) => semver.SemVer>(),
+};
+
+type OfRange = semver.Range;
+export const ofRange: Record<keyof OfRange, true> = {
+    options: is<OfRange['options'], semver.Options>(),
+    loose: is<OfRange['loose'], boolean>(),
+    includePrerelease: is<OfRange['includePrerelease'], boolean>(),
+    raw: is<OfRange['raw'], string>(),
+    range: is<OfRange['range'], string>(),
+    set: is<OfRange['set'], semver.Comparator[][]>(),
+    sets: is<OfRange['sets'], semver.VersionSet[]>(),
+    intervals: is<OfRange['intervals'], () => semver.KeyInterval[]>(),
+    format: is<OfRange['format'], () => string>(),
+    toString: is<OfRange['toString'], () => string>(),
+    toJSON: is<OfRange['toJSON'], () => Pick<OfRange, 'options' | 'loose' | 'includePrerelease' | 'raw' | 'set' | 'range'>>(),
+    parseRange: is<OfRange['parseRange'], (range: string) => semver.Comparator[]>(),
+    test: is<OfRange['test'], (version: Given) => boolean>(),
+    intersects: is<OfRange['intersects'], (range: OfRange, options?: Loose) => boolean>(),
+};
+
+type OfComparator = semver.Comparator;
+export const ofComparator: Record<keyof OfComparator, true> = {
+    options: is<OfComparator['options'], semver.Options>(),
+    loose: is<OfComparator['loose'], boolean>(),
+    operator: is<OfComparator['operator'], '' | '=' | '>' | '>=' | '<' | '<='>(),
+    semver: is<OfComparator['semver'], semver.SemVer>(),
+    value: is<OfComparator['value'], string>(),
+    parse: is<OfComparator['parse'], (comparator: string) => void>(),
+    toString: is<OfComparator['toString'], () => string>(),
+    test: is<OfComparator['test'], (version: Version | typeof semver.Comparator.ANY) => boolean>(),
+    intersects: is<OfComparator['intersects'], (comparator: OfComparator, options?: Loose) => boolean>(),
+};
+
+export const picks: true = is<typeof pick,
+    <M extends pick.Manifest>(packument: pick.Packument<M>, wanted?: string | null, opts?: pick.Options) => M & pick.Marks>();
+
+// The members of the values that calls take and return.
+interface Flags { loose?: boolean | undefined; includePrerelease?: boolean | undefined }
+export const members: true[] = [
+    is<Required<semver.Options>, { loose: boolean | undefined; includePrerelease: boolean | undefined }>(),
+    is<semver.Options, Pick<Flags, 'loose' | 'includePrerelease'>>(),
+    is<semver.CoerceOptions['rtl'], boolean | undefined>(),
+    is<keyof semver.CoerceOptions, 'loose' | 'includePrerelease' | 'rtl'>(),
+    is<Required<semver.CoerceOptions>['rtl'], boolean | undefined>(),
+    is<semver.KeyInterval['prereleases'], boolean>(),
+    is<semver.KeyInterval['lower' | 'upper'], Uint8Array>(),
+    is<keyof semver.KeyInterval, 'lower' | 'upper' | 'prereleases'>(),
+    is<semver.VersionSet['lower' | 'upper'], semver.Cut>(),
+    is<semver.Cut['kind'], 'start' | 'before' | 'after' | 'end'>(),
+    is<semver.Cut['version'], semver.SemVer | null>(),
+    is<semver.CutLike['kind'], semver.Cut['kind']>(),
+    is<semver.CutLike['version'], Given>(),
+    is<semver.Operator, '===' | '!==' | '' | '=' | '==' | '!=' | '>' | '>=' | '<' | '<='>(),
+    is<semver.ReleaseType, Released>(),
+    is<semver.IdentifierBase, Base>(),
+];

@@ -168,6 +168,85 @@ describe('options that throw as they are read', () => {
     }
 });
 
+describe('options that each object inherits are as with npm', () => {
+    const calls = {
+        valid: (s) => [s.valid('1.2.3beta'), s.valid('1.2.3beta', {}), s.valid('x')],
+        satisfies: (s) => [s.satisfies('1.2.3beta', '1.2.3-beta'), s.satisfies('1.3.0-a', '^1.2'), s.satisfies('1.2.3', 'x foo')],
+        compare: (s) => [s.compare('1.2.3beta', '1.2.4'), s.compareBuild('=1.2.3', '1.2.3+a')],
+        sort: (s) => s.sort(['1.2.3beta', '=v0.1.0', '1.0.0']),
+        maxSatisfying: (s) => [s.maxSatisfying(['1.2.3beta', '1.2.2-a', '1.2.1'], '^1'), s.minSatisfying(['1.2.3beta'], '*')],
+        inc: (s) => [s.inc('1.2.3beta', 'patch'), s.inc('1.2.3', 'minor'), s.inc('1.2.3beta', 'prerelease', 'rc')],
+        validRange: (s) => [s.validRange('1.2.3beta'), s.validRange('^1'), s.validRange('>=1 foo')],
+        coerce: (s) => [s.coerce('01.2.3-a')?.version, s.coerce('1.2.3-a')?.version],
+        subset: (s) => [s.subset('^1.2.3-a', '^1'), s.intersects('<0.0.0', '>=0.0.0-0')],
+    };
+    for (const name of ['loose', 'includePrerelease']) {
+        for (const [called, call] of Object.entries(calls)) {
+            test(`${name}: ${called}`, () => {
+                Object.prototype[name] = true;
+                try {
+                    assert.strictEqual(outcome(() => call(semver)), outcome(() => call(npm)));
+                } finally {
+                    delete Object.prototype[name];
+                }
+            });
+        }
+    }
+});
+
+describe('what the README says of values that npm takes otherwise', () => {
+    const changed = (s, fields) => Object.assign(new s.SemVer('1.2.3'), fields);
+    const ofClass = (s) => new (class extends s.Range { test() { return true; } })('^1');
+    // Of a call: what npm returns, and what is returned here.
+    const rows = {
+        'format of a frozen Range': ['throws', "'>=1.0.0 <2.0.0-0'", (s) => Object.freeze(new s.Range('^1')).format()],
+        'a range of a frozen Range': ["'>=1.0.0 <2.0.0-0'", "'>=1.0.0 <2.0.0-0'", (s) => Object.freeze(new s.Range('^1')).range],
+        'an overridden test, satisfies': ['true', 'true', (s) => s.satisfies('9.0.0', ofClass(s))],
+        'an overridden test, maxSatisfying': ["'9.0.0'", 'null', (s) => s.maxSatisfying(['9.0.0'], ofClass(s))],
+        'a major that was changed': ['true', 'true', (s) => s.satisfies(changed(s, { major: 5 }), '^5')],
+        'a major that was changed, other options': ['false', 'true', (s) =>
+            s.satisfies(changed(s, { major: 5 }), '^5', { includePrerelease: true })],
+        'a major that was changed, and format': ['true', 'true', (s) => {
+            const version = changed(s, { major: 5 });
+            version.format();
+            return s.satisfies(version, '^5', { includePrerelease: true });
+        }],
+        'Range.test of another object': ['true', 'throws', (s) => new s.Range('').test({ prerelease: [] })],
+        'Range.test of an object without a prerelease': ['throws', 'throws', (s) => new s.Range('').test({ version: '1.2.3' })],
+        '251 letters': ['257', 'throws', (s) => new s.SemVer(`1.2.3${'a'.repeat(251)}`, true).version.length],
+        '251 letters, comparePre': ['1', 'throws', (s) => new s.SemVer('1.2.3-b', true).comparePre(`1.2.3${'a'.repeat(251)}`)],
+        '250 letters': ['256', '256', (s) => new s.SemVer(`1.2.3${'a'.repeat(250)}`, true).version.length],
+        'Comparator.parse of no version': ["'>='", "'>='", (s) => {
+            const comparator = new s.Comparator('>=1.2.3');
+            assert.throws(() => comparator.parse('>x'), TypeError);
+            return comparator.operator;
+        }],
+        'Comparator.parse of a large number': ["'>'", "'>='", (s) => {
+            const comparator = new s.Comparator('>=1.2.3');
+            assert.throws(() => comparator.parse('>1.2.9007199254740992'), TypeError);
+            return comparator.operator;
+        }],
+    };
+    for (const [name, [there, here, call]] of Object.entries(rows)) {
+        test(name, () => {
+            assert.strictEqual(outcome(() => call(npm)), there);
+            assert.strictEqual(outcome(() => call(semver)), here);
+        });
+    }
+    test('a replaced method is called by name alone', () => {
+        for (const [s, expected] of [[npm, 7], [semver, -1]]) {
+            const { compare } = s.SemVer.prototype;
+            s.SemVer.prototype.compare = () => 7;
+            try {
+                assert.strictEqual(s.compare('1.0.0', '2.0.0'), expected);
+                assert.strictEqual(new s.SemVer('1.0.0').compare('2.0.0'), 7);
+            } finally {
+                s.SemVer.prototype.compare = compare;
+            }
+        }
+    });
+});
+
 describe('SemVers are compared as with npm', () => {
     const texts = ['1.2.3', '1.2.3+b', '1.2.3+a', '1.2.3-rc.1+b', '1.2.3-rc.1+a', '1.2.3-rc.01', '1.2.3-10', '1.2.3-9.x',
         '0.9.9', '1.2.3+10', '1.2.3+9', '1.2.3-a.b', '1.2.3-a.-', '1.2.3--', '1.2.3-rc'];
@@ -217,7 +296,8 @@ describe('SemVers are compared as with npm', () => {
 });
 
 describe('parseRange is as with npm', () => {
-    const texts = ['^1', ' ^1', '^1 ', '1  <2', '\t1', '', ' ', '1 || 2', '1||2', '||', '^1 ||', '1 2 || 3', '* || 1', 'foo ||'];
+    const texts = ['^1', ' ^1', '^1 ', '1  <2', '\t1', '', ' ', '1 || 2', '1||2', '||', '^1 ||', '1 2 || 3', '* || 1', 'foo ||',
+        'a ', ' a', 'a  b ', '\0', '1 \0', '\x01||\x02\0', '|| > 1', '1|| ~ 2 3', '||= x', '>|| 1', '||>= v1 || 2'];
     for (const text of texts) {
         for (const options of [undefined, true, { includePrerelease: true }]) {
             isAsNpm(`${inspect(text)} with ${inspect(options)}`, () => text, (s) => {

@@ -124,15 +124,20 @@ def check(folder: str) -> Report:
     return report._replace(checked=checked)
 
 
+def shown(text: str) -> str:
+    """The text for a terminal: a character that cannot be printed by its number, as repr has it."""
+    return "".join(c if c.isprintable() else c.encode("unicode_escape").decode("ascii") for c in text)
+
+
 def main(arguments: List[str]) -> int:
     if len(arguments) != 1:
         print("usage: installed.py FOLDER", file=sys.stderr)
         return 2
     report = check(arguments[0])
     for fault in report.faults:
-        print(f"{fault.package} asks for {fault.name} {fault.asked!r}, and {fault.installed} is installed")
+        print(shown(f"{fault.package} asks for {fault.name} {fault.asked!r}, and {fault.installed} is installed"))
     for package, name, asked in report.others:
-        print(f"{package} asks for {name} {asked!r}, which is no range of versions")
+        print(shown(f"{package} asks for {name} {asked!r}, which is no range of versions"))
     print(f"{report.checked} checked, {len(report.faults)} not satisfied, {len(report.others)} not checked")
     return 1 if report.faults else 0
 

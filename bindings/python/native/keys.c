@@ -42,15 +42,20 @@ static size_t write_upper(const void *intervals, size_t place, unsigned char *ro
 }
 
 /* No key is empty: a length of 0 says that memory ran out. */
-PyObject *version_key(PyObject *self, void *ignored)
+PyObject *key_of(const node_semver_version *version)
 {
-    PyObject *key = written(write_key, VERSION_OF(self), 0);
-    (void)ignored;
+    PyObject *key = written(write_key, version, 0);
     if (key != NULL && PyBytes_Size(key) == 0) {
         Py_DECREF(key);
         return PyErr_NoMemory();
     }
     return key;
+}
+
+PyObject *version_key(PyObject *self, void *ignored)
+{
+    (void)ignored;
+    return key_of(VERSION_OF(self));
 }
 
 /* ---- intervals ---- */
@@ -69,8 +74,7 @@ static int make_intervals(PyObject *self, int is_included, node_semver_intervals
     return -1;
 }
 
-/* Appends a value, and takes the reference: 0, or -1 with an exception, as for NULL. */
-static int append(PyObject *list, PyObject *value)
+int append(PyObject *list, PyObject *value)
 {
     int failed = value == NULL ? -1 : PyList_Append(list, value);
     Py_XDECREF(value);

@@ -43,7 +43,7 @@ native_state *state_of(PyObject *value);
 #define LONG 10000
 
 /* A `Version` and a `Range`: the handle is full from the moment the object exists until it is freed. A range keeps how
- * many sets it has and, from the first `str` on, its print, which is NULL before. */
+ * many sets it has and, from the first `str` and `hash` on, its print and its hash, which are NULL and -1 before. */
 typedef struct {
     PyObject_HEAD
     node_semver_version handle;
@@ -54,6 +54,7 @@ typedef struct {
     node_semver_range handle;
     size_t set_count;
     PyObject *text;
+    Py_hash_t hash;
 } range_object;
 
 #define VERSION_OF(object) (&((version_object *)(object))->handle)
@@ -116,6 +117,9 @@ PyObject *same_object(PyObject *self, PyObject *ignored);
 /* Whether the text is read as a value equal to `self`: 1, 0, or -1 with an exception. A refusal counts as 0. */
 int reads_back(PyObject *self, PyObject *text);
 
+/* A pair of what makes a value and the tuple of its argument, which is what pickle stores; NULL with an exception. */
+PyObject *call_with(PyObject *make, PyObject *argument);
+
 /* What pickle stores: the type and the text. NULL with a ValueError if the text is not read as an equal value. Takes
  * the reference to `text`, which may be NULL with an exception. */
 PyObject *reduced(PyObject *self, PyObject *text);
@@ -157,9 +161,20 @@ PyObject *range_from_sets(PyObject *type, PyObject *sets);
 
 /* ---- keys.c: what a database sorts by ---- */
 
+/* The bytes of a version's key; NULL with an exception. */
+PyObject *key_of(const node_semver_version *version);
+
+/* Appends a value, and takes the reference: 0, or -1 with an exception, as for NULL. */
+int append(PyObject *list, PyObject *value);
+
 PyObject *version_key(PyObject *self, void *ignored);
 PyObject *range_intervals(PyObject *self, PyObject *arguments, PyObject *keywords);
 PyObject *range_sql(PyObject *self, PyObject *arguments, PyObject *keywords);
+
+/* ---- hash.c ---- */
+
+Py_hash_t version_hash(PyObject *self);
+Py_hash_t range_hash(PyObject *self);
 
 /* ---- versions.c: methods of Range over an iterable of versions ---- */
 

@@ -14,6 +14,7 @@ PyObject *new_range(PyTypeObject *type, node_semver_range handle)
     self->handle = handle;
     self->set_count = node_semver_range_set_count(&self->handle);
     self->text = NULL;
+    self->hash = -1;
     PyObject_GC_Track(self);
     return (PyObject *)self;
 }
@@ -57,12 +58,6 @@ static PyObject *range_repr(PyObject *self)
     repr = PyUnicode_FromFormat("Range(%R)", text);
     Py_DECREF(text);
     return repr;
-}
-
-static Py_hash_t range_hash(PyObject *self)
-{
-    Py_hash_t hash = (Py_hash_t)node_semver_range_hash(RANGE_OF(self));
-    return hash == -1 ? -2 : hash;
 }
 
 /* The type is final, so two values of one type are two Ranges. Ranges are equal or not, and have no order. */
@@ -124,22 +119,27 @@ static PyObject *combined(combination *combine, PyObject *one, PyObject *other)
     return NULL;
 }
 
-/* The most pairs of sets that an intersection is made of. It has a set for each two that meet. */
+/* The most pairs of sets that an intersection or a difference is made of. Each two that meet give a set of their own, so
+ * more would take minutes and gigabytes. */
 #define MOST_PAIRS 1000000
+
+/* The same for operators that make something of each pair of sets: a ValueError if there are too many. */
+static PyObject *combined_in_pairs(combination *combine, PyObject *one, PyObject *other)
+{
+    if (Py_TYPE(one) == Py_TYPE(other) && SET_COUNT(one) > MOST_PAIRS / SET_COUNT(other))
+        return PyErr_Format(PyExc_ValueError, "the ranges have %zu and %zu sets, and more than %d pairs of them",
+                            SET_COUNT(one), SET_COUNT(other), MOST_PAIRS);
+    return combined(combine, one, other);
+}
 
 static PyObject *range_and(PyObject *one, PyObject *other)
 {
-    if (Py_TYPE(one) == Py_TYPE(other) && SET_COUNT(one) > MOST_PAIRS / SET_COUNT(other)) {
-        PyErr_Format(PyExc_ValueError, "the ranges have %zu and %zu sets, and more than %d pairs of them",
-                     SET_COUNT(one), SET_COUNT(other), MOST_PAIRS);
-        return NULL;
-    }
-    return combined(node_semver_range_intersect, one, other);
+    return combined_in_pairs(node_semver_range_intersect, one, other);
 }
 
 static PyObject *range_subtract(PyObject *one, PyObject *other)
 {
-    return combined(node_semver_range_difference, one, other);
+    return combined_in_pairs(node_semver_range_difference, one, other);
 }
 
 static PyObject *range_or(PyObject *one, PyObject *other)
@@ -209,16 +209,24 @@ static PyObject *range_min_version(PyObject *self, PyObject *arguments, PyObject
 
 typedef node_semver_status search(const node_semver_range *, const node_semver_range *, node_semver_version *);
 
+/* The most sets that two ranges of a search have together. It tries each end of a set against all sets of both, so the
+ * steps are the square of this. */
+#define MOST_SEARCHED 3000
+
 /* A method of two ranges that returns a Version or None. */
 static PyObject *found(search *find, PyObject *self, PyObject *other)
 {
     node_semver_version handle = NODE_SEMVER_EMPTY;
     node_semver_status status;
+    size_t count;
     native_state *state = state_of(self);
     if (state == NULL || !is_range(self, other))
         return NULL;
-    WHILE_OTHERS_RUN(SET_COUNT(self) + SET_COUNT(other) >= LONG,
-                     status = find(RANGE_OF(self), RANGE_OF(other), &handle));
+    count = SET_COUNT(self) + SET_COUNT(other);
+    if (count > MOST_SEARCHED)
+        return PyErr_Format(PyExc_ValueError, "the ranges have %zu and %zu sets, and more than %d together",
+                            SET_COUNT(self), SET_COUNT(other), MOST_SEARCHED);
+    WHILE_OTHERS_RUN(count * count >= LONG, status = find(RANGE_OF(self), RANGE_OF(other), &handle));
     return found_version(state, status, handle);
 }
 
@@ -247,7 +255,7 @@ static PyObject *reduced_to_sets(PyObject *self)
     PyObject *result = NULL, *make = PyObject_GetAttrString((PyObject *)Py_TYPE(self), "from_sets");
     PyObject *sets = make == NULL ? NULL : range_sets(self, NULL);
     if (sets != NULL)
-        result = Py_BuildValue("(O(O))", make, sets);
+        result = call_with(make, sets);
     Py_XDECREF(sets);
     Py_XDECREF(make);
     return result;
@@ -259,7 +267,7 @@ static PyObject *range_reduce(PyObject *self, PyObject *ignored)
     int same = text == NULL ? -1 : reads_back(self, text);
     (void)ignored;
     if (same == 1)
-        result = Py_BuildValue("(O(O))", (PyObject *)Py_TYPE(self), text);
+        result = call_with((PyObject *)Py_TYPE(self), text);
     else if (same == 0)
         result = reduced_to_sets(self);
     Py_XDECREF(text);

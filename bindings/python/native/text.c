@@ -106,6 +106,18 @@ static void raise_not_read_back(PyObject *self)
     Py_DECREF(repr);
 }
 
+/* The inner tuple is made first. With one format for both the outer one is first, and has an empty place, which code that the
+ * garbage collector runs may find. */
+PyObject *call_with(PyObject *make, PyObject *argument)
+{
+    PyObject *call, *arguments = Py_BuildValue("(O)", argument);
+    if (arguments == NULL)
+        return NULL;
+    call = Py_BuildValue("(OO)", make, arguments);
+    Py_DECREF(arguments);
+    return call;
+}
+
 PyObject *reduced(PyObject *self, PyObject *text)
 {
     PyObject *result = NULL;
@@ -114,7 +126,7 @@ PyObject *reduced(PyObject *self, PyObject *text)
         return NULL;
     same = reads_back(self, text);
     if (same == 1)
-        result = Py_BuildValue("(O(O))", (PyObject *)Py_TYPE(self), text);
+        result = call_with((PyObject *)Py_TYPE(self), text);
     else if (same == 0)
         raise_not_read_back(self);
     Py_DECREF(text);

@@ -88,12 +88,6 @@ static PyObject *version_repr(PyObject *self)
     return repr;
 }
 
-static Py_hash_t version_hash(PyObject *self)
-{
-    Py_hash_t hash = (Py_hash_t)node_semver_version_hash(VERSION_OF(self));
-    return hash == -1 ? -2 : hash;
-}
-
 /* The type is final, so two values of one type are two Versions. */
 static PyObject *version_compare(PyObject *one, PyObject *other, int operation)
 {
@@ -182,17 +176,20 @@ static PyObject *identifier(printer *print, const node_semver_version *version, 
     return result;
 }
 
+/* A list is filled, and no tuple: `printed` lets other threads run while it writes a long identifier, and they may find
+ * either through the garbage collector. A list has no empty places. */
 static PyObject *identifiers(printer *print, const node_semver_version *version, size_t count)
 {
     size_t place;
-    PyObject *tuple = PyTuple_New((Py_ssize_t)count);
-    for (place = 0; tuple != NULL && place < count; place++) {
+    PyObject *list = PyList_New(0), *tuple;
+    for (place = 0; list != NULL && place < count; place++) {
         PyObject *item = identifier(print, version, place);
-        if (item == NULL || PyTuple_SetItem(tuple, (Py_ssize_t)place, item) != 0) {
-            Py_DECREF(tuple);
-            return NULL;
-        }
+        if (item == NULL || PyList_Append(list, item) != 0)
+            Py_CLEAR(list);
+        Py_XDECREF(item);
     }
+    tuple = list == NULL ? NULL : PyList_AsTuple(list);
+    Py_XDECREF(list);
     return tuple;
 }
 

@@ -100,7 +100,7 @@ static node_semver_status read_texts(version_list *list, const node_semver_range
     return NODE_SEMVER_OK;
 }
 
-/* The items of the entries. */
+/* The items of the entries. No other code runs while the list has empty places: nothing is allocated between. */
 static PyObject *items_left(const version_list *list)
 {
     size_t place;

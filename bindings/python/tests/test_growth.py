@@ -40,7 +40,7 @@ WORKS: List[Callable[[], object]] = [
     lambda: Version("1.2.3-rc.4", strict=True),
     lambda: refused(lambda: Version("v1.2.3", strict=True)),
     lambda: (VERSION.prerelease, VERSION.build, VERSION.major),
-    lambda: (hash(VERSION), hash(WANTED)),
+    lambda: (hash(VERSION), hash(LONGEST), hash(Range("^1.2.3-rc.4 || >=3"))),
     lambda: str(LONGEST),
     lambda: Range("^1.2.3-rc.4 || >=3 || 1 - 2 || foo"),
     lambda: str(Range("^1.2.3-rc.4 || >=3 || 1 - 2")),

@@ -1,12 +1,13 @@
 # SPDX-License-Identifier: Apache-2.0
 """Keys of versions and intervals of ranges, against the order of versions and `in`; and a clause of SQL in a database."""
 
+import random
 import sqlite3
 import unittest
 from itertools import product
 from typing import List
 
-from node_semver import Range, Version
+from node_semver import Range, SemverError, Version
 
 # A version and its key, worked out by hand: below 240 a number is a byte, else 240 + n and n bytes; then 255, or the
 # identifiers and 0.
@@ -70,6 +71,20 @@ class Keys(unittest.TestCase):
     def test_a_long_key(self) -> None:
         long = Version("1.2.3-" + ".".join("a" for _ in range(125)))
         self.assertEqual(long.key, b"\1\2\3" + 125 * b"\2a\0" + b"\0")
+
+
+    def test_the_longest_keys(self) -> None:
+        # A letter and a dot are three bytes of a key. A version of SemVer 2.0.0 has a hyphen, where the loose form has a letter.
+        self.assertEqual(len(Version("0.0.0" + ".".join("a" * 126)).key), 382)
+        self.assertEqual(len(Version("0.0.0-" + ".".join("a" * 124) + ".aa", strict=True).key), 380)
+        chance = random.Random(1)
+        for _ in range(20_000):
+            extra = "".join(chance.choice("a0-.9Z.1") for _ in range(251))
+            try:
+                key = Version("0.0.0" + extra).key
+            except SemverError:
+                continue
+            self.assertLessEqual(len(key), 382)
 
 
 class Intervals(unittest.TestCase):

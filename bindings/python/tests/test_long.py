@@ -3,8 +3,9 @@
 
 import pickle
 import random
+import time
 import unittest
-from typing import List, Union
+from typing import Callable, List, Union
 
 from node_semver import Range, Version
 
@@ -56,21 +57,49 @@ class Long(unittest.TestCase):
         self.assertEqual(Range.from_sets(sets), self.one)
         self.assertEqual(str(Range.from_sets(iter(sets))), str(self.one))
 
-    def test_an_intersection_has_at_most_a_million_pairs(self) -> None:
+    def test_an_operator_makes_at_most_a_million_pairs(self) -> None:
         same, longer = Range("||".join(["^1.2.3"] * 1000)), Range("||".join(["^1.2.3"] * 1001))
         pairs = same & same
         self.assertTrue(pairs is not None and "1.9.0" in pairs)
+        self.assertIsNone(same - same)
         for one, other in [(same, longer), (longer, same), (longer, longer)]:
-            with self.assertRaisesRegex(ValueError, "more than 1000000 pairs"):
-                one & other
-        self.assertIsNone(longer - same)
+            counts = f"{len(one.sets)} and {len(other.sets)}"
+            for operator in (Range.__and__, Range.__sub__):
+                with self.assertRaisesRegex(ValueError, f"^the ranges have {counts} sets, and more than 1000000 pairs"):
+                    operator(one, other)
+        self.assertEqual(len((longer | longer).sets), 2002)
         self.assertTrue(longer.allows_all(same))
+
+    def test_a_search_has_at_most_3000_sets(self) -> None:
+        # Each end of a set is tried, each is lower than all before, and each set opens the triple of each.
+        many = Range("||".join(f">=1.0.0-a.{n} <1.0.0-b" for n in range(1500, 0, -1)))
+        more = Range("||".join(f">=1.0.0-a.{n} <1.0.0-b" for n in range(1501, 0, -1)))
+        for search in (Range.least_beyond, Range.least_common):
+            for is_included in (False, True):
+                search(many, many, include_prerelease=is_included)
+                for one, other, counts in [(many, more, "1500 and 1501"), (more, many, "1501 and 1500")]:
+                    with self.assertRaisesRegex(ValueError, f"^the ranges have {counts} sets, and more than 3000 together$"):
+                        search(one, other, include_prerelease=is_included)
+        self.assertIsNone(many.least_beyond(many))
+        self.assertEqual(many.least_common(many), Version("1.0.0-a.1"))
+
+    def test_a_million_sets_are_refused_at_once(self) -> None:
+        huge, small = Range("||".join(["1"] * 1_000_000)), Range("1")
+        start = time.perf_counter()
+        calls: List[Callable[[], object]] = [
+            lambda: huge - huge, lambda: huge & huge, lambda: huge.least_beyond(huge), lambda: huge.least_common(small)
+        ]  # fmt: skip
+        for refused in calls:
+            with self.assertRaises(ValueError):
+                refused()
+        self.assertLess(time.perf_counter() - start, 1)
 
     def test_combines(self) -> None:
         self.assertEqual(self.sets_of(self.one & self.other), self.numbered(">={even}.4.0 <{even}.8.0"))
         self.assertEqual(self.sets_of(self.one - self.other), self.numbered(">={even}.1.0-rc.{n} <{even}.4.0"))
         self.assertEqual(str(self.one | self.other), "||".join(ONE + OTHER))
-        self.assertIsNone(self.one - (self.one | self.other))
+        for half in (ONE[:500], ONE[500:]):
+            self.assertIsNone(Range("||".join(half)) - (self.one | self.other))
 
     def test_asks(self) -> None:
         self.assertTrue(self.one.allows_any(self.other))

@@ -99,6 +99,9 @@ class Pick(unittest.TestCase):
         error = caught.exception
         self.assertIsInstance(error, LookupError)
         self.assertEqual(str(error), "one@^9: no version is in the range")
+        # What a terminal would obey is written by its number.
+        hostile = PickError("a\x1b[2J\u202e\ud800", "1\x07", "NoneInRange")
+        self.assertEqual(str(hostile), "a\\x1b[2J\\u202e\\ud800@1\\x07: no version is in the range")
         self.assertEqual((error.kind, error.code, error.wanted), ("NoneInRange", "ETARGET", "^9"))
         again = pickle.loads(pickle.dumps(error))
         self.assertEqual((str(again), again.kind, again.code, again.wanted), (str(error), error.kind, error.code, error.wanted))

@@ -84,13 +84,14 @@ def of_pieces(size: int) -> Callable[[], object]:
 
 
 def of_a_search(size: int) -> Callable[[], object]:
-    one = Range("||".join(f">=1.0.0-a.{n} <1.0.0" for n in range(size)))
+    """Each end of a set is lower than those before, and is tried against all sets."""
+    one = Range("||".join(f">=1.0.0-a.{n} <1.0.0-b" for n in range(size, 0, -1)))
     return lambda: one.least_beyond(one)
 
 
 def of_a_common_search(size: int) -> Callable[[], object]:
-    one = Range("||".join(f">=1.0.0-a.{n} <1.0.0" for n in range(size)))
-    other = Range("||".join(f">=1.0.{n + 1}-a.{n} <1.0.{n + 2}" for n in range(size)))
+    one = Range("||".join(f">=1.0.0-a.{n} <1.0.0-b" for n in range(size, 0, -1)))
+    other = Range("||".join(f">=1.0.0-b.{n} <1.0.0-c" for n in range(size, 0, -1)))
     return lambda: one.least_common(other)
 
 
@@ -153,8 +154,8 @@ def interpreter_calls() -> Tuple[Any, Any, Any]:
 class Threads(unittest.TestCase):
     def test_run_during_long_calls(self) -> None:
         for work, size in [
-            (of_overlapping_ranges, 250), (of_pieces, 250), (of_a_search, 20_000),
-            (of_a_common_search, 20_000), (of_a_question, 100_000),
+            (of_overlapping_ranges, 250), (of_pieces, 250), (of_a_search, 375),
+            (of_a_common_search, 375), (of_a_question, 100_000),
             (of_a_list, 200_000), (of_a_filter, 200_000), (of_a_text, 100_000), (of_a_pair, 100_000),
             (of_npms_reading, 100_000), (of_a_long_version, 100_000_000),
         ]:  # fmt: skip

@@ -8,5 +8,8 @@ int sqlite3_denimscree_init(sqlite3 *database, char **message, const sqlite3_api
     SQLITE_EXTENSION_INIT2(api);
     (void)message;
     int status = add_functions(database);
-    return status == SQLITE_OK ? add_intervals(database) : status;
+    if (status == SQLITE_OK) {
+        status = add_intervals(database);
+    }
+    return status == SQLITE_OK ? add_collation(database) : status;
 }

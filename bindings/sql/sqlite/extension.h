@@ -14,6 +14,9 @@ enum { MESSAGE = 160 };
  * false if memory ran out. The text is valid until the value is read in another way. */
 bool get_text(sqlite3_value *value, struct text *text);
 
+/* How many bytes a value says that a range may have: none if it is no number. */
+size_t get_most(sqlite3_value *value);
+
 /* ---- functions.c ---- */
 
 int add_functions(sqlite3 *database);
@@ -21,5 +24,9 @@ int add_functions(sqlite3 *database);
 /* ---- intervals.c ---- */
 
 int add_intervals(sqlite3 *database);
+
+/* ---- collation.c ---- */
+
+int add_collation(sqlite3 *database);
 
 #endif

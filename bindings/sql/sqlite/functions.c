@@ -14,6 +14,11 @@ bool get_text(sqlite3_value *value, struct text *text) {
     return length == 0 || bytes != NULL;
 }
 
+size_t get_most(sqlite3_value *value) {
+    sqlite3_int64 most = sqlite3_value_int64(value);
+    return most > 0 ? (size_t)most : 0;
+}
+
 static bool is_null(sqlite3_value *value) {
     return sqlite3_value_type(value) == SQLITE_NULL;
 }
@@ -67,60 +72,66 @@ static void semver_is_prerelease(sqlite3_context *context, int count, sqlite3_va
 
 /* ---- semver_satisfies ---- */
 
-static void free_kept(void *kept) {
-    node_semver_range *range = kept;
-    node_semver_range_free(*range);
-    sqlite3_free(range);
+/* The range that SQLite keeps from row to row, and how long its text is. */
+struct kept {
+    node_semver_range range;
+    size_t length;
+};
+
+static void free_kept(void *given) {
+    struct kept *kept = given;
+    node_semver_range_free(kept->range);
+    sqlite3_free(kept);
 }
 
 /* Reads the range of a text into memory of its own; NULL with an error of the call. */
-static node_semver_range *new_range(sqlite3_context *context, sqlite3_value *value) {
+static struct kept *new_kept(sqlite3_context *context, sqlite3_value *value, size_t most) {
     struct text text;
     struct failure failure;
-    node_semver_range *range = sqlite3_malloc64(sizeof *range);
-    if (range == NULL || !get_text(value, &text)) {
-        sqlite3_free(range);
+    struct kept *kept = sqlite3_malloc64(sizeof *kept);
+    if (kept == NULL || !get_text(value, &text)) {
+        sqlite3_free(kept);
         sqlite3_result_error_nomem(context);
         return NULL;
     }
-    *range = (node_semver_range)NODE_SEMVER_EMPTY;
-    if (!read_range(text, range, &failure)) {
-        sqlite3_free(range);
+    *kept = (struct kept){NODE_SEMVER_EMPTY, text.length};
+    if (!read_range(text, most, &kept->range, &failure)) {
+        sqlite3_free(kept);
         fail(context, "semver_satisfies", &failure);
         return NULL;
     }
-    return range;
+    return kept;
 }
 
-static void answer_satisfies(sqlite3_context *context, const node_semver_range *range, sqlite3_value *value) {
+static void answer_satisfies(sqlite3_context *context, const struct kept *kept, sqlite3_value *value) {
     struct text text;
     struct failure failure;
     bool answer = false;
     if (!get_text(value, &text)) {
         sqlite3_result_error_nomem(context);
-    } else if (satisfies_text(range, text, &answer, &failure)) {
+    } else if (satisfies_text(&kept->range, text, &answer, &failure)) {
         sqlite3_result_int(context, answer);
     } else {
         fail(context, "semver_satisfies", &failure);
     }
 }
 
-/* SQLite keeps the range of a constant text from row to row. It may free a range at once, so it gets the range
- * after the result is set. */
+/* The third argument, if there is one, is how many bytes the range may have. SQLite keeps the range of a constant text from
+ * row to row. It may free a range at once, so it gets the range after the result is set. */
 static void semver_satisfies(sqlite3_context *context, int count, sqlite3_value **arguments) {
-    (void)count;
-    if (is_null(arguments[0]) || is_null(arguments[1])) {
+    size_t most = count == 3 ? get_most(arguments[2]) : MAX_RANGE_BYTES;
+    if (is_null(arguments[0]) || is_null(arguments[1]) || (count == 3 && is_null(arguments[2]))) {
         return;
     }
-    node_semver_range *range = sqlite3_get_auxdata(context, 0);
-    if (range != NULL) {
-        answer_satisfies(context, range, arguments[1]);
+    struct kept *kept = sqlite3_get_auxdata(context, 0);
+    if (kept != NULL && kept->length <= most) {
+        answer_satisfies(context, kept, arguments[1]);
         return;
     }
-    range = new_range(context, arguments[0]);
-    if (range != NULL) {
-        answer_satisfies(context, range, arguments[1]);
-        sqlite3_set_auxdata(context, 0, range, free_kept);
+    kept = new_kept(context, arguments[0], most);
+    if (kept != NULL) {
+        answer_satisfies(context, kept, arguments[1]);
+        sqlite3_set_auxdata(context, 0, kept, free_kept);
     }
 }
 
@@ -133,6 +144,7 @@ int add_functions(sqlite3 *database) {
         {"semver_key", 1, semver_key},
         {"semver_is_prerelease", 1, semver_is_prerelease},
         {"semver_satisfies", 2, semver_satisfies},
+        {"semver_satisfies", 3, semver_satisfies},
     };
     int flags = SQLITE_UTF8 | SQLITE_DETERMINISTIC | SQLITE_INNOCUOUS, status = SQLITE_OK;
     for (size_t i = 0; i < sizeof functions / sizeof functions[0] && status == SQLITE_OK; i++) {

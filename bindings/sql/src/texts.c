@@ -16,10 +16,18 @@ bool read_version(struct text text, node_semver_version *version, struct failure
     return is_done(status, false, failure);
 }
 
-bool read_range(struct text text, node_semver_range *range, struct failure *failure) {
-    node_semver_status status =
-        node_semver_range_parse_npm(text.bytes, text.length, false, false, range, &failure->fault);
+bool read_range(struct text text, size_t most, node_semver_range *range, struct failure *failure) {
+    node_semver_status status;
+    if (text.length > most) {
+        failure->fault = (node_semver_fault){NODE_SEMVER_MAX_LENGTH, most, 0};
+        return is_done(NODE_SEMVER_REFUSED, true, failure);
+    }
+    status = node_semver_range_parse_npm(text.bytes, text.length, false, false, range, &failure->fault);
     return is_done(status, true, failure);
+}
+
+bool is_too_long(const struct failure *failure) {
+    return failure->is_range && failure->status == NODE_SEMVER_REFUSED && failure->fault.kind == NODE_SEMVER_MAX_LENGTH;
 }
 
 /* ---- keys ---- */
@@ -55,11 +63,17 @@ static bool key_of_version(const node_semver_version *version, struct key *key) 
 }
 
 bool key_of_text(struct text text, struct key *key, struct failure *failure) {
+    bool unread;
+    return key_and_kind_of_text(text, key, &unread, failure);
+}
+
+bool key_and_kind_of_text(struct text text, struct key *key, bool *is_prerelease, struct failure *failure) {
     node_semver_version version = NODE_SEMVER_EMPTY;
     if (!read_version(text, &version, failure)) {
         return false;
     }
     bool is_made = key_of_version(&version, key);
+    *is_prerelease = node_semver_version_is_prerelease(&version);
     node_semver_version_free(version);
     return is_made || is_done(NODE_SEMVER_OUT_OF_MEMORY, false, failure);
 }
@@ -112,9 +126,9 @@ bool satisfies_text(const node_semver_range *range, struct text text, bool *answ
     return true;
 }
 
-bool intervals_of_text(struct text text, node_semver_intervals *intervals, struct failure *failure) {
+bool intervals_of_text(struct text text, size_t most, node_semver_intervals *intervals, struct failure *failure) {
     node_semver_range range = NODE_SEMVER_EMPTY;
-    if (!read_range(text, &range, failure)) {
+    if (!read_range(text, most, &range, failure)) {
         return false;
     }
     node_semver_status status = node_semver_range_intervals(&range, intervals);
@@ -160,7 +174,10 @@ static const char *reason_of(const struct failure *failure) {
 
 void tell_failure(const struct failure *failure, char *room, size_t size) {
     const char *what = failure->is_range ? "range" : "version";
-    if (failure->status == NODE_SEMVER_REFUSED) {
+    if (is_too_long(failure)) {
+        snprintf(room, size, "no range: MaxLengthError at byte %zu, a range has at most %zu bytes here",
+                 failure->fault.offset, failure->fault.offset);
+    } else if (failure->status == NODE_SEMVER_REFUSED) {
         snprintf(room, size, "no %s: %s at byte %zu, %s", what, name_of(failure->fault.kind), failure->fault.offset,
                  reason_of(failure));
     } else if (failure->status == NODE_SEMVER_NOT_UTF8) {

@@ -20,7 +20,12 @@ struct text {
     size_t length;
 };
 
-/* What went wrong: a status of the library, and its fault if a text was refused. */
+/* How long the text of a range may be, unless a setting or an argument says more. A long text takes far more memory than its
+ * own, of which a database knows nothing, and no interrupt ends its reading. */
+#define MAX_RANGE_BYTES 65536
+
+/* What went wrong: a status of the library, and its fault if a text was refused. A text of a range that is too long has the
+ * fault NODE_SEMVER_MAX_LENGTH at the first byte that is too many. */
 struct failure {
     node_semver_status status;
     node_semver_fault fault;
@@ -34,20 +39,22 @@ struct key {
     unsigned char room[512];
 };
 
-/* Read a text into an empty handle: true, or false with the failure. */
+/* Read a text into an empty handle: true, or false with the failure. That of a range may have so many bytes. */
 bool read_version(struct text text, node_semver_version *version, struct failure *failure);
-bool read_range(struct text text, node_semver_range *range, struct failure *failure);
+bool read_range(struct text text, size_t most, node_semver_range *range, struct failure *failure);
+bool is_too_long(const struct failure *failure);
 
 /* Makes the key of the version of a text: true, or false with the failure, and then there is nothing to free. */
 bool key_of_text(struct text text, struct key *key, struct failure *failure);
+bool key_and_kind_of_text(struct text text, struct key *key, bool *is_prerelease, struct failure *failure);
 void free_key(struct key *key);
 
 /* Write whether the version of a text is a prerelease; whether it satisfies a range. */
 bool is_text_of_prerelease(struct text text, bool *answer, struct failure *failure);
 bool satisfies_text(const node_semver_range *range, struct text text, bool *answer, struct failure *failure);
 
-/* Makes the intervals of the range of a text. */
-bool intervals_of_text(struct text text, node_semver_intervals *intervals, struct failure *failure);
+/* Makes the intervals of the range of a text of at most so many bytes. */
+bool intervals_of_text(struct text text, size_t most, node_semver_intervals *intervals, struct failure *failure);
 
 /* The bytes at an end of an interval; false if memory ran out, and then there is nothing to free. */
 bool lower_key(const node_semver_intervals *intervals, size_t place, struct key *key);

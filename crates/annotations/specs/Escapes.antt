@@ -1,4 +1,4 @@
--- Texts with the escapes of GitHub's workflow commands, of JSON (RFC 8259) and of URIs (RFC 3986).
+-- Texts with the escapes of GitHub's workflow commands, of JSON (RFC 8259), of SARIF's messages and of URIs (RFC 3986).
 use Rattle.std.specs.Prelude.{◌&&◌, ◌||◌, ◌==◌, ◌+◌, ◌-◌, ◌/◌, ◌%◌, ℕ, List, [], ◌∷◌, ◌++◌, Bool, if◌then◌else◌, nat_eq, nat_le}
 use Rattle.std.specs.Prelude.{nat_lt, codes}
 use Rattle.std.specs.List.{flat_map, starts_with}
@@ -33,6 +33,22 @@ json_byte byte = if byte == 34 || byte == 92 then 92 ∷ byte ∷ []
 
 abbrev pub json_string : (text : List ℕ) → List ℕ
 json_string text = codes "\"" ++ (flat_map json_byte text ++ codes "\"")
+
+-- ---- plain texts of messages, of SARIF 2.1.0
+
+-- A byte of a plain text. Section 3.11.5, "Messages with placeholders": `{0}` is a placeholder, and a brace is written twice.
+-- Section 3.11.6, "Messages with embedded links": `[a](b)` is a link, and a bracket or a backslash has a backslash in front.
+abbrev pub message_byte : ℕ → List ℕ
+message_byte byte = if byte == 123 || byte == 125 then byte ∷ byte ∷ []
+    else if byte == 91 || byte == 93 || byte == 92 then 92 ∷ byte ∷ []
+    else byte ∷ []
+
+-- a plain text: `a{{0}}` for `a{0}`, and `\[a\](b)` for `[a](b)`
+abbrev pub message_text : (text : List ℕ) → List ℕ
+message_text text = flat_map message_byte text
+
+abbrev pub message_string : (text : List ℕ) → List ℕ
+message_string text = json_string (message_text text)
 
 -- ---- URIs
 

@@ -1,12 +1,12 @@
 -- A log in the Static Analysis Results Interchange Format (SARIF), version 2.1.0.
 use Rattle.std.specs.Prelude.{ℕ, List, [], ◌∷◌, ◌++◌, Bool, codes, decimal, if◌then◌else◌}
-use Rattle.annotations.specs.Escapes.{json_string, uri}
+use Rattle.annotations.specs.Escapes.{json_string, message_string, uri}
 use Rattle.annotations.specs.Findings.{FindingValue, RuleValue, ToolValue, level_word}
 
 -- a rule: section 3.49, "reportingDescriptor object"
 abbrev pub rule_text : RuleValue → List ℕ
 rule_text rule = codes "{\"id\":" ++ (json_string rule.id ++ (codes ",\"shortDescription\":{\"text\":"
-    ++ (json_string rule.description ++ (codes "},\"defaultConfiguration\":{\"level\":\"" ++ (level_word rule.level
+    ++ (message_string rule.description ++ (codes "},\"defaultConfiguration\":{\"level\":\"" ++ (level_word rule.level
     ++ codes "\"}}")))))
 
 -- where a finding is: section 3.29, "physicalLocation object"
@@ -19,7 +19,7 @@ location_text finding = codes "{\"physicalLocation\":{\"artifactLocation\":{\"ur
 abbrev pub result_text : FindingValue → List ℕ
 result_text finding = codes "{\"ruleId\":" ++ (json_string finding.rule ++ (codes ",\"ruleIndex\":"
     ++ (decimal finding.rule_index ++ (codes ",\"level\":\"" ++ (level_word finding.level
-    ++ (codes "\",\"message\":{\"text\":" ++ (json_string finding.message ++ (codes "},\"locations\":["
+    ++ (codes "\",\"message\":{\"text\":" ++ (message_string finding.message ++ (codes "},\"locations\":["
     ++ (location_text finding ++ codes "]}")))))))))
 
 -- items with a comma before each but the first

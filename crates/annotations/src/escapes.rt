@@ -85,6 +85,38 @@ fn push_json_byte(out: &mut Vec<u8>, byte: u8) -> Result<(), AllocError>
     }
 }
 
+/// Adds a plain text of a SARIF message as a JSON string. Nothing in it is read as a link or as a placeholder.
+pub fn push_message(out: &mut Vec<u8>, text: &[u8]) -> Result<(), AllocError>
+    ensures { OnOk result (out.new.items ≡ out.old.items ++ Escapes.message_string text.now) }
+{
+    out.extend_from_slice(b"\"")?;
+    push_message_bytes(out, text)?;
+    out.extend_from_slice(b"\"")
+}
+
+/// Adds the bytes of a plain text of a SARIF message.
+fn push_message_bytes(out: &mut Vec<u8>, text: &[u8]) -> Result<(), AllocError>
+    ensures { OnOk result (out.new.items ≡ out.old.items ++ flat_map Escapes.json_byte (Escapes.message_text text.now)) }
+{
+    for byte in text {
+        push_message_byte(out, *byte)?;
+    }
+    Ok(())
+}
+
+/// Adds a byte of a plain text of a SARIF message.
+fn push_message_byte(out: &mut Vec<u8>, byte: u8) -> Result<(), AllocError>
+    ensures { OnOk result (out.new.items ≡ out.old.items ++ flat_map Escapes.json_byte (Escapes.message_byte byte)) }
+{
+    if byte == b'{' || byte == b'}' {
+        push_json_bytes(out, &[byte, byte])
+    } else if byte == b'[' || byte == b']' || byte == b'\\' {
+        push_json_bytes(out, &[b'\\', byte])
+    } else {
+        push_json_bytes(out, &[byte])
+    }
+}
+
 /// Adds the path of a file as a URI reference. One that begins with a slash is a URI of the scheme `file`.
 pub fn push_uri(out: &mut Vec<u8>, path: &[u8]) -> Result<(), AllocError>
     ensures { OnOk result (out.new.items ≡ out.old.items ++ Escapes.uri path.now) }

@@ -3,7 +3,7 @@ ghost use Rattle.std.specs.Prelude.{◌≡◌, ◌++◌, OnOk, map};
 ghost use Rattle.annotations.specs.Findings.{finding_value, rule_value, tool_value};
 ghost use Rattle.annotations.specs.Sarif as Sarif;
 
-use crate::escapes::{push_json, push_number, push_uri};
+use crate::escapes::{push_json, push_message, push_number, push_uri};
 use crate::finding::{Finding, Rule, Tool};
 use std::alloc::AllocError;
 
@@ -101,7 +101,7 @@ fn push_rule(out: &mut Vec<u8>, rule: Rule<'_>) -> Result<(), AllocError>
     out.extend_from_slice(b"{\"id\":")?;
     push_json(out, rule.id.as_bytes())?;
     out.extend_from_slice(b",\"shortDescription\":{\"text\":")?;
-    push_json(out, rule.description.as_bytes())?;
+    push_message(out, rule.description.as_bytes())?;
     out.extend_from_slice(b"},\"defaultConfiguration\":{\"level\":\"")?;
     out.extend_from_slice(rule.level.as_str().as_bytes())?;
     out.extend_from_slice(b"\"}}")
@@ -118,7 +118,7 @@ fn push_result(out: &mut Vec<u8>, finding: &Finding<'_>) -> Result<(), AllocErro
     out.extend_from_slice(b",\"level\":\"")?;
     out.extend_from_slice(finding.level.as_str().as_bytes())?;
     out.extend_from_slice(b"\",\"message\":{\"text\":")?;
-    push_json(out, &finding.message)?;
+    push_message(out, &finding.message)?;
     out.extend_from_slice(b"},\"locations\":[")?;
     push_location(out, finding)?;
     out.extend_from_slice(b"]}")

@@ -13,9 +13,23 @@ shown_byte byte = if byte == 34 || byte == 92 then 92 ∷ byte ∷ []
     else if nat_lt byte 32 || nat_lt 126 byte then 92 ∷ 120 ∷ digit (byte / 16) ∷ digit (byte % 16) ∷ []
     else byte ∷ []
 
+-- a byte by its number: `\x3a`
+abbrev pub numbered : ℕ → List ℕ
+numbered byte = 92 ∷ 120 ∷ digit (byte / 16) ∷ digit (byte % 16) ∷ []
+
+-- The first byte of a line. GitHub, "Workflow commands": a line is a command if it begins with `::`, or with blanks and `::`.
+-- Azure Pipelines, "Logging commands": one that begins with `##[`.
+abbrev pub first_byte : ℕ → List ℕ
+first_byte byte = if byte == 32 || byte == 35 || byte == 58 then numbered byte else shown_byte byte
+
 -- a text
 abbrev pub shown : (text : List ℕ) → List ℕ
 shown text = flat_map shown_byte text
+
+-- a text that begins a line, which is written `""` if it is empty: `\x3a:error::a` for `::error::a`
+abbrev pub shown_first : (text : List ℕ) → List ℕ
+shown_first [] = codes "\"\""
+shown_first (byte ∷ text) = first_byte byte ++ shown text
 
 -- a text between quotation marks: `"a.json"`
 abbrev pub quoted : (text : List ℕ) → List ℕ

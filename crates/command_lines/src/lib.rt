@@ -2,7 +2,8 @@
 //!
 //! - [`words_of`] returns the words after the program's name, [`word_bytes`] the bytes of one, and [`first_argument`] divides
 //!   words into arguments.
-//! - [`Quoted`], [`write_shown`], [`push_shown`] and [`push_shown_bytes`] write texts in printable ASCII alone, as a terminal gets them.
+//! - [`Quoted`], [`write_shown`], [`push_shown`], [`push_shown_bytes`] and [`push_shown_first`] write texts in printable ASCII
+//!   alone, as a terminal gets them.
 //! - [`Watched`] is a reader or writer that remembers that a call failed, and [`read_json`] reads the JSON value of one.
 #![tactic(auto)]
 
@@ -16,6 +17,8 @@ mod words;
 pub use argument::{Argument, MAX_WORDS, Options, first_argument};
 pub use input::{read_json, read_json_with_text};
 pub use input_error::{InputError, failure_error, open_error};
-pub use shown::{Quoted, push_shown, push_shown_bytes, write_quoted, write_shown};
+pub use shown::{
+    Quoted, push_shown, push_shown_bytes, push_shown_first, write_quoted, write_shown,
+};
 pub use watched::Watched;
 pub use words::{RawWord, WordsError, word_bytes, words_of};

@@ -35,6 +35,17 @@ impl ShownByte {
         }
     }
 
+    /// What is written for this byte at the beginning of a line.
+    fn first(byte: u8) -> ShownByte
+        ensures { bytes_of result ≡ Shown.first_byte byte }
+    {
+        if byte == b' ' || byte == b'#' || byte == b':' {
+            ShownByte::Numbered([b'\\', b'x', digit(byte / 16), digit(byte % 16)])
+        } else {
+            ShownByte::new(byte)
+        }
+    }
+
     fn as_bytes(&self) -> &[u8]
         ensures { result.now ≡ bytes_of self.now }
     {
@@ -73,6 +84,19 @@ pub fn push_shown_bytes(line: &mut Vec<u8>, text: &[u8]) -> Result<(), AllocErro
         line.extend_from_slice(ShownByte::new(*byte).as_bytes())?;
     }
     Ok(())
+}
+
+/// Adds a text to an empty line, so that no runner of workflows takes the line for a command.
+pub fn push_shown_first(line: &mut Vec<u8>, text: &str) -> Result<(), AllocError>
+    ensures { OnOk result (line.new.items ≡ line.old.items ++ Shown.shown_first text.now) }
+{
+    match text.as_bytes().split_first() {
+        Some((first, rest)) => {
+            line.extend_from_slice(ShownByte::first(*first).as_bytes())?;
+            push_shown_bytes(line, rest)
+        }
+        None => line.extend_from_slice(b"\"\""),
+    }
 }
 
 /// Prints a text.

@@ -1,3 +1,3 @@
 -- What private functions are said to compute.
 pub mod Searches
-pub mod LastSteps
+pub mod FirstPlaces

@@ -9,7 +9,9 @@ mod part;
 mod path;
 mod place;
 mod search;
+mod settled;
 mod step_at;
+mod taken;
 
 pub use choice::chosen_places;
 pub use path::{Path, Step};

@@ -1,13 +1,12 @@
 //! One pass over a JSON text, in search of what many paths lead to.
-ghost use Rattle.std.specs.Prelude.{◌≡◌, IfOk, None, OnOk, Some, map, slice_set, true};
+ghost use Rattle.std.specs.Prelude.{◌≡◌, IfOk, None, OnOk, Some, map, slice_set};
 ghost use Rattle.json_places.specs.Places.{ArePlacesOf};
-ghost use Rattle.json_places.specs.Private.LastSteps.{IsLastStep};
-ghost use Rattle.json_places.specs.Steps.{last_step, step_value, steps_seen};
 
 use crate::part::{Part, narrowed};
-use crate::path::{Path, Step, is_same_step};
+use crate::path::{Path, Step};
 use crate::place::{Place, moved};
-use crate::step_at::is_step_at;
+use crate::settled::settled;
+use crate::taken::Taken;
 use json::{Reader, Scratch, Token};
 use std::alloc::{AllocError, Global};
 
@@ -35,7 +34,14 @@ pub fn places_of(
         search.pass(text, paths, token, offset)?;
         offset = reader.offset();
     }
-    Ok(search.found)
+    settled(
+        alloc,
+        &mut scratch,
+        text,
+        paths,
+        &search.seen,
+        &search.taken,
+    )
 }
 
 /// An object or a list that is open.
@@ -47,34 +53,35 @@ struct Open {
     next: Option<usize>,
 }
 
-/// What is found so far.
+/// What is seen so far.
 #[derive(Drop)]
 struct Search {
-    found: Vec<Option<Place>>,
+    /// For each path the place of what its last step led to last. Of paths with the same steps only the first one has it.
+    seen: Vec<Option<Place>>,
+    taken: Taken,
     /// The objects and lists that are open, the innermost one last.
     open: Vec<Open>,
     /// The paths that lead to the value that comes next, or through it.
     here: Part,
-    /// The place that was found last.
+    /// The place that was seen last.
     last: Place,
-    scratch: Scratch,
 }
 
 impl Search {
     ghost use Rattle.json_places.specs.Private.Searches.{IsSearch};
 
-    fn new(alloc: Global, text: &str, paths: &[Path<'_>]) -> Result<Search, AllocError>
-        ensures { IfOk result (IsSearch text.now paths.now) }
+    fn new(alloc: Global, _text: &str, paths: &[Path<'_>]) -> Result<Search, AllocError>
+        ensures { IfOk result (IsSearch _text.now) }
     {
         Ok(Search {
-            found: nothing_found(alloc, paths)?,
+            seen: nothing_seen(alloc, paths)?,
+            taken: Taken::new(alloc, paths)?,
             open: Vec::new(alloc),
             here: Part {
                 start: 0,
                 end: paths.len(),
             },
             last: Place::START,
-            scratch: Scratch::new(alloc),
         })
     }
 
@@ -86,30 +93,36 @@ impl Search {
         token: Token<'_>,
         offset: usize,
     ) -> Result<(), AllocError>
-        requires { IsSearch text.now paths.now self.old }
-        ensures { OnOk result (IsSearch text.now paths.now self.new) }
+        requires { IsSearch text.now self.old }
+        ensures { OnOk result (IsSearch text.now self.new) }
     {
         match token {
-            Token::Key(name) => self.enter(text, paths, Step::Member(name), offset),
+            Token::Key(name) => {
+                self.enter(text, paths, Step::Member(name), offset);
+                Ok(())
+            }
             Token::BeginObject => {
-                self.enter_item(text, paths, offset)?;
+                self.enter_item(text, paths, offset);
                 self.begin(None)
             }
             Token::BeginArray => {
-                self.enter_item(text, paths, offset)?;
+                self.enter_item(text, paths, offset);
                 self.begin(Some(0))
             }
             Token::EndObject | Token::EndArray => {
                 self.end();
                 Ok(())
             }
-            _ => self.enter_item(text, paths, offset),
+            _ => {
+                self.enter_item(text, paths, offset);
+                Ok(())
+            }
         }
     }
 
     /// Begins an object, or a list if its next item has a position.
     fn begin(&mut self, next: Option<usize>) -> Result<(), AllocError>
-        ensures found { OnOk result (self.new.found ≡ self.old.found) }
+        ensures seen { OnOk result (self.new.seen ≡ self.old.seen) }
         ensures last { OnOk result (self.new.last ≡ self.old.last) }
     {
         self.open.push(Open {
@@ -121,7 +134,7 @@ impl Search {
 
     /// Ends the innermost object or list. No path goes through what comes next, until a step is entered.
     fn end(&mut self)
-        ensures found { self.new.found ≡ self.old.found }
+        ensures seen { self.new.seen ≡ self.old.seen }
         ensures last { self.new.last ≡ self.old.last }
     {
         self.open.truncate(self.open.len().saturating_sub(1));
@@ -129,24 +142,18 @@ impl Search {
     }
 
     /// Comes to a value, which may be an item of the innermost list.
-    fn enter_item(
-        &mut self,
-        text: &str,
-        paths: &[Path<'_>],
-        offset: usize,
-    ) -> Result<(), AllocError>
-        requires { IsSearch text.now paths.now self.old }
-        ensures { OnOk result (IsSearch text.now paths.now self.new) }
+    fn enter_item(&mut self, text: &str, paths: &[Path<'_>], offset: usize)
+        requires { IsSearch text.now self.old }
+        ensures { IsSearch text.now self.new }
     {
-        match self.next_position() {
-            Some(position) => self.enter(text, paths, Step::Item(position), offset),
-            None => Ok(()),
+        if let Some(position) = self.next_position() {
+            self.enter(text, paths, Step::Item(position), offset);
         }
     }
 
     /// The position of the next item, if the innermost open value is a list.
     fn next_position(&mut self) -> Option<usize>
-        ensures found { self.new.found ≡ self.old.found }
+        ensures seen { self.new.seen ≡ self.old.seen }
         ensures last { self.new.last ≡ self.old.last }
     {
         match self.open.last_mut() {
@@ -164,99 +171,57 @@ impl Search {
         }
     }
 
-    /// Comes to a member or to an item of the innermost open value.
-    fn enter(
-        &mut self,
-        text: &str,
-        paths: &[Path<'_>],
-        step: Step<'_>,
-        offset: usize,
-    ) -> Result<(), AllocError>
-        requires { IsSearch text.now paths.now self.old }
-        ensures { OnOk result (IsSearch text.now paths.now self.new) }
+    /// Comes to a member or to an item of the innermost open value. Whatever the number of paths that go through it, this takes two
+    /// binary searches.
+    fn enter(&mut self, text: &str, paths: &[Path<'_>], step: Step<'_>, offset: usize)
+        requires { IsSearch text.now self.old }
+        ensures { IsSearch text.now self.new }
     {
         let depth = self.open.len();
         let Some(open) = self.open.last() else {
-            return Ok(());
+            return;
         };
         self.here = narrowed(paths, open.paths, depth - 1, step);
-        for index in self.here.start..self.here.end {
-            // What was found in an earlier member of this name does not count.
-            self.forget(text, paths, index);
-            if ends_with(paths, index, depth, step) {
-                self.find(text, paths, index, step, offset)?;
+        if self.here.start < self.here.end {
+            self.taken.take(self.here.start, depth - 1, offset);
+            if ends_after(paths, self.here.start, depth) {
+                self.see(text, self.here.start, offset);
             }
         }
-        Ok(())
     }
 
-    /// Forgets the place that was found for the path at this index.
-    fn forget(&mut self, text: &str, paths: &[Path<'_>], index: usize)
-        requires { IsSearch text.now paths.now self.old }
-        ensures search { IsSearch text.now paths.now self.new }
-        ensures found { self.new.found.items ≡ slice_set self.old.found.items index None }
-        ensures here { self.new.here ≡ self.old.here }
+    /// Comes to what the last step of the path at an index leads to. A later one counts in place of an earlier one.
+    fn see(&mut self, text: &str, index: usize, offset: usize)
+        requires { IsSearch text.now self.old }
+        ensures { IsSearch text.now self.new }
     {
-        if let Some(found) = self.found.get_mut(index) {
-            *found = None;
+        if self.last.offset <= offset && offset <= text.len() {
+            self.last = moved(text.as_bytes(), self.last, offset);
+            put(&mut self.seen, index, self.last);
         }
-    }
-
-    /// Comes to the last step of the path at this index. A later member with the same path is the one that counts.
-    fn find(
-        &mut self,
-        text: &str,
-        paths: &[Path<'_>],
-        index: usize,
-        step: Step<'_>,
-        offset: usize,
-    ) -> Result<(), AllocError>
-        requires search { IsSearch text.now paths.now self.old }
-        requires last { IsLastStep paths.now index (step_value step) }
-        ensures search { OnOk result (IsSearch text.now paths.now self.new) }
-        ensures here { self.new.here ≡ self.old.here }
-    {
-        if offset < self.last.offset || !is_step_at(&mut self.scratch, text, offset, step)? {
-            return Ok(());
-        }
-        self.last = moved(text.as_bytes(), self.last, offset);
-        put(&mut self.found, index, self.last);
-        Ok(())
     }
 }
 
-/// Takes the place that was found last, in place of that of an earlier member.
-fn put(found: &mut Vec<Option<Place>>, index: usize, place: Place)
-    ensures { found.new.items ≡ slice_set found.old.items index (Some place) }
+/// Takes the place that was seen last, in place of that of an earlier member.
+fn put(seen: &mut Vec<Option<Place>>, index: usize, place: Place)
+    ensures { seen.new.items ≡ slice_set seen.old.items index (Some place) }
 {
-    if let Some(found) = found.get_mut(index) {
-        *found = Some(place);
+    if let Some(seen) = seen.get_mut(index) {
+        *seen = Some(place);
     }
 }
 
-/// Nothing is found for each path.
-fn nothing_found(alloc: Global, paths: &[Path<'_>]) -> Result<Vec<Option<Place>>, AllocError>
-    ensures { IfOk result (λ found. found.items ≡ map (λ _. None) paths.now) }
+/// Nothing is seen for each path.
+fn nothing_seen(alloc: Global, paths: &[Path<'_>]) -> Result<Vec<Option<Place>>, AllocError>
+    ensures { IfOk result (λ seen. seen.items ≡ map (λ _. None) paths.now) }
 {
     paths.iter().map(|_| None).collect(alloc)
 }
 
-/// Whether the path at this index has so many steps, and this one last.
-fn ends_with(paths: &[Path<'_>], index: usize, depth: usize, step: Step<'_>) -> bool
-    ensures { result ≡ true → IsLastStep paths.now index (step_value step.entry) }
-{
+/// Whether the path at this index has so many steps.
+fn ends_after(paths: &[Path<'_>], index: usize, count: usize) -> bool {
     match paths.get(index) {
-        Some(path) => path.steps.len() == depth && is_last(path, step),
-        None => false,
-    }
-}
-
-/// Whether this is the last step of a path.
-fn is_last(path: &Path<'_>, step: Step<'_>) -> bool
-    ensures { result ≡ true → last_step (steps_seen path.now.steps.items) ≡ Some (step_value step.entry) }
-{
-    match path.steps.last() {
-        Some(last) => is_same_step(*last, step),
+        Some(path) => path.steps.len() == count,
         None => false,
     }
 }

@@ -44,6 +44,44 @@ fn finds_members(rt: HostRuntime) -> Result<(), Fail> {
     Ok(())
 }
 
+// RFC 8259, section 4: of two members with one name most readers take the last one, and npm's does. What is in the first one is not
+// there then, however deep, and what is in the last one is. Paths with the same steps have the same place.
+#[test]
+fn finds_what_is_in_the_last_of_two_members(rt: HostRuntime) -> Result<(), Fail> {
+    let alloc = rt.alloc();
+    let text = "{\"a\":{\"b\":{\"c\":1},\"d\":2},\"a\":{\"b\":{\"c\":3},\"b\":{\"e\":4}}}";
+    let paths = [
+        path(alloc, &["a"], 0, 0)?,
+        path(alloc, &["a"], 1, 0)?,
+        path(alloc, &["a", "b"], 0, 0)?,
+        path(alloc, &["a", "b", "c"], 0, 0)?,
+        path(alloc, &["a", "b", "c"], 1, 0)?,
+        path(alloc, &["a", "b", "e"], 0, 0)?,
+        path(alloc, &["a", "b", "e"], 1, 0)?,
+        path(alloc, &["a", "d"], 0, 0)?,
+    ];
+    let found = places_of(alloc, text, &paths)?;
+    let mut offsets = Vec::new(alloc);
+    for place in &found {
+        offsets.push(place.map(|place| place.offset))?;
+    }
+    assert_eq!(rt;
+        offsets.as_slice(),
+        [
+            Some(25),
+            Some(25),
+            Some(42),
+            None,
+            None,
+            Some(47),
+            Some(47),
+            None
+        ]
+        .as_slice()
+    );
+    Ok(())
+}
+
 /// A path with these steps.
 fn path_of<'a>(alloc: Global, steps: &[Step<'a>]) -> Result<Path<'a>, AllocError> {
     Ok(Path {

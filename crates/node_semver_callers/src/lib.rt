@@ -31,6 +31,7 @@ pub mod lock_file;
 pub mod mirror;
 pub mod newest;
 pub mod package;
+pub mod signatures;
 pub mod spared;
 pub mod tree;
 pub mod wanted;

@@ -11,7 +11,8 @@ use Rattle.npm_advisories.specs.Files.{is_among, is_osv}
 use Rattle.npm_advisories.specs.LockFile.{AreInstalledOf}
 use Rattle.npm_advisory_files.specs.VersionTest.{IsVersionTest}
 use Rattle.npm_advisory_files.specs.OsvPackages.{package_fault}
-use Rattle.npm_advisory_files.specs.OsvFaults.{affected_fault, event_fault, osv_range_fault, ranges_fault, type_fault}
+use Rattle.npm_advisory_files.specs.OsvFaults.{affected_fault, event_fault, events_fault, osv_range_fault, ranges_fault}
+use Rattle.npm_advisory_files.specs.OsvFaults.{type_fault, version_text_fault, versions_fault}
 use Rattle.npm_advisory_files.specs.OsvForm.{items_at}
 use Rattle.npm_advisory_files.specs.declared.fault.FaultKind.{FaultKind}
 use Rattle.npm_advisory_files.specs.declared.fault.FaultKind.TheVariants as Faults
@@ -54,21 +55,28 @@ npm_steps kind name place file = to_member name ∷ to_item place
 -- ---- OSV's form
 
 module _ (is_version : List ℕ → Bool) where
-  -- in a range: `type`, or the first event with a fault
+  -- in a range: `type`, or the first event with a fault, or else all events, of which none is `introduced`
   abbrev pub range_steps : (range : Data) → List StepValue
   range_steps range = if is_some (type_fault range) then step_in (codes "type") range
-      else to_member (codes "events")
+      else (if is_some (events_fault is_version range) then to_member (codes "events")
       ∷ steps_among (event_fault is_version) (λ event. []) 0 (items_at (codes "events") range)
+      else step_in (codes "events") range)
 
   -- in the ranges of an element of `affected`: the first one with a fault
   abbrev pub ranges_steps : (one : Data) → List StepValue
   ranges_steps one = to_member (codes "ranges")
       ∷ steps_among (osv_range_fault is_version) range_steps 0 (items_at (codes "ranges") one)
 
-  -- in an element of `affected`, whose faults are looked for in this order
+  -- in its versions: the first one that is no string
+  abbrev pub versions_steps : (one : Data) → List StepValue
+  versions_steps one = to_member (codes "versions")
+      ∷ steps_among version_text_fault (λ value. []) 0 (items_at (codes "versions") one)
+
+  -- In an element of `affected`, whose faults are looked for in this order. One that says no versions is at fault itself
   abbrev pub affected_steps : (one : Data) → List StepValue
   affected_steps one = if is_some (package_fault one) then step_in (codes "package") one
-      else (if is_some (ranges_fault is_version one) then ranges_steps one else to_member (codes "versions") ∷ [])
+      else (if is_some (ranges_fault is_version one) then ranges_steps one
+      else (if is_some (versions_fault one) then versions_steps one else []))
 
 module _ (is_version is_wanted : List ℕ → Bool) where
   -- in an OSV object; a fault that is about no member of the object is in the first element of `affected` with a fault

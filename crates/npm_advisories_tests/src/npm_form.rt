@@ -145,7 +145,7 @@ fn finds_nothing_where_nothing_hits(rt: HostRuntime) {
     }
 }
 
-const FAULTS: [(&str, &str); 37] = [
+const FAULTS: [(&str, &str); 43] = [
     ("{}", ""),
     ("1", "File  0"),
     ("[]", ""),
@@ -162,9 +162,19 @@ const FAULTS: [(&str, &str); 37] = [
     ),
     // An advisory without a range is about all versions.
     (
-        r#"{"a": [{"id": 1}, {"id": 1, "vulnerable_versions": null}]}"#,
+        r#"{"a": [{"id": 1, "severity": "low"}, {"id": 1, "vulnerable_versions": null}]}"#,
         "",
     ),
+    // One without any of its members is in another form.
+    (r#"{"a": [{"id": 1}]}"#, "NoMember a 0 1"),
+    (r#"{"c": [{"id": 1}]}"#, "NoMember c 0 1"),
+    (
+        r#"{"vulns": [{"id": "GHSA-35jh-r3h4-6jhm", "modified": "2024-04-16T00:00:00Z"}]}"#,
+        "NoMember vulns 0 GHSA-35jh-r3h4-6jhm",
+    ),
+    (r#"{"a": [{"id": 1, "title": null}]}"#, ""),
+    (r#"{"a": [{"id": 1, "url": null}]}"#, ""),
+    (r#"{"c": [{"id": 1, "severity": null}]}"#, ""),
     // The error has the first fault: by the order of the names, of the advisories, and of the members.
     (
         r#"{"b": 1, "a": [{"id": 1, "url": 1, "title": 1, "vulnerable_versions": "foo"}, 1]}"#,
@@ -197,10 +207,13 @@ const FAULTS: [(&str, &str); 37] = [
         "",
     ),
     (r#"{"c": {}}"#, "List c 0"),
-    (r#"{"c": [{"id": 1}, 1]}"#, "Advisory c 1"),
+    (r#"{"c": [{"id": 1, "url": "u"}, 1]}"#, "Advisory c 1"),
     (r#"{"c": [{"vulnerable_versions": "*"}]}"#, "Id c 0"),
     (r#"{"": 1, "b": [{"id": 1}, 1], "c": 1}"#, "List  0"),
-    (r#"{"b": [{"id": 1}, 1], "c": 1}"#, "Advisory b 1"),
+    (
+        r#"{"b": [{"id": 1, "title": "t"}, 1], "c": 1}"#,
+        "Advisory b 1",
+    ),
     // Files in other forms: an answer of OSV's service, and of its batch; the report of npm's command, and of GitHub's service.
     (
         r#"{"vulns": [{"id": "GHSA-0", "affected": []}]}"#,
@@ -236,7 +249,7 @@ const FAULTS: [(&str, &str); 37] = [
         "Severity a 0 A-1",
     ),
     (
-        r#"{"a": [{"id": 1}, {"id": 18446744073709551615, "title": 1}]}"#,
+        r#"{"a": [{"id": 1, "title": "t"}, {"id": 18446744073709551615, "title": 1}]}"#,
         "Title a 1 18446744073709551615",
     ),
     (r#"{"a": [{"id": -1, "title": 1}]}"#, "Title a 0"),
@@ -275,7 +288,7 @@ const LINKED: &str = r#"{"lockfileVersion": 3, "packages": {"": {"workspaces": [
         "w": {"name": "", "version": "0.3.0"}, "@s/w": {"name": null, "version": "0.3.0"}}}"#;
 
 const WORKSPACES: &str =
-    r#"{"w": [{"id": 1}], "@s/w": [{"id": 2, "vulnerable_versions": "<1"}], "x": [{"id": 3}]}"#;
+    r#"{"w": [{"id": 1, "title": "t"}], "@s/w": [{"id": 2, "vulnerable_versions": "<1"}], "x": [{"id": 3, "title": "t"}]}"#;
 
 // Advisories, a lock file, and the packages that are hit: folder, name, and the two versions that are offered.
 const LOCKS: [(&str, &str, &str); 4] = [

@@ -60,7 +60,7 @@ fn hits_in(alloc: Global, text: &str, hit: &str, spared: &str) -> bool {
 }
 
 // events; versions that are hit; versions that are not
-const EVENTS: [(&str, &str, &str); 19] = [
+const EVENTS: [(&str, &str, &str); 22] = [
     (
         r#"{"introduced": "1.0.0"}, {"fixed": "2.0.0"}"#,
         "1.0.0 1.0.1-a 1.5.0+b 2.0.0-rc.1",
@@ -89,18 +89,48 @@ const EVENTS: [(&str, &str, &str); 19] = [
         "1.0.0 2.0.0 2.5.0",
         "3.0.0",
     ),
-    (r#"{"fixed": "2.0.0"}"#, "", "1.0.0 2.0.0"),
-    ("", "", "1.0.0"),
-    // A version alone, in either order.
+    // A version alone: its end is listed right behind it.
     (
         r#"{"introduced": "2.0.0"}, {"last_affected": "2.0.0"}"#,
         "2.0.0 2.0.0+b",
         "1.9.9 2.0.1-0 2.5.0",
     ),
     (
+        r#"{"introduced": "1.0.0"}, {"last_affected": "1.0.0"}, {"introduced": "3.0.0"}, {"last_affected": "3.0.0"}"#,
+        "1.0.0 3.0.0",
+        "0.9.9 2.0.0 3.0.1",
+    ),
+    // Else the fault goes on behind the version: the schema sorts the events, and so these two stay in their order.
+    (
         r#"{"last_affected": "2.0.0"}, {"introduced": "2.0.0"}"#,
-        "2.0.0",
-        "1.9.9 2.5.0",
+        "2.0.0 2.5.0",
+        "1.9.9",
+    ),
+    (
+        r#"{"last_affected": "4.0.0"}, {"introduced": "4.0.0"}, {"last_affected": "5.0.0"}"#,
+        "4.0.0 4.17.20 5.0.0",
+        "3.9.9 5.0.1",
+    ),
+    (
+        r#"{"introduced": "4.0.0"}, {"introduced": "4.0.0"}, {"last_affected": "4.0.0"}, {"fixed": "5.0.0"}"#,
+        "4.0.0 4.17.20",
+        "3.9.9 5.0.0",
+    ),
+    // In doubt too if another event stands between, or if the two are written otherwise.
+    (
+        r#"{"introduced": "2.0.0"}, {"limit": "9.0.0"}, {"last_affected": "2.0.0"}"#,
+        "2.0.0 2.5.0",
+        "1.9.9 9.0.0",
+    ),
+    (
+        r#"{"introduced": "2.0.0"}, {"last_affected": "2.0.0+b"}, {"last_affected": "3.0.0"}"#,
+        "2.0.0 2.5.0 3.0.0",
+        "1.9.9 3.0.1",
+    ),
+    (
+        r#"{"introduced": "2.0.0"}, {"fixed": "2.0.0"}, {"fixed": "3.0.0"}"#,
+        "2.0.0 2.5.0",
+        "1.9.9 3.0.0",
     ),
     (
         r#"{"introduced": "1.0.0"}, {"fixed": "1.5.0"}, {"introduced": "2.0.0"}, {"last_affected": "2.0.0"}"#,
@@ -120,8 +150,8 @@ const EVENTS: [(&str, &str, &str); 19] = [
     ),
     (
         r#"{"introduced": "1.0.0"}, {"fixed": "2.0.0"}, {"last_affected": "2.0.0"}, {"introduced": "2.0.0"}"#,
-        "1.0.0 2.0.0",
-        "2.0.1",
+        "1.0.0 2.0.0 2.0.1",
+        "0.9.9",
     ),
     // A version is before one of the limits. OSV schema, "Evaluation", `BeforeLimits`.
     (
@@ -144,7 +174,6 @@ const EVENTS: [(&str, &str, &str); 19] = [
         "",
         "0.9.9 1.0.0 1.0.1",
     ),
-    (r#"{"limit": "1.5.0"}"#, "", "1.0.0 2.0.0"),
 ];
 
 // OSV schema, "affected[].ranges[].events" and "Evaluation".
@@ -167,9 +196,9 @@ fn members_of(alloc: Global, events: &str) -> Result<String, AllocError> {
 }
 
 // members; versions that are hit; versions that are not
-const MEMBERS: [(&str, &str, &str); 6] = [
+const MEMBERS: [(&str, &str, &str); 7] = [
     (
-        r#""versions": ["1.2.3", "no version", 7, "v2.0.0+x"]"#,
+        r#""versions": ["1.2.3", "no version", "v2.0.0+x"]"#,
         "1.2.3 1.2.3+b 2.0.0",
         "1.2.4 1.2.3-a 1.9.9",
     ),
@@ -185,9 +214,15 @@ const MEMBERS: [(&str, &str, &str); 6] = [
         "2.0.0",
     ),
     (
-        r#""ranges": [{"type": "GIT", "events": [{"introduced": "0"}]}, {"type": "ECOSYSTEM"}], "versions": null"#,
-        "",
+        r#""ranges": [{"type": "GIT", "repo": "https://a", "events": [{"introduced": "0"}]},
+            {"type": "ECOSYSTEM", "events": [{"introduced": "1.0.0"}], "database_specific": {}}], "versions": null"#,
         "1.0.0",
+        "0.9.9",
+    ),
+    (
+        r#""ranges": [{"type": "GIT", "events": [{"fixed": "8cff7c2"}]}], "versions": ["1.0.0"]"#,
+        "1.0.0",
+        "1.0.1",
     ),
     // npm's own order is SemVer's.
     (
@@ -195,7 +230,7 @@ const MEMBERS: [(&str, &str, &str); 6] = [
         "0.0.1 1.2.2 1.2.3-rc.1",
         "1.2.3",
     ),
-    (r#""ranges": null"#, "", "1.0.0"),
+    (r#""ranges": null, "versions": ["1.0.0"]"#, "1.0.0", "0.9.9"),
 ];
 
 #[test]
@@ -206,7 +241,7 @@ fn hits_listed_versions(rt: HostRuntime) {
 }
 
 // A file, and whether 1.0.0 of `a` is hit.
-const FILES: [(&str, &str); 10] = [
+const FILES: [(&str, &str); 11] = [
     (r#"[]"#, "spared"),
     (r#"{"id": "O", "affected": []}"#, "spared"),
     (
@@ -227,6 +262,10 @@ const FILES: [(&str, &str); 10] = [
     ),
     (
         r#"[{"id": "O", "affected": [{"package": {"ecosystem": "npm", "name": "a"}, "versions": ["1.0.0"]}]}]"#,
+        "hit",
+    ),
+    (
+        r#"{"id": "O", "affected": [{"package": {"ecosystem": "NPM", "name": "a"}, "versions": ["1.0.0"]}]}"#,
         "hit",
     ),
     (

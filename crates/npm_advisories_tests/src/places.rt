@@ -11,7 +11,7 @@ const LOCK: &str =
     r#"{"lockfileVersion": 3, "packages": {"": {}, "node_modules/a": {"version": "1.0.0"}, "node_modules/b": {"version": "1.0.0"}}}"#;
 
 // A file in npm's form, and what is written of the place of its fault.
-const NPM: [(&str, &str); 12] = [
+const NPM: [(&str, &str); 13] = [
     ("1", " (line 1, column 1)"),
     (r#"{"c": 1, "a": {}}"#, r#": "a" (line 1, column 10)"#),
     ("{\"a\": [\n 1]}", r#": "a", [0] (line 2, column 2)"#),
@@ -22,8 +22,8 @@ const NPM: [(&str, &str); 12] = [
         r#": "a", [0], "id" (line 1, column 9)"#,
     ),
     (
-        r#"{"a": [{"id": 1}, {"id": 2, "severity": 1}]}"#,
-        r#": "a", [1], "severity" (line 1, column 29)"#,
+        r#"{"a": [{"id": 1, "url": "u"}, {"id": 2, "severity": 1}]}"#,
+        r#": "a", [1], "severity" (line 1, column 41)"#,
     ),
     (
         r#"{"b": [{"id": 1, "title": 1}]}"#,
@@ -38,7 +38,7 @@ const NPM: [(&str, &str); 12] = [
         r#": "b", [0], "vulnerable_versions" (line 1, column 18)"#,
     ),
     (
-        "{\"b\": [{\"id\": 1}],\n \"a\": [{\"id\": 2}, {\"id\": 3,\n  \"vulnerable_versions\": \"foo\"}]}",
+        "{\"b\": [{\"id\": 1}],\n \"a\": [{\"id\": 2, \"url\": \"u\"}, {\"id\": 3,\n  \"vulnerable_versions\": \"foo\"}]}",
         r#": "a", [1], "vulnerable_versions" (line 3, column 3)"#,
     ),
     (
@@ -47,13 +47,18 @@ const NPM: [(&str, &str); 12] = [
     ),
     // Of two members with one name the last one counts.
     (
-        "{\"b\": [{}],\n \"b\": [{\"id\": 1}, {}]}",
-        r#": "b", [1] (line 2, column 19)"#,
+        "{\"b\": [{}],\n \"b\": [{\"id\": 1, \"url\": \"u\"}, {}]}",
+        r#": "b", [1] (line 2, column 31)"#,
+    ),
+    // The object is in another form.
+    (
+        r#"{"vulns": [{"id": "O", "modified": "2024-04-16T00:00:00Z"}]}"#,
+        r#": "vulns", [0] (line 1, column 12)"#,
     ),
 ];
 
 // The same of OSV's form.
-const OSV: [(&str, &str); 16] = [
+const OSV: [(&str, &str); 21] = [
     (r#"[{"affected": []}, 1]"#, ": [1] (line 1, column 20)"),
     (r#"[{}]"#, ": [0] (line 1, column 2)"),
     (r#"[{"id": "O"}]"#, ": [0] (line 1, column 2)"),
@@ -109,6 +114,27 @@ const OSV: [(&str, &str); 16] = [
     (
         r#"{"id": "O", "affected": [{"package": {"ecosystem": "npm", "name": "a"}, "versions": 1}]}"#,
         r#": "affected", [0], "versions" (line 1, column 73)"#,
+    ),
+    (
+        r#"{"id": "O", "affected": [{"package": {"ecosystem": "npm", "name": "a"}, "versions": ["1.0.0", 4.17]}]}"#,
+        r#": "affected", [0], "versions", [1] (line 1, column 95)"#,
+    ),
+    // No event is `introduced`, or no version is there.
+    (
+        r#"{"id": "O", "affected": [{"package": {"ecosystem": "npm", "name": "a"}, "ranges": [{"type": "SEMVER", "events": [{"fixed": "1.0.0"}]}]}]}"#,
+        r#": "affected", [0], "ranges", [0], "events" (line 1, column 103)"#,
+    ),
+    (
+        r#"{"id": "O", "affected": [{"package": {"ecosystem": "npm", "name": "a"}, "ranges": [{"type": "SEMVER"}]}]}"#,
+        r#": "affected", [0], "ranges", [0] (line 1, column 84)"#,
+    ),
+    (
+        r#"{"id": "O", "affected": [{"package": {"ecosystem": "npm", "name": "a"}}]}"#,
+        r#": "affected", [0] (line 1, column 26)"#,
+    ),
+    (
+        "{\"id\": \"O\", \"affected\": [{\"package\": {\"ecosystem\": \"npm\", \"name\": \"c\"}},\n {\"package\": {\"ecosystem\": \"npm\", \"name\": \"a\"}, \"ranges\": [{\"type\": \"GIT\"}], \"versions\": []}]}",
+        r#": "affected", [1] (line 2, column 2)"#,
     ),
 ];
 

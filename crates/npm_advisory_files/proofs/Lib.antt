@@ -1,5 +1,6 @@
 pub mod Examples
 pub mod OsvSpans
+pub mod OsvGoing
 pub mod OsvMarks
 pub mod OsvEnds
 pub mod OsvBetween

@@ -1,7 +1,8 @@
 -- The marks of a range are those of its events, and the versions between them are the same.
 use Rattle.std.proofs.Common.{◌≡◌, ◌↔◌, ◌∙◌, ◌++◌, ◌∷◌, [], ℕ, List, ap, arith, codes, inl, inr, refl, subst, sym}
 use Rattle.std.specs.List.{Contains}
-use Rattle.std.proofs.lemmas.List.Elements.{Contains-append_left, Contains-push, Contains-push_cases}
+use Rattle.std.proofs.lemmas.List.Elements.{Contains-append_cases, Contains-append_left, Contains-append_right}
+use Rattle.std.proofs.lemmas.List.Elements.{Contains-push, Contains-push_cases}
 use Rattle.semver_cuts.specs.Ends.{Ends}
 use Rattle.semver_cuts.specs.Lemmas.Lists.{any-either, any-left, any-right}
 use Rattle.semver_versions.specs.Error.{context}
@@ -10,10 +11,11 @@ use Rattle.node_semver.specs.Cuts.{After, Before, Cut}
 use Rattle.node_semver.specs.Ranges.{AnyByRecursion, IsRangeCut}
 use Rattle.node_semver.specs.Versions.{IsVersionText, VersionValue}
 use Rattle.npm_advisory_files.specs.OsvRanges.{Begins, EndsAt, EventValue, Introduces, IsBeforeLimits, IsBetween}
-use Rattle.npm_advisory_files.specs.OsvRanges.{IsInEvents, Lasts, LimitsAt, fixed, introduced}
+use Rattle.npm_advisory_files.specs.OsvRanges.{IsInEvents, IsIntroducedAt, Lasts, LimitsAt, fixed, introduced}
 use Rattle.npm_advisory_files.specs.OsvRanges.{last_affected, limit}
 use Rattle.npm_advisory_files.specs.Lemmas.Spans.{Have}
-use Rattle.npm_advisory_files.specs.Private.OsvReading.{AreCuts, AreMarks, HasRangeCuts, IsBetweenMarks, IsMark, IsMarked}
+use Rattle.npm_advisory_files.specs.Private.OsvReading.{AreCuts, AreGoingOn, AreMarks, AreRangeMarks, HasRangeCuts}
+use Rattle.npm_advisory_files.specs.Private.OsvReading.{IsBetweenMarks, IsMark, IsMarked}
 use Rattle.npm_advisory_files.specs.declared.osv.marks.Mark.{Mark}
 use Rattle.npm_advisory_files.specs.declared.osv.marks.Mark.TheVariants.{Ended, Introduced, Limited}
 use Rattle.npm_advisory_files.specs.declared.osv.marks.Marks.{Marks}
@@ -185,9 +187,31 @@ marks-more events event (Limited cut) old new is added are = record {
       (λ other here. limited-once cut other event is.0 here));
 }
 
-pub marks-cuts : (events : List EventValue) (marks : Marks) → AreMarks events marks → HasRangeCuts marks
-marks-cuts events marks are =
-    record { starts = are.starts.each; ends = are.ends.each; limits = are.limits.each }
+pub marks-cuts : (events : List EventValue) (marks : Marks) → AreRangeMarks events marks → HasRangeCuts marks
+marks-cuts events marks are = record { starts = are.cuts; ends = are.ends.each; limits = are.limits.each }
+
+-- the cuts of the events, and those where faults go on
+pub marks-going : (events : List EventValue) (old new : Marks) (more : List (Cut VersionValue)) → AreMarks events old
+    → AreGoingOn events more → new.starts.items ≡ old.starts.items ++ more → new.ends.items ≡ old.ends.items
+    → new.limits.items ≡ old.limits.items → AreRangeMarks events new
+marks-going events old new more are going starts ends limits = record {
+  starts = λ cut. rw starts (
+    λ is. elim is [
+      | inl at ↦ Contains-append_left old.starts.items more cut ((are.starts.same cut).0 at)
+      | inr behind ↦ Contains-append_right old.starts.items more cut ((going.same cut).0 behind)
+    ],
+    λ has. elim (Contains-append_cases old.starts.items more cut has) [
+      | inl before ↦ inl ((are.starts.same cut).1 before)
+      | inr later ↦ inr ((going.same cut).1 later)
+    ],
+  );
+  ends = rw ends are.ends;
+  limits = rw limits are.limits;
+  cuts = λ cut. rw starts (λ has. elim (Contains-append_cases old.starts.items more cut has) [
+    | inl before ↦ are.starts.each cut before
+    | inr later ↦ going.each cut later
+  ]);
+}
 
 -- ---- the versions between them
 
@@ -233,20 +257,20 @@ turned : {A B : Type 0} → A ↔ B → B ↔ A
 turned same = (same.1, same.0)
 
 -- the versions between the marks are those of the events
-pub marks-same : (events : List EventValue) (marks : Marks) → AreMarks events marks → (v : VersionValue)
+pub marks-same : (events : List EventValue) (marks : Marks) → AreRangeMarks events marks → (v : VersionValue)
     → IsBetweenMarks marks v ↔ IsInEvents events v
 marks-same events marks are v =
-    let I : Cut VersionValue → Type 0 = λ cut. AnyByRecursion (λ event. Introduces event cut) events in
+    let I : Cut VersionValue → Type 0 = IsIntroducedAt events in
     let E : Cut VersionValue → Type 0 = λ cut. AnyByRecursion (λ event. EndsAt event cut) events in
     let L : Cut VersionValue → Type 0 = λ cut. AnyByRecursion (λ event. LimitsAt event cut) events in (
       between-along (Contains marks.starts.items) I (Contains marks.ends.items) E (Contains marks.limits.items) L
-          (λ c has. (are.starts.same c).1 has) (λ c. turned (are.ends.same c)) (λ c. turned (are.limits.same c)) v,
+          (λ c has. (are.starts c).1 has) (λ c. turned (are.ends.same c)) (λ c. turned (are.limits.same c)) v,
       between-along I (Contains marks.starts.items) E (Contains marks.ends.items) L (Contains marks.limits.items)
-          (λ c has. (are.starts.same c).0 has) are.ends.same are.limits.same v,
+          (λ c has. (are.starts c).0 has) are.ends.same are.limits.same v,
     )
 
 -- the spans of all marks have the versions of the events
-pub have-events : (events : List EventValue) (marks : Marks) → AreMarks events marks
+pub have-events : (events : List EventValue) (marks : Marks) → AreRangeMarks events marks
     → (spans : List (Ends VersionValue)) → Have spans (IsBetweenMarks marks)
     → Have spans (λ v. AnyByRecursion (λ one. IsInEvents one v) (events ∷ []))
 have-events events marks are spans have = record {

@@ -48,11 +48,18 @@ abbrev pub first_fault : (fault_of : Data → Option FaultKind) → Items → Op
 first_fault fault_of no_items = None
 first_fault fault_of (item one others) = option_or (fault_of one) (first_fault fault_of others)
 
--- What makes an entry an advisory in npm's form: it is an object with an `id`. One that has `affected` is in OSV's form, and
--- does not stand under a name.
+-- one of the members of an advisory in npm's form is there, beside `id`
+abbrev pub has_member : (entry : Data) → Bool
+has_member entry = is_some (get (codes "severity") entry) || is_some (get (codes "title") entry)
+    || is_some (get (codes "url") entry) || is_some (get (codes "vulnerable_versions") entry)
+
+-- What makes an entry an advisory in npm's form: it is an object with an `id`, and with another member of npm's form. One that
+-- has `affected` is in OSV's form, and does not stand under a name. One as `{"id": "A", "modified": "2022-01-01T00:00:00Z"}`,
+-- of an answer of OSV's service, is in neither.
 abbrev pub form_fault : (entry : Data) → Option FaultKind
 form_fault entry = if is_some (as_object entry) then option_or (id_fault entry)
-    (if is_some (get (codes "affected") entry) then Some Faults.OsvUnderName else None) else Some Faults.Advisory
+    (if is_some (get (codes "affected") entry) then Some Faults.OsvUnderName
+    else (if has_member entry then None else Some Faults.NoMember)) else Some Faults.Advisory
 
 -- the fault of the other members that say what the advisory is
 abbrev pub about_fault : (entry : Data) → Option FaultKind

@@ -6,6 +6,7 @@ use Rattle.serde_json.specs.Data.{Data, Items, item, no_items, null}
 use Rattle.serde_json.specs.Find.{as_array, as_str, at, get}
 use Rattle.npm_advisory_files.specs.Advisories.{AboutValue, Affected, AdvisoryValue, in_osv, severity_of_option, text_of}
 use Rattle.npm_advisory_files.specs.OsvRanges.{EventValue, fixed, introduced, last_affected, limit}
+use Rattle.npm_advisory_files.specs.Severities.{is_word}
 use Rattle.npm_advisory_files.specs.Timestamps.{is_timestamp}
 
 -- ---- what an advisory says of itself
@@ -33,10 +34,10 @@ osv_about entry = record {
 abbrev pub items_at : (key : List ℕ) → (entry : Data) → Items
 items_at key entry = unwrap_or (option_and_then as_array (get key entry)) no_items
 
--- the name, if the ecosystem is npm: `a` of `{"package": {"ecosystem": "npm", "name": "a"}}`
+-- The name, if the ecosystem is npm: `a` of `{"package": {"ecosystem": "npm", "name": "a"}}`. GitHub's service writes `NPM`
 abbrev pub name_in : (named : Data) → Option (List ℕ)
 name_in named = option_and_then
-    (λ ecosystem. if bytes_eq ecosystem (codes "npm") then text_of (codes "name") named else None)
+    (λ ecosystem. if is_word (codes "npm") ecosystem then text_of (codes "name") named else None)
     (text_of (codes "ecosystem") named)
 
 abbrev pub npm_name : (one : Data) → Option (List ℕ)

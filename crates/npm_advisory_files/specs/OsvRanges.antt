@@ -1,6 +1,6 @@
 -- Which versions an OSV advisory is about: the OSV schema's "affected[].ranges[].events", "affected[].versions" and
 -- "Evaluation". Versions are compared by SemVer's order alone, so a prerelease counts as any other version.
-use Rattle.std.specs.Prelude.{◌≡◌, ◌⊎◌, ℕ, List, Some, codes}
+use Rattle.std.specs.Prelude.{◌≡◌, ◌⊎◌, ℕ, List, [], ◌∷◌, Bool, false, Some, bytes_eq, codes}
 use Rattle.semver_cuts.specs.Ends.{IsCutAtMost, IsCutBelow}
 use Rattle.node_semver.specs.Cuts.{After, Before, Cut, End, Start}
 use Rattle.node_semver.specs.Ranges.{AnyByRecursion}
@@ -36,6 +36,31 @@ LimitsAt (fixed text) cut = ⊥
 LimitsAt (last_affected text) cut = ⊥
 LimitsAt (limit text) cut =
     ((text ≡ codes "*") × (cut ≡ End)) ⊎ ((v : VersionValue) × IsVersionText text v × (cut ≡ Before v))
+
+-- the list goes on with `last_affected` of this text
+abbrev pub is_last : (text : List ℕ) → List EventValue → Bool
+is_last text [] = false
+is_last text (introduced other ∷ others) = false
+is_last text (fixed other ∷ others) = false
+is_last text (last_affected other ∷ others) = bytes_eq other text
+is_last text (limit other ∷ others) = false
+
+-- The fault that the event introduces goes on at this cut, behind the version itself, whatever ends there. Only one that the
+-- list ends there at once does not: `introduced` 2.0.0, and then `last_affected` 2.0.0
+abbrev pub GoesOnBehind : EventValue → (others : List EventValue) → Cut VersionValue → Type 0
+GoesOnBehind (introduced text) others cut =
+    (v : VersionValue) × IsVersionText text v × (is_last text others ≡ false) × (cut ≡ After v)
+GoesOnBehind (fixed text) others cut = ⊥
+GoesOnBehind (last_affected text) others cut = ⊥
+GoesOnBehind (limit text) others cut = ⊥
+
+abbrev pub GoesOn : List EventValue → Cut VersionValue → Type 0
+GoesOn [] cut = ⊥
+GoesOn (event ∷ others) cut = GoesOnBehind event others cut ⊎ GoesOn others cut
+
+-- one of the events introduces a fault at this cut, or it goes on there
+abbrev pub IsIntroducedAt : List EventValue → Cut VersionValue → Type 0
+IsIntroducedAt events cut = AnyByRecursion (λ event. Introduces event cut) events ⊎ GoesOn events cut
 
 -- ---- where faults are introduced, where they end, and the limits: which versions lie between
 
@@ -82,7 +107,7 @@ pub record IsBetween (Introduced Ended Limited : Cut VersionValue → Type 0) (v
 -- the version is one of a range with these events: 1.5.0 for `introduced` 1.0.0 and `fixed` 2.0.0, and neither 0.9.0
 -- nor 2.0.0
 abbrev pub IsInEvents : (events : List EventValue) → VersionValue → Type 0
-IsInEvents events v = IsBetween (λ cut. AnyByRecursion (λ event. Introduces event cut) events)
+IsInEvents events v = IsBetween (IsIntroducedAt events)
     (λ cut. AnyByRecursion (λ event. EndsAt event cut) events)
     (λ cut. AnyByRecursion (λ event. LimitsAt event cut) events) v
 

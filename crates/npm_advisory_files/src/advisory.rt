@@ -100,8 +100,19 @@ pub fn formed_id(entry: &Value) -> Result<&Value, FaultKind>
     let id = id_of(entry)?;
     match entry.get("affected") {
         Some(_) => Err(FaultKind::OsvUnderName),
-        None => Ok(id),
+        None if has_member(entry) => Ok(id),
+        None => Err(FaultKind::NoMember),
     }
+}
+
+/// Returns `true` if an advisory in npm's form has one of its members beside `id`.
+fn has_member(entry: &Value) -> bool
+    ensures { result ≡ Faults.has_member (view entry.now) }
+{
+    entry.get("severity").is_some()
+        || entry.get("title").is_some()
+        || entry.get("url").is_some()
+        || entry.get("vulnerable_versions").is_some()
 }
 
 /// The members that say what the advisory with this `id` is.

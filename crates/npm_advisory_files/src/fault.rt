@@ -25,6 +25,9 @@ pub enum FaultKind {
     /// The advisory has `affected`, so it is in OSV's form, but stands under a name.
     #[error("it has `affected`: advisories in OSV's form stand in a list, and not under a name")]
     OsvUnderName,
+    /// The advisory stands under a name, and has none of `severity`, `title`, `url` and `vulnerable_versions`.
+    #[error("it has none of `severity`, `title`, `url` and `vulnerable_versions`")]
+    NoMember,
     /// `id` is missing, or neither a number nor a string.
     #[error("`id` is neither a number nor a string")]
     Id,
@@ -67,9 +70,18 @@ pub enum FaultKind {
     /// OSV: an event has not exactly one of `introduced`, `fixed`, `last_affected` and `limit`, or its text is no version.
     #[error("an event is no version that is `introduced`, `fixed`, `last_affected` or `limit`")]
     Event,
+    /// OSV: no event of a range is `introduced`.
+    #[error("no event of a range is `introduced`")]
+    NoStart,
     /// OSV: `versions` is no list.
     #[error("`versions` is no list")]
     Versions,
+    /// OSV: an item of `versions` is no string.
+    #[error("an item of `versions` is no string")]
+    VersionText,
+    /// OSV: an element of `affected` has no text of a version in `versions`, and in `ranges` none of type `SEMVER` or `ECOSYSTEM`.
+    #[error("an element of `affected` has no version in `versions`, and no range of versions")]
+    NoVersion,
 }
 
 /// What is wrong, and with which advisory.

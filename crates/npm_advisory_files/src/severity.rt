@@ -82,7 +82,7 @@ impl Severity {
 }
 
 /// Returns `true` if the text is this word, with letters of either case.
-fn is_word(text: &str, word: &str) -> bool
+pub(crate) fn is_word(text: &str, word: &str) -> bool
     ensures { result ≡ Severities.is_word word.now text.now }
 {
     text.eq_ignore_ascii_case(word)

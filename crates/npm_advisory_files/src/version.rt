@@ -2,7 +2,8 @@
 ghost use Rattle.std.specs.Prelude.{◌≡◌, IfSome, Option};
 ghost use Rattle.node_semver.specs.Ranges.{IsRangeEnd};
 ghost use Rattle.node_semver.specs.Versions.{VersionValue};
-ghost use Rattle.npm_advisory_files.specs.ReadVersions.{IsReadAs};
+ghost use Rattle.npm_advisory_files.specs.ReadVersions.{IsReadAs, is_read};
+ghost use Rattle.npm_advisory_files.specs.Private.VersionTest.{is_version};
 
 use node_semver::VersionRef;
 use npm_texts::installed_version;
@@ -24,4 +25,11 @@ pub fn read_version(text: &str) -> Option<VersionRef<'_>>
         Ok(version) => Some(version),
         Err(_) => None,
     }
+}
+
+/// Returns `true` if the text is read as a version.
+pub(crate) fn is_read(text: &str) -> bool
+    ensures { result ≡ is_read is_version text.now }
+{
+    read_version(text).is_some()
 }

@@ -52,7 +52,7 @@ module _ (patterns : Patterns) (folder : List ℕ) where
   by_none read none found (matched is has) = absurd (none has)
   by_none read none found (unmatched is not_has) = refl
 
-  by_unread : (items : Items) → PatternSteps.has_unread items ≡ true → patterns.has_unread ≡ true → (found : Workspace)
+  by_unread : (items : Items) → PatternSteps.has_unknown items ≡ true → patterns.has_unread ≡ true → (found : Workspace)
       → IsSaid patterns folder found → found ≡ PatternSteps.by_patterns folder items
   by_unread items any said found (unread is) = rw any refl
   by_unread items any said found (matched is has) = cc (said, is)
@@ -65,7 +65,7 @@ module _ (patterns : Patterns) (folder : List ℕ) where
   by_match true same read found (unmatched is none) = absurd (none (same.1 refl))
   by_match false same read found (unmatched is none) = refl
 
-  pub by_sets : (items : Items) → PatternSteps.has_unread items ≡ false
+  pub by_sets : (items : Items) → PatternSteps.has_unknown items ≡ false
       → (HasMatched patterns folder ↔ IsTrue (PatternSteps.has_matched folder items)) → patterns.has_unread ≡ false
       → (found : Workspace) → IsSaid patterns folder found → found ≡ PatternSteps.by_patterns folder items
   by_sets items read same said found is =

@@ -18,7 +18,7 @@ use Rattle.npm_texts.specs.Truth.{has_true}
 use Rattle.npm_packages.specs.Packages.{IsFound, IsFoundIn, Package}
 pub use Rattle.npm_packages.specs.Packages.{version_of}
 use Rattle.npm_lock.specs.Verdict.{IsContained, IsVerdictOfBoth}
-use Rattle.npm_lock.specs.Workspaces.{IsWorkspace}
+use Rattle.npm_lock.specs.Workspaces.{IsWorkspaceAs}
 use Rattle.npm_lock.specs.declared.workspace.Workspace.TheVariants as Workspaces
 
 -- A dependency of a package, and the package that was found for it: the package in the folder `from` depends on the name
@@ -100,13 +100,13 @@ pub record IsLocalPeer (packages : Data) (folder : List ℕ) (is_installed : Boo
 -- in a way that is not read here.
 pub data IsVerdictOn (folder : List ℕ) (asker : Data) (name : List ℕ) (asked : AskedValue)
     (package_found : Package) : Verdict → Type 0 where
-  workspace : IsWorkspace folder asker package_found.folder Workspaces.Is
+  workspace : IsWorkspaceAs folder asker name package_found Workspaces.Is
       → IsVerdictOn folder asker name asked package_found Verdicts.Valid
-  unread : IsWorkspace folder asker package_found.folder Workspaces.Unread
+  unread : IsWorkspaceAs folder asker name package_found Workspaces.Unread
       → IsVerdictOn folder asker name asked package_found (Verdicts.Unchecked Reasons.Workspace)
-  overridden : IsWorkspace folder asker package_found.folder Workspaces.IsNot → asked.is_overridden ≡ true
+  overridden : IsWorkspaceAs folder asker name package_found Workspaces.IsNot → asked.is_overridden ≡ true
       → IsVerdictOn folder asker name asked package_found (Verdicts.Unchecked Reasons.Override)
-  by_spec : (verdict : Verdict) → IsWorkspace folder asker package_found.folder Workspaces.IsNot
+  by_spec : (verdict : Verdict) → IsWorkspaceAs folder asker name package_found Workspaces.IsNot
       → asked.is_overridden ≡ false
       → IsVerdictOfBoth (version_of package_found.member) asked.spec (accepted_of asker name) verdict
       → IsVerdictOn folder asker name asked package_found verdict

@@ -7,12 +7,10 @@
 -- `*` matches one part of a path, and `**` matches any number of parts, or none. Neither matches a part that begins with a
 -- dot. Any other part matches itself. A pattern with a star elsewhere, as `w-*`, or with a byte that has another meaning in
 -- patterns, as `!w` and `{v,w}`, is not read.
-use Rattle.std.specs.Prelude.{◌≡◌, ◌≢◌, ◌==◌, ℕ, Bool, false, List, [], ◌∷◌, codes}
-use Rattle.std.specs.List.{AllByRecursion, list_any, slice_split}
-
--- the parts of a path: `packages` and `a` of `packages/a`. The empty path has one part, which is empty.
-abbrev pub parts_of : (path : List ℕ) → List (List ℕ)
-parts_of path = slice_split (λ b. b == 47) path
+use Rattle.std.specs.Prelude.{◌≡◌, ◌≢◌, ◌==◌, ◌||◌, ℕ, Bool, false, List, [], ◌∷◌, bytes_eq, codes, length}
+use Rattle.std.specs.List.{AllByRecursion, list_any}
+use Rattle.npm_packages.specs.Folders.{below_up}
+pub use Rattle.npm_packages.specs.Folders.{parts_of}
 
 -- a byte that means something else in a pattern than in a path
 abbrev pub is_glob_byte : ℕ → Bool
@@ -29,6 +27,19 @@ pub data IsRead : (pattern : List (List ℕ)) → Type 0 where
   two_stars : IsRead (codes "**" ∷ [])
   below : (part next : List ℕ) (pattern : List (List ℕ)) → IsPlain part → IsRead (next ∷ pattern)
       → IsRead (part ∷ next ∷ pattern)
+
+-- a part that npm leaves out of a path, with the one before it if it is `..`
+abbrev pub is_left_out : (part : List ℕ) → Bool
+is_left_out part = (length part == 0) || bytes_eq part (codes "..")
+
+-- The pattern has an empty part, or `..` after another part, so it may match other paths than it says.
+abbrev pub turns : (pattern : List (List ℕ)) → Bool
+turns pattern = list_any is_left_out (below_up pattern)
+
+-- A pattern that matches the paths that it says. `a/../w`, which is `w` to npm, is not one.
+pub record IsLiteral (pattern : List (List ℕ)) : Type 0 where
+  pub read : IsRead pattern
+  pub straight : turns pattern ≡ false
 
 -- a part that does not begin with a dot
 abbrev pub IsShown : (part : List ℕ) → Type 0

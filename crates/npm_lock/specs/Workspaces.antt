@@ -5,8 +5,8 @@ use Rattle.std.specs.Option.{option_map_or, option_or}
 use Rattle.serde_json.specs.Data.{Data, Items, item, no_items}
 use Rattle.serde_json.specs.Find.{as_array, as_str, get}
 use Rattle.npm_packages.specs.Folders.{IsInstalled}
-use Rattle.npm_packages.specs.Packages.{linked_folder}
-use Rattle.npm_lock.specs.PatternGrammar.{IsRead, Matches, parts_of}
+use Rattle.npm_packages.specs.Packages.{IsNamed, Package, linked_folder}
+use Rattle.npm_lock.specs.PatternGrammar.{IsLiteral, IsRead, Matches, parts_of}
 use Rattle.npm_lock.specs.declared.workspace.Workspace.{Workspace}
 use Rattle.npm_lock.specs.declared.workspace.Workspace.TheVariants.{Is, IsNot, Unread}
 
@@ -34,17 +34,23 @@ abbrev pub AreRead : Items → Type 0
 AreRead no_items = Unit {0}
 AreRead (item value others) = IsSomeAnd (pattern_in value) IsRead × AreRead others
 
+-- each value of the list is a pattern that matches the paths that it says
+abbrev pub AreLiteral : Items → Type 0
+AreLiteral no_items = Unit {0}
+AreLiteral (item value others) = IsSomeAnd (pattern_in value) IsLiteral × AreLiteral others
+
 -- the folder matches one of the patterns
 abbrev pub MatchesOne : (folder : List ℕ) → Items → Type 0
 MatchesOne folder no_items = ⊥
 MatchesOne folder (item value others) =
     IsSomeAnd (pattern_in value) (λ pattern. Matches pattern (parts_of folder)) ⊎ MatchesOne folder others
 
--- whether the folder is a workspace, by these patterns. If one is not read, that is not known.
+-- whether the folder is a workspace, by these patterns. If one is not read, or matches other paths than it says, that is not
+-- known.
 pub data IsByPatterns (folder : List ℕ) (patterns : Items) : Workspace → Type 0 where
-  unread : ¬ AreRead patterns → IsByPatterns folder patterns Unread
-  one_matches : AreRead patterns → MatchesOne folder patterns → IsByPatterns folder patterns Is
-  none_matches : AreRead patterns → ¬ MatchesOne folder patterns → IsByPatterns folder patterns IsNot
+  unread : ¬ AreLiteral patterns → IsByPatterns folder patterns Unread
+  one_matches : AreLiteral patterns → MatchesOne folder patterns → IsByPatterns folder patterns Is
+  none_matches : AreLiteral patterns → ¬ MatchesOne folder patterns → IsByPatterns folder patterns IsNot
 
 -- Whether the folder of a package that was found for a package in the folder `from` is a workspace. Only the root has
 -- workspaces, and no folder inside a `node_modules` is one.
@@ -54,6 +60,13 @@ pub data IsWorkspace (from : List ℕ) (asker : Data) (folder : List ℕ) : Work
   no_patterns : patterns_of asker ≡ None → IsWorkspace from asker folder IsNot
   of_root : (patterns : Items) (found : Workspace) → from ≡ [] → ¬ IsInstalled folder
       → patterns_of asker ≡ Some patterns → IsByPatterns folder patterns found → IsWorkspace from asker folder found
+
+-- Whether the package that was found under a name is a workspace. A workspace is found under its own name alone: `b`, linked to
+-- the workspace `a`, is none.
+pub data IsWorkspaceAs (from : List ℕ) (asker : Data) (name : List ℕ) (package_found : Package) : Workspace → Type 0 where
+  by_name : (found : Workspace) → IsNamed package_found name → IsWorkspace from asker package_found.folder found
+      → IsWorkspaceAs from asker name package_found found
+  other_name : ¬ IsNamed package_found name → IsWorkspaceAs from asker name package_found IsNot
 
 -- ---- the patterns themselves
 

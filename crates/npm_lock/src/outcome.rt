@@ -15,7 +15,7 @@ use crate::Result;
 use crate::patterns::Patterns;
 use crate::problem::{Dependency, Kind, Problem, Problems, Reason, Unchecked};
 use crate::verdict::{Verdict, is_contained, verdict_of_both};
-use crate::workspace::{Workspace, workspace_of};
+use crate::workspace::{Workspace, workspace_as};
 use node_semver::Version;
 use npm_packages::{Asked, Index, Lock, Package, version_of};
 use npm_texts::{copied, has_true};
@@ -49,7 +49,7 @@ pub(crate) fn judgement_of<'v>(
     ensures { IfOk result (λ judgement. IsOutcome (packages_data lock.entry) asker.entry.folder.now
         (view asker.entry.member.now) is_installed name.now (asked_value asked.entry) (judgement_value judgement)) }
 {
-    let Some((found, is_own)) = lock.find(index, asker.folder, outermost, name)? else {
+    let Some((found, is_own)) = lock.find(index, asker.folder, outermost, name) else {
         return Ok(if asked.is_needed {
             Judgement::Wrong(Kind::Missing, None)
         } else {
@@ -140,7 +140,7 @@ fn verdict_on<'v>(
     ensures { IfOk result (IsVerdictOn asker.entry.folder.now
         (view asker.entry.member.now) name.now (asked_value asked.entry) (package_value found.entry)) }
 {
-    match workspace_of(asker, patterns, found.folder) {
+    match workspace_as(asker, patterns, name, found) {
         Workspace::Is => Ok(Verdict::Valid),
         Workspace::Unread => Ok(Verdict::Unchecked(Reason::Workspace)),
         Workspace::IsNot if asked.is_overridden => Ok(Verdict::Unchecked(Reason::Override)),

@@ -1,6 +1,7 @@
 //! One pattern of `workspaces`: which texts are read, and what its stars match.
-ghost use Rattle.std.specs.Prelude.{◌≡◌, ◌↔◌, ◌∷◌, [], IsTrue, codes, true};
-ghost use Rattle.npm_lock.specs.PatternGrammar.{Matches, parts_of};
+ghost use Rattle.std.specs.Prelude.{◌≡◌, ◌↔◌, ◌&&◌, ◌∷◌, [], IsTrue, bytes_eq, codes, not, true};
+ghost use Rattle.npm_lock.specs.PatternGrammar as PatternGrammar;
+ghost use Rattle.npm_lock.specs.PatternGrammar.{Matches, parts_of, turns};
 ghost use Rattle.npm_lock.specs.Private.PatternSteps as PatternSteps;
 ghost use Rattle.npm_lock.specs.Workspaces as Workspaces;
 ghost use Rattle.npm_lock.specs.Private.Patterns as Patterns;
@@ -40,6 +41,49 @@ pub(crate) fn is_read_text(pattern: &str) -> bool
     }
 }
 
+/// Returns `true` for a pattern that is read here, and matches the paths that it says.
+pub(crate) fn is_literal_text(pattern: &str) -> bool
+    ensures { result ≡ PatternSteps.is_literal pattern.now }
+{
+    is_read_text(pattern) && !turns(pattern)
+}
+
+/// Returns `true` for a pattern with an empty part, or with `..` after another part. npm leaves both out.
+fn turns(pattern: &str) -> bool
+    ensures { result ≡ turns (parts_of pattern.now) }
+{
+    let mut left = pattern;
+    let mut is_up = true;
+    'parts: while let Some((part, rest)) = left.split_once('/') {
+        if is_turn(is_up, part) {
+            return true;
+        }
+        is_up = leads_up(is_up, part);
+        left = rest;
+    }
+    is_turn(is_up, left)
+}
+
+/// Returns `true` for a part that is empty, or `..` unless all parts so far lead up.
+fn is_turn(is_up: bool, part: &str) -> bool
+    ensures { result ≡ (not (is_up && bytes_eq part.now (codes "..")) && PatternGrammar.is_left_out part.now) }
+{
+    !leads_up(is_up, part) && is_left_out(part)
+}
+
+/// Returns `true` if this part leads up as all so far.
+fn leads_up(is_up: bool, part: &str) -> bool
+    ensures { result ≡ (is_up && bytes_eq part.now (codes "..")) }
+{
+    is_up && part == ".."
+}
+
+fn is_left_out(part: &str) -> bool
+    ensures { result ≡ PatternGrammar.is_left_out part.now }
+{
+    part.is_empty() || part == ".."
+}
+
 fn is_whole(stem: &str) -> bool
     ensures { result ≡ PatternSteps.is_whole stem.now }
 {
@@ -74,7 +118,8 @@ pub(crate) fn is_rest(rest: &[u8], is_tree: bool) -> bool
     are_parts(rest) && (is_tree || !has_slash(rest))
 }
 
-fn has_slash(rest: &[u8]) -> bool
+/// Returns `true` if there is a `/`.
+pub(crate) fn has_slash(rest: &[u8]) -> bool
     ensures { result ≡ PatternSteps.has_slash rest.now }
 {
     rest.iter().any(|byte| *byte == b'/')

@@ -4,7 +4,7 @@ ghost use Rattle.npm_lock.specs.Private.PatternSteps as PatternSteps;
 ghost use Rattle.npm_lock.specs.Private.Patterns.{HasMatched, HasStart, HasText, is_rest};
 
 use crate::Result;
-use crate::pattern::{is_rest, stem_of};
+use crate::pattern::{has_slash, is_rest, stem_of};
 use npm_texts::{ends_with, without_end};
 use std::alloc::Global;
 use std::collections::BTreeMap;
@@ -107,5 +107,6 @@ fn is_start<'v>(texts: &Texts<'v>, start: &'v [u8], rest: &[u8], is_tree: bool) 
     ensures matched { IsTrue result → is_rest is_tree rest.now ≡ true }
     ensures only { HasText texts.now start.now → is_rest is_tree rest.now ≡ true → IsTrue result }
 {
-    texts.contains_key(&start) && is_rest(rest, is_tree)
+    // A star asks for one text alone, so the others are not looked up.
+    (is_tree || !has_slash(rest)) && texts.contains_key(&start) && is_rest(rest, is_tree)
 }

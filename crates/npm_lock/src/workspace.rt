@@ -3,13 +3,14 @@ ghost use Rattle.std.specs.Prelude.{◌≡◌, ◌⊎◌, ◌↔◌, ℕ, IfOk, 
 ghost use Rattle.serde_json.specs.View.{items_view, view};
 ghost use Rattle.npm_lock.specs.Private.PatternSteps as PatternSteps;
 ghost use Rattle.npm_lock.specs.Workspaces as Workspaces;
-ghost use Rattle.npm_lock.specs.Workspaces.{IsWorkspace};
+ghost use Rattle.npm_lock.specs.Workspaces.{IsWorkspace, IsWorkspaceAs};
+ghost use Rattle.npm_packages.specs.PackageValue.{package_value};
 ghost use Rattle.npm_lock.specs.Private.Patterns.{ArePatternsOf, HasMatched, IsSaid};
 
 use crate::Result;
-use crate::pattern::{is_read_text, pattern_of};
+use crate::pattern::{is_literal_text, is_read_text, pattern_of};
 use crate::patterns::Patterns;
-use npm_packages::{Package, is_installed};
+use npm_packages::{Package, is_installed, is_named};
 use serde_json::Value;
 use std::alloc::Global;
 
@@ -85,7 +86,7 @@ fn in_sets<'v>(alloc: Global, patterns: &'v [Value]) -> Result<Patterns<'v>>
         → found ≡ PatternSteps.by_patterns folder (items_view patterns.now)) }
 {
     let mut made = Patterns::none(alloc);
-    made.has_unread = has_unread(patterns);
+    made.has_unread = has_unknown(patterns);
     if made.has_unread {
         return Ok(made);
     }
@@ -109,12 +110,25 @@ fn add_pattern<'v>(patterns: &mut Patterns<'v>, pattern: &'v Value) -> Result<()
     }
 }
 
-/// Returns whether the folder of a package that was found for another is a workspace of it, which has these patterns.
-pub(crate) fn workspace_of<'v>(
+/// Returns whether the package that was found for another under this name is a workspace of it, which has these patterns.
+pub(crate) fn workspace_as<'v>(
     asker: Package<'_>,
     patterns: &Patterns<'v>,
-    folder: &'v str,
+    name: &str,
+    found: Package<'v>,
 ) -> Workspace
+    requires { ArePatternsOf asker.folder.now (view asker.member.now) patterns.now }
+    ensures { IsWorkspaceAs asker.entry.folder.now (view asker.entry.member.now) name.now (package_value found.entry) result }
+{
+    if is_named(found, name) {
+        workspace_of(asker, patterns, found.folder)
+    } else {
+        Workspace::IsNot
+    }
+}
+
+/// Returns whether the folder of a package that was found for another is a workspace of it, which has these patterns.
+fn workspace_of<'v>(asker: Package<'_>, patterns: &Patterns<'v>, folder: &'v str) -> Workspace
     requires { ArePatternsOf asker.folder.now (view asker.member.now) patterns.now }
     ensures { IsWorkspace asker.entry.folder.now (view asker.entry.member.now) folder.now result }
 {
@@ -150,6 +164,27 @@ pub(crate) fn has_unread(patterns: &[Value]) -> bool
         }
     }
     false
+}
+
+/// Returns `true` if a pattern is not read here, or matches other paths than it says.
+fn has_unknown(patterns: &[Value]) -> bool
+    ensures { result ≡ PatternSteps.has_unknown (items_view patterns.now) }
+{
+    for pattern in patterns {
+        if !is_literal(pattern) {
+            return true;
+        }
+    }
+    false
+}
+
+/// Returns `true` for a pattern that is read here, and matches the paths that it says.
+fn is_literal(pattern: &Value) -> bool
+    ensures { result ≡ PatternSteps.is_such PatternSteps.is_literal (view pattern.now) }
+{
+    pattern
+        .as_str()
+        .is_some_and(|text| is_literal_text(pattern_of(text)))
 }
 
 /// Returns `true` for a pattern that is read here.

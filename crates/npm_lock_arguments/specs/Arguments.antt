@@ -1,5 +1,5 @@
--- The arguments of the program: the last value of an option counts, and so does each value of `--ignore`. A word that is no
--- option is a lock file. The first fault is told.
+-- The arguments of the program: the last value of an option counts, and so does each value of `--ignore`. A manifest and a file
+-- of advisories are given once. A word that is no option is a lock file. The first fault is told.
 use Rattle.std.specs.Prelude.{◌&&◌, ◌||◌, ℕ, List, [], ◌∷◌, Bool, if◌then◌else◌, length, nat_eq, nat_lt, not, drop}
 use Rattle.std.specs.Prelude.{Option, Some, None, is_none, is_some, option_map, unwrap_or, Result, Err, Vec, codes, map}
 use Rattle.std.specs.List.{filter_map, last_or, starts_with}
@@ -89,6 +89,7 @@ pub data ArgumentErrorValue : Type 0 where
   unknown_option : (word : List ℕ) → ArgumentErrorValue
   second_input : ArgumentErrorValue
   many_files : (word : List ℕ) → ArgumentErrorValue
+  twice : (option : List ℕ) → ArgumentErrorValue
   no_value : (word : List ℕ) → ArgumentErrorValue
   no_format : (text : List ℕ) → ArgumentErrorValue
   no_kind : (text : List ℕ) → ArgumentErrorValue
@@ -126,9 +127,22 @@ files_fault arguments = if is_some (value_of (codes "--manifest") arguments)
     then option_map (λ word. many_files word) (other_file arguments)
     else None
 
+-- the last value of an option, if it has several
+abbrev pub other_value : (option : List ℕ) → List ArgumentValue → Option (List ℕ)
+other_value option arguments = last_or None (drop 1 (values_of option arguments))
+
+-- A file that is read is given once: if the last one counted, the others would go unread without a word
+abbrev pub twice_fault : List ArgumentValue → Option ArgumentErrorValue
+twice_fault arguments = if is_some (other_value (codes "--manifest") arguments) then Some (twice (codes "--manifest"))
+    else if is_some (other_value (codes "--advisories") arguments) then Some (twice (codes "--advisories"))
+    else None
+
 -- the first fault
+abbrev pub fault_of_all : List ArgumentValue → Option ArgumentErrorValue
+fault_of_all arguments = option_or (files_fault arguments) (twice_fault arguments)
+
 abbrev pub fault_in : List ArgumentValue → Option ArgumentErrorValue
-fault_in arguments = option_or (first_fault fault_of [] arguments) (files_fault arguments)
+fault_in arguments = option_or (first_fault fault_of [] arguments) (fault_of_all arguments)
 
 -- ---- their meaning
 
@@ -195,6 +209,7 @@ argument_error_value Errors.TooMany = too_many
 argument_error_value (Errors.UnknownOption quoted) = unknown_option quoted.text.now
 argument_error_value Errors.SecondInput = second_input
 argument_error_value (Errors.ManyFiles quoted) = many_files quoted.text.now
+argument_error_value (Errors.Twice quoted) = twice quoted.text.now
 argument_error_value (Errors.NoValue quoted) = no_value quoted.text.now
 argument_error_value (Errors.Format quoted) = no_format quoted.text.now
 argument_error_value (Errors.Kind quoted) = no_kind quoted.text.now

@@ -17,6 +17,9 @@ pub enum ArgumentError<'a> {
     /// A manifest is given for several lock files.
     #[error("--manifest goes with one FILE, and {0} is another; --help shows what is read")]
     ManyFiles(Quoted<'a>),
+    /// An option whose value is a file that is read is given twice.
+    #[error("{0} goes with one FILE, and is given twice; --help shows what is read")]
+    Twice(Quoted<'a>),
     /// An option that has a value is the last word.
     #[error("{0} has no value; --help lists the options")]
     NoValue(Quoted<'a>),

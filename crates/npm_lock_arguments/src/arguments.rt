@@ -11,7 +11,7 @@ ghost use Rattle.npm_lock_arguments.specs.Arguments.{ArgumentErrorValue, fault_o
 ghost use Rattle.npm_lock_arguments.specs.Arguments.{kind_words, kinds_of, valued};
 
 use crate::argument_error::ArgumentError;
-use crate::files::{is_file, other_file};
+use crate::files::{is_file, other_file, other_value};
 use command_lines::{Argument, MAX_WORDS, Options, Quoted};
 use command_options::{Faults, Shown, has_value, is_given, shown_in, value_of};
 use npm_advisories::Severity;
@@ -74,11 +74,12 @@ fn is_flag(word: &str) -> bool
         || word == "--outside"
 }
 
-/// Returns the arguments that the words after the program's name are. Of two values of an option the last one counts.
+/// Returns the arguments that the words after the program's name are. Of two values of an option the last one counts, but a
+/// manifest and a file of advisories are given once, since no file may go unread without a word.
 ///
 /// # Errors
 ///
-/// The first argument with a fault, or else a manifest for several lock files.
+/// The first argument with a fault, or else a manifest for several lock files, or else a second manifest or file of advisories.
 ///
 /// # Memory
 ///
@@ -162,13 +163,39 @@ fn level_in(words: &[String]) -> Severity
     }
 }
 
-/// What is wrong with the words: the first fault of an argument, or else a manifest for several lock files.
+/// What is wrong with the words: the first fault of an argument, or else a manifest for several lock files, or else an option
+/// that is given twice.
 fn fault_in<'a>(words: &'a [String]) -> Option<ArgumentError<'a>>
     ensures { option_map argument_error_value result ≡ ArgumentRules.fault_in (arguments_of (map string_bytes words.now)) }
 {
     match first_fault(words) {
         Some(error) => Some(error),
-        None => files_fault(words),
+        None => fault_of_all(words),
+    }
+}
+
+/// What is wrong with words of which each has no fault.
+fn fault_of_all<'a>(words: &'a [String]) -> Option<ArgumentError<'a>>
+    ensures { option_map argument_error_value result ≡ ArgumentRules.fault_of_all (arguments_of (map string_bytes words.now)) }
+{
+    match files_fault(words) {
+        Some(error) => Some(error),
+        None => twice_fault(words),
+    }
+}
+
+/// The option that is given twice, of those whose value is a file.
+fn twice_fault<'a>(words: &'a [String]) -> Option<ArgumentError<'a>>
+    ensures { option_map argument_error_value result ≡ ArgumentRules.twice_fault (arguments_of (map string_bytes words.now)) }
+{
+    if other_value(words, "--manifest").is_some() {
+        Some(ArgumentError::Twice(Quoted { text: "--manifest" }))
+    } else if other_value(words, "--advisories").is_some() {
+        Some(ArgumentError::Twice(Quoted {
+            text: "--advisories",
+        }))
+    } else {
+        None
     }
 }
 

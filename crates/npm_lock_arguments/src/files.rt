@@ -2,11 +2,13 @@
 ghost use Rattle.std.specs.Prelude.{◌≡◌, ◌++◌, IfOk, None, OnOk, drop, map, option_map, string_bytes};
 ghost use Rattle.std.specs.List.{last_or};
 ghost use Rattle.std.specs.Option.{option_or};
+ghost use Rattle.command_options.specs.Given.{values_of};
 ghost use Rattle.npm_lock_arguments.specs.Arguments as ArgumentRules;
 ghost use Rattle.npm_lock_arguments.specs.Arguments.{arguments_of, file_of, files_in, files_or_input, files_seen};
 
 use crate::arguments::LockOptions;
 use command_lines::first_argument;
+use command_options::value_of;
 use std::alloc::{AllocError, Global};
 
 /// Returns the words after the program's name that are lock files, or `-` if there is none.
@@ -78,6 +80,29 @@ fn after_first_file<'a>(words: &'a [String]) -> &'a [String]
     let mut left = words;
     'words: while let Some((argument, rest)) = first_argument::<LockOptions>(left) {
         if is_file(argument.word) {
+            return rest;
+        }
+        left = rest;
+    }
+    left
+}
+
+/// Returns the last value of an option, if it has several.
+pub(crate) fn other_value<'a>(words: &'a [String], option: &str) -> Option<&'a str>
+    ensures { option_map (λ text. text.now) result
+        ≡ ArgumentRules.other_value option.now (arguments_of (map string_bytes words.now)) }
+{
+    value_of::<LockOptions>(after_first_value(words, option), option)
+}
+
+/// The words after the first value of an option.
+fn after_first_value<'a>(words: &'a [String], option: &str) -> &'a [String]
+    ensures { values_of option.now (arguments_of (map string_bytes result.now))
+        ≡ drop 1 (values_of option.now (arguments_of (map string_bytes words.now))) }
+{
+    let mut left = words;
+    'words: while let Some((argument, rest)) = first_argument::<LockOptions>(left) {
+        if argument.word == option && argument.value.is_some() {
             return rest;
         }
         left = rest;

@@ -15,7 +15,8 @@ Usage: npm_lock_check [OPTIONS] [FILE]..
 FILE is a package-lock.json. With no FILE, and if FILE is -, standard input is read.
 With several each line of the formats text and json names its FILE.
 
-Options, of which the value may also be in the same word, as in --node=20:
+Options, of which the value may also be in the same word, as in --node=20. If an option is given twice, its
+last value counts. --manifest and --advisories name a file that is read, and are given once.
   --node VERSION     Also check engines.node of each package against this version of Node.
                      20 means 20.0.0, and v20.11 means 20.11.0.
                      Example: npm_lock_check --node 20 package-lock.json

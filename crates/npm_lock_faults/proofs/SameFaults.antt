@@ -1,27 +1,28 @@
 -- The fault of a path is the one that the definitions without paths say.
 use Rattle.std.proofs.Common.{◌≡◌, ◌∙◌, ◌++◌, ◌&&◌, ◌||◌, ℕ, List, [], ◌∷◌, Bool, true, false, not, if◌then◌else◌, Option, Some, None}
 use Rattle.std.proofs.Common.{Err, IfOk, Ok, Result}
-use Rattle.std.proofs.Common.{ap, bytes_eq, codes, is_some, option_and_then, option_map, refl, sym}
+use Rattle.std.proofs.Common.{◌==◌, length, ap, bytes_eq, codes, is_some, option_and_then, option_map, refl, sym}
 use Rattle.std.specs.Option.{option_map_or, option_or}
 use Rattle.serde_json.specs.Data.{Data, Members, array, boolean, member, no_members, null, number, object, string}
 use Rattle.serde_json.specs.Find.{as_null, as_object, as_str, get}
-use Rattle.npm_packages.specs.Faults.{are_texts, groups_fault, group_fault, has_format, has_text_version, link_fault}
+use Rattle.npm_packages.specs.Faults as Places
+use Rattle.npm_packages.specs.Faults.{are_texts, groups_fault, group_fault, has_format, has_patterns, has_text_version, link_fault}
 use Rattle.npm_packages.specs.Faults.{lock_fault, member_fault, members_fault, package_fault, specs_fault}
 use Rattle.npm_packages.specs.Faults.{packages_fault as packages_member_fault}
-use Rattle.npm_packages.specs.Folders.{place_in}
+use Rattle.npm_packages.specs.Folders.{is_folder, place_in}
 use Rattle.npm_packages.specs.Packages.{Package, is_link}
 use Rattle.npm_packages.specs.declared.fault.Fault.{Fault}
 use Rattle.npm_packages.specs.declared.fault.Fault.TheVariants as Faults
 use Rattle.npm_lock_version_one.specs.VersionOne as VersionOne
 use Rattle.npm_lock_version_one.specs.VersionOne.{any_fault, entry_fault, has_named, is_version_one, packages_below}
-use Rattle.npm_lock_version_one.specs.VersionOne.{packages_fault, packages_named, packages_of_entries, required_of}
+use Rattle.npm_lock_version_one.specs.VersionOne.{packages_fault, packages_named, packages_of_entries, placed_fault, required_of}
 use Rattle.npm_lock_version_one.specs.VersionOne.{packages_of_members, requires_fault, version_one_fault}
 use Rattle.npm_manifests.specs.Mismatches.{manifest_fault}
 use Rattle.npm_lock_faults.specs.FaultPaths.{FaultPathValue, among_entries, among_members, any_fault_path}
 use Rattle.npm_lock_faults.specs.FaultPaths.{below_fault_path, entry_fault_path, fault_of, fault_path_value, first_other}
 use Rattle.npm_lock_faults.specs.FaultPaths.{group_fault_path, groups_fault_path, inside, lock_fault_path}
 use Rattle.npm_lock_faults.specs.FaultPaths.{manifest_fault_path, member_fault_path, members_fault_path}
-use Rattle.npm_lock_faults.specs.FaultPaths.{named_fault_path, of_member, of_value, package_fault_path}
+use Rattle.npm_lock_faults.specs.FaultPaths.{named_fault_path, of_member, of_value, own_fault_path, package_fault_path, placed_fault_path}
 use Rattle.npm_lock_faults.specs.FaultPaths.{packages_fault_path, requires_fault_path, root_fault_path}
 use Rattle.npm_lock_faults.specs.FaultPaths.{specs_fault_path, version_one_fault_path}
 use Rattle.npm_lock_faults.specs.declared.fault_path.FaultPath.{FaultPath}
@@ -96,16 +97,21 @@ package_same entry = chosen (has_text_version entry) (groups_fault_path entry)
 
 -- ---- lock files of version 2 and 3
 
-member_same : (packages entry : Data) → fault_of (member_fault_path packages entry) ≡ member_fault packages entry
-member_same packages entry = chosen (is_some (as_object entry)) _ _ _ _
+own_same : (packages entry : Data) → fault_of (own_fault_path packages entry) ≡ Places.entry_fault packages entry
+own_same packages entry = chosen (is_some (as_object entry)) _ _ _ _
     (chosen (is_link entry) _ _ _ _ (placed entry (codes "resolved") (link_fault packages entry)) (package_same entry))
     refl
+
+member_same : (packages : Data) (folder : List ℕ) (entry : Data)
+    → fault_of (member_fault_path packages folder entry) ≡ member_fault packages folder entry
+member_same packages folder entry = chosen (not (is_folder folder)) _ _ _ _ refl
+    (chosen ((length folder == 0) && not (has_patterns entry)) _ _ _ _ refl (own_same packages entry))
 
 members_same : (packages : Data) (members : Members)
     → fault_of (members_fault_path packages members) ≡ members_fault packages members
 members_same packages no_members = refl
 members_same packages (member folder entry others) = joined _ _ _ _
-    (within folder (member_fault_path packages entry) ∙ member_same packages entry) (members_same packages others)
+    (within folder (member_fault_path packages folder entry) ∙ member_same packages folder entry) (members_same packages others)
 
 among_packages : (packages : Data) (members : Option Members)
     → fault_of (option_map_or (members_fault_path packages) members (Some (of_value Faults.Packages)))
@@ -140,8 +146,8 @@ or_none (Some x) = refl
 fault_of_both : (first others : List Package)
     → packages_fault (first ++ others) ≡ option_or (packages_fault first) (packages_fault others)
 fault_of_both [] others = refl
-fault_of_both (p ∷ first) others = ap (option_or (entry_fault p.member)) (fault_of_both first others)
-    ∙ or_later (entry_fault p.member) (packages_fault first) (packages_fault others)
+fault_of_both (p ∷ first) others = ap (option_or (placed_fault p)) (fault_of_both first others)
+    ∙ or_later (placed_fault p) (packages_fault first) (packages_fault others)
 
 requires_same : (entry : Data) → fault_of (requires_fault_path entry) ≡ requires_fault entry
 requires_same entry = given (codes "requires") (required_of entry)
@@ -158,9 +164,20 @@ of_named : (key : List ℕ) (is_named : Bool) (found : Option FaultPathValue) (n
 of_named key true found named same = within key found ∙ same
 of_named key false found named same = refl
 
+-- a package in a folder, and those inside it
+placed_same : (place : List ℕ) (entry : Data) (inside : List Package) (later : Option FaultPathValue)
+    → fault_of later ≡ packages_fault inside
+    → fault_of (placed_fault_path place (entry_fault_path entry) later)
+    ≡ packages_fault (record { folder = place; member = entry } ∷ inside)
+placed_same place entry inside later same = by_folder (is_folder place) where
+  by_folder : (b : Bool) → fault_of (if b then option_or (entry_fault_path entry) later else Some (of_value Faults.Folder))
+      ≡ option_or (if b then entry_fault entry else Some Faults.Folder) (packages_fault inside)
+  by_folder true = joined _ _ _ _ (entry_same entry) same
+  by_folder false = refl
+
 mutual
   below_same : (folder : List ℕ) (entry : Data)
-      → fault_of (below_fault_path entry) ≡ packages_fault (packages_below folder entry)
+      → fault_of (below_fault_path folder entry) ≡ packages_fault (packages_below folder entry)
   below_same folder null = refl
   below_same folder (boolean b) = refl
   below_same folder (number n) = refl
@@ -169,16 +186,16 @@ mutual
   below_same folder (object members) = among_same folder members
 
   among_same : (folder : List ℕ) (members : Members)
-      → fault_of (among_members members) ≡ packages_fault (packages_of_members folder members)
+      → fault_of (among_members folder members) ≡ packages_fault (packages_of_members folder members)
   among_same folder no_members = refl
   among_same folder (member key value others) =
-      joined _ _ _ _ (of_named key (bytes_eq key (codes "dependencies")) (named_fault_path value)
+      joined _ _ _ _ (of_named key (bytes_eq key (codes "dependencies")) (named_fault_path folder value)
       (packages_named folder value) (named_same folder value)) (among_same folder others)
       ∙ sym (fault_of_both (if bytes_eq key (codes "dependencies") then packages_named folder value else [])
       (packages_of_members folder others))
 
   named_same : (folder : List ℕ) (dependencies : Data)
-      → fault_of (named_fault_path dependencies) ≡ packages_fault (packages_named folder dependencies)
+      → fault_of (named_fault_path folder dependencies) ≡ packages_fault (packages_named folder dependencies)
   named_same folder null = refl
   named_same folder (boolean b) = refl
   named_same folder (number n) = refl
@@ -187,11 +204,13 @@ mutual
   named_same folder (object entries) = entries_same folder entries
 
   entries_same : (folder : List ℕ) (entries : Members)
-      → fault_of (among_entries entries) ≡ packages_fault (packages_of_entries folder entries)
+      → fault_of (among_entries folder entries) ≡ packages_fault (packages_of_entries folder entries)
   entries_same folder no_members = refl
   entries_same folder (member name entry others) =
-      joined _ _ _ _ (within name (option_or (entry_fault_path entry) (below_fault_path entry))
-      ∙ joined _ _ _ _ (entry_same entry) (below_same (place_in folder name) entry)) (entries_same folder others)
+      joined _ _ _ _ (within name (placed_fault_path (place_in folder name) (entry_fault_path entry)
+      (below_fault_path (place_in folder name) entry))
+      ∙ placed_same (place_in folder name) entry (packages_below (place_in folder name) entry)
+      (below_fault_path (place_in folder name) entry) (below_same (place_in folder name) entry)) (entries_same folder others)
       ∙ sym (fault_of_both (record { folder = place_in folder name; member = entry }
       ∷ packages_below (place_in folder name) entry) (packages_of_entries folder others))
 
@@ -208,18 +227,20 @@ manifest_same : (manifest : Data) → fault_of (manifest_fault_path manifest) �
 manifest_same manifest = chosen (is_some (as_object manifest)) _ _ _ _ (package_same manifest) refl
 
 -- one of two, or neither
-sides : (is_object is_linked : Bool) (found : Option FaultPathValue) (f : Option Fault) (a b : FaultPathValue)
-    → a.fault ≡ Faults.Manifest → b.fault ≡ Faults.Manifest → fault_of found ≡ f
-    → fault_of (if is_object then (if is_linked then Some a else found) else Some b)
-    ≡ (if not is_object || is_linked then Some Faults.Manifest else f)
-sides true true found f a b first second same = ap Some first
-sides true false found f a b first second same = same
-sides false true found f a b first second same = ap Some second
-sides false false found f a b first second same = ap Some second
+sides : (is_object is_linked has : Bool) (found : Option FaultPathValue) (f : Option Fault) (a b w : FaultPathValue)
+    → a.fault ≡ Faults.Manifest → b.fault ≡ Faults.Manifest → w.fault ≡ Faults.Workspaces → fault_of found ≡ f
+    → fault_of (if is_object then (if is_linked then Some a else (if has then found else Some w)) else Some b)
+    ≡ (if not is_object || is_linked then Some Faults.Manifest else (if has then f else Some Faults.Workspaces))
+sides true true has found f a b w first second third same = ap Some first
+sides true false true found f a b w first second third same = same
+sides true false false found f a b w first second third same = ap Some third
+sides false true has found f a b w first second third same = ap Some second
+sides false false has found f a b w first second third same = ap Some second
 
 root_same : (manifest : Data) → fault_of (root_fault_path manifest) ≡ VersionOne.manifest_fault manifest
-root_same manifest = sides (is_some (as_object manifest)) (is_link manifest) (package_fault_path manifest)
-    (package_fault manifest) (of_member manifest (codes "link") Faults.Manifest) (of_value Faults.Manifest) refl refl
+root_same manifest = sides (is_some (as_object manifest)) (is_link manifest) (has_patterns manifest)
+    (package_fault_path manifest) (package_fault manifest) (of_member manifest (codes "link") Faults.Manifest)
+    (of_value Faults.Manifest) (of_member manifest (codes "workspaces") Faults.Workspaces) refl refl refl
     (package_same manifest)
 
 pub any_ok : {E : Type 0} (lock : Data) (result : Result (Option FaultPath) E)

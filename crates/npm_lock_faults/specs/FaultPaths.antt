@@ -1,11 +1,12 @@
 -- Where the fault of a lock file or of a manifest is: the path of the member that the fault is about. Each definition
 -- follows the one that says the fault alone: `lock_fault_path` follows `lock_fault` of npm_packages, and so on.
-use Rattle.std.specs.Prelude.{ℕ, List, [], ◌∷◌, not, if◌then◌else◌, Option, Some, None}
+use Rattle.std.specs.Prelude.{ℕ, List, [], ◌∷◌, ◌&&◌, ◌==◌, length, not, if◌then◌else◌, Option, Some, None}
 use Rattle.std.specs.Prelude.{bytes_eq, codes, is_some, map, option_and_then, option_map}
 use Rattle.std.specs.Option.{option_map_or, option_or}
 use Rattle.serde_json.specs.Data.{Data, Members, member, no_members, object}
 use Rattle.serde_json.specs.Find.{as_null, as_object, as_str, get}
-use Rattle.npm_packages.specs.Faults.{has_format, has_text_version, link_fault}
+use Rattle.npm_packages.specs.Faults.{has_format, has_patterns, has_text_version, link_fault}
+use Rattle.npm_packages.specs.Folders.{is_folder, place_in}
 use Rattle.npm_packages.specs.Packages.{is_link}
 use Rattle.npm_packages.specs.declared.fault.Fault.{Fault}
 use Rattle.npm_packages.specs.declared.fault.Fault.TheVariants as Faults
@@ -66,18 +67,24 @@ package_fault_path entry = if has_text_version entry then groups_fault_path entr
 
 -- ---- lock files of version 2 and 3
 
--- in a member of `packages`; a link has its fault in `resolved`
-abbrev pub member_fault_path : (packages entry : Data) → Option FaultPathValue
-member_fault_path packages entry = if is_some (as_object entry)
+-- in a member of `packages`, apart from its folder; a link has its fault in `resolved`
+abbrev pub own_fault_path : (packages entry : Data) → Option FaultPathValue
+own_fault_path packages entry = if is_some (as_object entry)
     then (if is_link entry then option_map (of_member entry (codes "resolved")) (link_fault packages entry)
     else package_fault_path entry)
     else Some (of_value Faults.Package)
+
+-- in a member of `packages`; the fault of its folder is one of the member
+abbrev pub member_fault_path : (packages : Data) → (folder : List ℕ) → (entry : Data) → Option FaultPathValue
+member_fault_path packages folder entry = if not (is_folder folder) then Some (of_value Faults.Folder)
+    else (if (length folder == 0) && not (has_patterns entry) then Some (of_member entry (codes "workspaces") Faults.Workspaces)
+    else own_fault_path packages entry)
 
 -- in the first of these members of `packages` that has one
 abbrev pub members_fault_path : (packages : Data) → Members → Option FaultPathValue
 members_fault_path packages no_members = None
 members_fault_path packages (member folder entry others) =
-    option_or (option_map (inside folder) (member_fault_path packages entry)) (members_fault_path packages others)
+    option_or (option_map (inside folder) (member_fault_path packages folder entry)) (members_fault_path packages others)
 
 -- in `packages`
 abbrev pub packages_fault_path : (packages : Data) → Option FaultPathValue
@@ -105,32 +112,38 @@ entry_fault_path entry = if not (is_some (as_object entry)) then Some (of_value 
     else (if not (has_named entry) then Some (of_member entry (codes "dependencies") Faults.Dependencies)
     else requires_fault_path entry))
 
--- In the first package below this one that has one. A package has those inside it in `dependencies`, and comes before them.
+-- in a package of this folder, and in those inside it if the folder is right
+abbrev pub placed_fault_path : (folder : List ℕ) → (own inside : Option FaultPathValue) → Option FaultPathValue
+placed_fault_path folder own inside = if is_folder folder then option_or own inside else Some (of_value Faults.Folder)
+
+-- In the first package below the one in this folder that has one. A package has those inside it in `dependencies`, and comes
+-- before them.
 abbrev mutual
-  pub below_fault_path : (entry : Data) → Option FaultPathValue
-  below_fault_path (object members) = among_members members
-  below_fault_path _ = None
+  pub below_fault_path : (folder : List ℕ) → (entry : Data) → Option FaultPathValue
+  below_fault_path folder (object members) = among_members folder members
+  below_fault_path folder _ = None
 
   -- in the member `dependencies`, among these members of a package
-  pub among_members : Members → Option FaultPathValue
-  among_members no_members = None
-  among_members (member key value others) = option_or
-      (if bytes_eq key (codes "dependencies") then option_map (inside key) (named_fault_path value) else None)
-      (among_members others)
+  pub among_members : (folder : List ℕ) → Members → Option FaultPathValue
+  among_members folder no_members = None
+  among_members folder (member key value others) = option_or
+      (if bytes_eq key (codes "dependencies") then option_map (inside key) (named_fault_path folder value) else None)
+      (among_members folder others)
 
   -- in the packages that `dependencies` names
-  pub named_fault_path : (dependencies : Data) → Option FaultPathValue
-  named_fault_path (object entries) = among_entries entries
-  named_fault_path _ = None
+  pub named_fault_path : (folder : List ℕ) → (dependencies : Data) → Option FaultPathValue
+  named_fault_path folder (object entries) = among_entries folder entries
+  named_fault_path folder _ = None
 
-  pub among_entries : Members → Option FaultPathValue
-  among_entries no_members = None
-  among_entries (member name entry others) = option_or
-      (option_map (inside name) (option_or (entry_fault_path entry) (below_fault_path entry))) (among_entries others)
+  pub among_entries : (folder : List ℕ) → Members → Option FaultPathValue
+  among_entries folder no_members = None
+  among_entries folder (member name entry others) = option_or (option_map (inside name)
+      (placed_fault_path (place_in folder name) (entry_fault_path entry) (below_fault_path (place_in folder name) entry)))
+      (among_entries folder others)
 
 -- in a lock file of version 1
 abbrev pub version_one_fault_path : (lock : Data) → Option FaultPathValue
-version_one_fault_path lock = if has_named lock then below_fault_path lock
+version_one_fault_path lock = if has_named lock then below_fault_path [] lock
     else Some (of_member lock (codes "dependencies") Faults.Dependencies)
 
 -- in a lock file of any version
@@ -148,7 +161,8 @@ manifest_fault_path manifest =
 abbrev pub root_fault_path : (manifest : Data) → Option FaultPathValue
 root_fault_path manifest = if is_some (as_object manifest)
     then (if is_link manifest then Some (of_member manifest (codes "link") Faults.Manifest)
-    else package_fault_path manifest)
+    else (if has_patterns manifest then package_fault_path manifest
+    else Some (of_member manifest (codes "workspaces") Faults.Workspaces)))
     else Some (of_value Faults.Manifest)
 
 -- ---- what the two have in common

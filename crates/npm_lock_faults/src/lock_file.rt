@@ -11,7 +11,7 @@ use crate::fault_path::FaultPath;
 use crate::package::{of_member, package_fault_path};
 use crate::version_one::version_one_fault_path;
 use npm_lock_version_one::is_version_one;
-use npm_packages::{Fault, Lock, has_format, is_link, link_fault};
+use npm_packages::{Fault, Lock, has_format, has_patterns, is_folder, is_link, link_fault};
 use serde_json::Value;
 use std::alloc::Global;
 
@@ -24,7 +24,7 @@ use std::alloc::Global;
 ///
 /// # Memory
 ///
-/// Allocates the path, and nothing if there is no fault.
+/// Allocates the path, if there is a fault, and in a file of version 1 the folders of a package and of those around it.
 pub fn lock_fault_path<'v>(alloc: Global, lock: &'v Value) -> Result<Option<FaultPath<'v>>>
     ensures found { IfOk result (λ found. option_map fault_path_value found
         ≡ FaultPaths.any_fault_path (view lock.now)) }
@@ -72,7 +72,7 @@ fn packages_fault_path<'v>(alloc: Global, packages: &'v Value) -> Result<Option<
     };
     let lock = Lock { alloc, members };
     for (folder, entry) in members.iter() {
-        if let Some(found) = member_fault_path(lock, entry)? {
+        if let Some(found) = member_fault_path(lock, folder.as_str(), entry)? {
             return Ok(Some(found.inside(folder.as_str())?));
         }
     }
@@ -80,9 +80,27 @@ fn packages_fault_path<'v>(alloc: Global, packages: &'v Value) -> Result<Option<
 }
 
 /// Where the fault of a member of `packages` is.
-fn member_fault_path<'v>(lock: Lock<'v>, entry: &'v Value) -> Result<Option<FaultPath<'v>>>
+fn member_fault_path<'v>(
+    lock: Lock<'v>,
+    folder: &str,
+    entry: &'v Value,
+) -> Result<Option<FaultPath<'v>>>
     ensures { IfOk result (λ found. option_map fault_path_value found
-        ≡ FaultPaths.member_fault_path (packages_data lock.entry) (view entry.now)) }
+        ≡ FaultPaths.member_fault_path (packages_data lock.entry) folder.now (view entry.now)) }
+{
+    if !is_folder(folder) {
+        return Ok(Some(FaultPath::of_value(lock.alloc, Fault::Folder)));
+    }
+    if folder.is_empty() && !has_patterns(entry) {
+        return of_member(lock.alloc, entry, "workspaces", Fault::Workspaces);
+    }
+    own_fault_path(lock, entry)
+}
+
+/// Where the fault of a member of `packages` is, whatever its folder.
+fn own_fault_path<'v>(lock: Lock<'v>, entry: &'v Value) -> Result<Option<FaultPath<'v>>>
+    ensures { IfOk result (λ found. option_map fault_path_value found
+        ≡ FaultPaths.own_fault_path (packages_data lock.entry) (view entry.now)) }
 {
     if !entry.is_object() {
         return Ok(Some(FaultPath::of_value(lock.alloc, Fault::Package)));

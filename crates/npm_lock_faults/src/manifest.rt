@@ -9,7 +9,7 @@ ghost use Rattle.npm_lock_faults.specs.FaultPaths.{fault_of, fault_path_value};
 use crate::Result;
 use crate::fault_path::FaultPath;
 use crate::package::{of_member, package_fault_path};
-use npm_packages::{Fault, is_link};
+use npm_packages::{Fault, has_patterns, is_link};
 use serde_json::Value;
 use std::alloc::Global;
 
@@ -71,6 +71,9 @@ fn path_in_root<'v>(alloc: Global, manifest: &'v Value) -> Result<Option<FaultPa
     }
     if is_link(manifest) {
         return of_member(alloc, manifest, "link", Fault::Manifest);
+    }
+    if !has_patterns(manifest) {
+        return of_member(alloc, manifest, "workspaces", Fault::Workspaces);
     }
     package_fault_path(alloc, manifest)
 }

@@ -24,7 +24,7 @@ use std::alloc::Global;
 ///
 /// # Memory
 ///
-/// Allocates what [`FaultPlace::in_text`] does, and nothing if there is no fault.
+/// Allocates what [`lock_fault_path`](crate::lock_fault_path) and [`FaultPlace::in_text`] do.
 pub fn lock_fault_place(
     alloc: Global,
     text: &str,

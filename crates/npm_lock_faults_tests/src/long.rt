@@ -81,3 +81,23 @@ fn finds_the_innermost_package(rt: HostRuntime) -> Result<(), Fail> {
     assert_eq!(rt; said.as_str(), wanted.as_str());
     Ok(())
 }
+
+// A lock file of version 1 in which the innermost of two packages has a name of so many letters. Its folder has 28 bytes more.
+fn long_name(alloc: Global, count: usize) -> Result<String, AllocError> {
+    let name = "b".repeat(alloc, count)?;
+    format!(in alloc;
+        "{{\"lockfileVersion\": 1, \"dependencies\": {{\"a\": {{\"dependencies\": {{\"{name}\": {{}}}}}}}}}}"
+    )
+}
+
+#[test]
+fn finds_a_folder_that_is_too_long(rt: HostRuntime) -> Result<(), Fail> {
+    let alloc = rt.alloc();
+    for (count, is_right) in [(4068, true), (4069, false)] {
+        let text = long_name(alloc, count)?;
+        let lock = Value::from_str(alloc, text.as_str())?;
+        let found = lock_fault_path(alloc, &lock)?;
+        assert!(rt; found.is_none() == is_right, "{count}");
+    }
+    Ok(())
+}

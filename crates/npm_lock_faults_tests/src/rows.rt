@@ -8,7 +8,7 @@ use std::alloc::{AllocError, Global};
 // Each row has a text, and the text that is written for its fault: the path of the member, and its line and column.
 
 // Lock files of version 2 and 3.
-const LATER: [(&str, &str); 18] = [
+const LATER: [(&str, &str); 23] = [
     // A member that is missing: the object that has to have it.
     (
         "{}",
@@ -39,6 +39,29 @@ const LATER: [(&str, &str); 18] = [
   "": {},
   "node_modules/a": 1}}"#,
         r#"a member of `packages` is no object: "packages", "node_modules/a" (line 3, column 3)"#,
+    ),
+    // Folders. A fault of a folder comes before others of its package.
+    (
+        r#"{"lockfileVersion": 3, "packages": {
+  "": {}, "node_modules/lodash/": 1}}"#,
+        r#"npm does not write the folder of a package so, or it has more than 4096 bytes: "packages", "node_modules/lodash/" (line 2, column 11)"#,
+    ),
+    (
+        r#"{"lockfileVersion": 3, "packages": {"a/../b": {"link": true, "resolved": "c"}}}"#,
+        r#"npm does not write the folder of a package so, or it has more than 4096 bytes: "packages", "a/../b" (line 1, column 37)"#,
+    ),
+    (
+        r#"{"lockfileVersion": 3, "packages": {"a\\b": {}}}"#,
+        r#"npm does not write the folder of a package so, or it has more than 4096 bytes: "packages", "a\\b" (line 1, column 37)"#,
+    ),
+    // The workspaces of the root.
+    (
+        r#"{"lockfileVersion": 3, "packages": {"": {"version": 1, "workspaces": "packages/*"}}}"#,
+        r#"`workspaces` of the root is no list: "packages", "", "workspaces" (line 1, column 56)"#,
+    ),
+    (
+        r#"{"lockfileVersion": 3, "packages": {"": {"workspaces": {"packages": []}}, "a": {"workspaces": "b", "version": 1}}}"#,
+        r#"`version` of a package is no string: "packages", "a", "version" (line 1, column 100)"#,
     ),
     // Links.
     (
@@ -102,7 +125,7 @@ const LATER: [(&str, &str); 18] = [
 ];
 
 // Lock files of version 1.
-const FIRST: [(&str, &str); 9] = [
+const FIRST: [(&str, &str); 13] = [
     (
         r#"{"lockfileVersion": 1, "dependencies": []}"#,
         r#"the dependencies of a package are no object: "dependencies" (line 1, column 24)"#,
@@ -135,6 +158,24 @@ const FIRST: [(&str, &str); 9] = [
         r#"{"lockfileVersion": 1, "dependencies": {"@s/a": {"dependencies": {"b": {
 "dependencies": {"c": {"requires": 1}}}}}}}"#,
         r#"the dependencies of a package are no object: "dependencies", "@s/a", "dependencies", "b", "dependencies", "c", "requires" (line 2, column 24)"#,
+    ),
+    // The name of a folder.
+    (
+        r#"{"lockfileVersion": 1, "dependencies": {"a": {}, "lodash/": {"version": "4.17.11"}}}"#,
+        r#"npm does not write the folder of a package so, or it has more than 4096 bytes: "dependencies", "lodash/" (line 1, column 50)"#,
+    ),
+    (
+        r#"{"lockfileVersion": 1, "dependencies": {"a": {"dependencies": {"..": 1}}}}"#,
+        r#"npm does not write the folder of a package so, or it has more than 4096 bytes: "dependencies", "a", "dependencies", ".." (line 1, column 64)"#,
+    ),
+    (
+        r#"{"lockfileVersion": 1, "dependencies": {"a": {"dependencies": {"": {}, "b": 1}}}}"#,
+        r#"npm does not write the folder of a package so, or it has more than 4096 bytes: "dependencies", "a", "dependencies", "" (line 1, column 64)"#,
+    ),
+    // A fault of a package comes before those inside it.
+    (
+        r#"{"lockfileVersion": 1, "dependencies": {"a": {"version": 1, "dependencies": {"/": {}}}}}"#,
+        r#"`version` of a package is no string: "dependencies", "a", "version" (line 1, column 47)"#,
     ),
     // A package comes before those inside it, and these before the next one.
     (
@@ -170,7 +211,7 @@ const MANIFESTS: [(&str, &str); 4] = [
 ];
 
 // Manifests beside a lock file of version 1.
-const ROOTS: [(&str, &str); 3] = [
+const ROOTS: [(&str, &str); 4] = [
     (
         "1",
         "the manifest is no object, or has `link` (line 1, column 1)",
@@ -180,6 +221,10 @@ const ROOTS: [(&str, &str); 3] = [
         r#"{"dependencies": 1,
  "link": true}"#,
         r#"the manifest is no object, or has `link`: "link" (line 2, column 2)"#,
+    ),
+    (
+        r#"{"version": 1, "workspaces": "packages/*"}"#,
+        r#"`workspaces` of the root is no list: "workspaces" (line 1, column 16)"#,
     ),
     (
         r#"{"link": false, "peerDependencies": 1}"#,

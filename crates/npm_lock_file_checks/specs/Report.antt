@@ -1,7 +1,7 @@
 -- The report of a lock file.
 use Rattle.std.specs.Prelude.{◌≡◌, ◌&&◌, ℕ, List, [], ◌∷◌, ◌++◌, Bool, Option, Some, None, filter}
 use Rattle.std.specs.Prelude.{if◌then◌else◌}
-use Rattle.std.specs.Prelude.{codes, is_some, length, map, not, option_map}
+use Rattle.std.specs.Prelude.{codes, is_some, length, map, not, option_and_then, option_map}
 use Rattle.std.specs.Prelude.{true, Result, Ok, Err}
 use Rattle.std.specs.Bool.{MatchBool}
 use Rattle.std.specs.List.{filter_map}
@@ -23,7 +23,7 @@ use Rattle.npm_advisories.specs.Files.{advisories_of}
 use Rattle.npm_advisories.specs.Audit.{FoundValue, InstalledValue, IsAudit}
 use Rattle.npm_advisories.specs.LockFile.{AreInstalledOf}
 use Rattle.npm_advisory_files.specs.declared.severity.Severity.{Severity}
-use Rattle.npm_lock_reports.specs.Unread.{unread_value}
+use Rattle.npm_lock_reports.specs.Unread.{UnreadValue, root_of_file, unread_value}
 use Rattle.npm_lock_reports.specs.declared.report.Report.{Report}
 use Rattle.npm_lock_file_checks.specs.Kinds.{has}
 use Rattle.npm_manifest_files.specs.Linked.{LinkedValue, LoadedValue, WorkspaceValue, loaded_value, nothing_loaded}
@@ -116,6 +116,15 @@ AreLeftMismatches lock manifests is_ignored list = MatchBool (has_packages lock)
 abbrev pub checked_lock : (lock : Data) → (manifest : Option Data) → (linked : List LinkedValue) → Data
 checked_lock lock manifest linked = converted (placed lock (manifests_of manifest linked)) manifest
 
+-- the lock file has the root, `""` of `packages`, which says what the project depends on. A hidden lock file,
+-- `node_modules/.package-lock.json`, has none
+abbrev pub has_root : (lock : Data) → Bool
+has_root lock = is_some (option_and_then (get []) (get (codes "packages") lock))
+
+-- what was not looked at, and last what the root depends on, if the lock file that is checked has none
+abbrev pub all_unread : (lock : Data) → List UnreadValue → List UnreadValue
+all_unread lock unread = if has_root lock then unread else unread ++ (root_of_file ∷ [])
+
 -- the problems of the workspaces that were found on disk, in their order
 abbrev pub workspace_problems : (lock : Data) → List WorkspaceValue → List ProblemValue
 workspace_problems lock workspaces = filter_map (λ one. workspace_problem lock one.name one.folder) workspaces
@@ -149,7 +158,8 @@ pub record IsReportOf (lock : Data) (loaded : LoadedValue) (wanted : WantedValue
   pub mismatches : AreLeftMismatches lock (manifests_of wanted.manifest loaded.linked) wanted.ignored.group
       report.mismatches.items
   pub exact : report.exact ≡ wanted.exact
-  pub unread : map unread_value report.unread.items ≡ loaded.unread
+  pub unread : map unread_value report.unread.items
+      ≡ all_unread (checked_lock lock wanted.manifest loaded.linked) loaded.unread
   pub problems : AreLeft (checked_lock lock wanted.manifest loaded.linked) loaded.workspaces wanted report.problems
   pub hit : AreHit (checked_lock lock wanted.manifest loaded.linked) wanted.advisories wanted.level found
   pub audited : report.audited ≡ is_some wanted.advisories

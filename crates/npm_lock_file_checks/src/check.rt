@@ -18,7 +18,7 @@ use crate::hits::hits_of;
 use crate::kinds::Kinds;
 use crate::output::Output;
 use crate::run_error::{RunError, StopError};
-use crate::sync::{compare, is_compared, load_compared};
+use crate::sync::{all_unread, compare, is_compared, load_compared};
 use crate::wanted::Wanted;
 use crate::workspace_problems::add_workspaces;
 use crate::written::output_of;
@@ -98,6 +98,7 @@ fn report_of<'f>(
     let mismatches = compare(alloc, &mut lock, linked, wanted)?;
     refuse(alloc, &lock, text, wanted.manifest)?;
     let lock = converted(alloc, lock, wanted.manifest)?;
+    let unread = all_unread(&lock, unread)?;
     let problems = problems_of(alloc, &lock, &workspaces, wanted)?;
     let found = match hits_of(alloc, &lock, wanted) {
         Ok(found) => found,

@@ -6,12 +6,13 @@ ghost use Rattle.npm_manifests.specs.Mismatches.{AreMismatches, manifest_fault};
 ghost use Rattle.npm_manifest_files.specs.Linked.{linked_value, loaded_value};
 ghost use Rattle.npm_lock_file_checks.specs.Private.Refusals.{AreLinkedRefused, IsCompareRefused, IsManifestRefused, IsOneRefused};
 ghost use Rattle.npm_lock_file_checks.specs.Report.{AreAllMismatches, AreLeftMismatches, AreLoaded, IsNotLoaded, has_packages};
-ghost use Rattle.npm_lock_file_checks.specs.Report.{is_compared, manifests_of, placed, wanted_value};
+ghost use Rattle.npm_lock_file_checks.specs.Report.{all_unread, has_root, is_compared, manifests_of, placed, wanted_value};
+ghost use Rattle.npm_lock_reports.specs.Unread.{unread_value};
 
 use crate::run_error::RunError;
 use crate::wanted::Wanted;
 use npm_lock::{CheckError, Fault};
-use npm_lock_reports::FolderName;
+use npm_lock_reports::{FolderName, Unread};
 use npm_manifest_files::{Linked, LoadError, Loaded};
 use npm_manifests::{Mismatch, mismatches_of, put_manifest};
 use serde_json::Value;
@@ -29,6 +30,32 @@ pub(crate) fn is_compared(lock: &Value, manifest: Option<&Value>) -> bool
     ensures { result ≡ is_compared (view lock.now) (option_map (λ manifest. view manifest.now) manifest.entry) }
 {
     manifest.is_some() && has_packages(lock)
+}
+
+/// Adds what the root depends on to what was not looked at, if the lock file has no root.
+pub(crate) fn all_unread(lock: &Value, unread: Vec<Unread>) -> Result<Vec<Unread>, RunError>
+    ensures all { IfOk result (λ all. map unread_value all.items
+        ≡ all_unread (view lock.now) (map unread_value unread.items)) }
+    ensures memory { IfErr result (λ error. error ≡ RunError.Memory) }
+{
+    if has_root(lock) {
+        return Ok(unread);
+    }
+    let mut all = unread;
+    match all.push(Unread::Root) {
+        Ok(()) => Ok(all),
+        Err(_) => Err(RunError::Memory),
+    }
+}
+
+/// Returns `true` if the lock file says what the root depends on.
+fn has_root(lock: &Value) -> bool
+    ensures { result ≡ has_root (view lock.now) }
+{
+    match lock.get("packages") {
+        Some(packages) => packages.get("").is_some(),
+        None => false,
+    }
 }
 
 /// Returns what `load` returns for a lock file that is compared with a manifest, and nothing for any other.

@@ -10,7 +10,7 @@ use Rattle.json.specs.Print.{escape, escape_byte, quoted}
 use Rattle.serde_json.specs.Data.{Data, Items, Members, Num, array, boolean, float, item, member, negative, no_items, no_members}
 use Rattle.serde_json.specs.Data.{null, number, object, string, unsigned}
 use Rattle.serde_json.specs.Written.{comma_if, compact_text, items_text, members_text, number_text}
-use Rattle.command_lines.specs.Shown.{digit, shown, shown_byte}
+use Rattle.command_lines.specs.Shown.{digit, first_byte, shown, shown_byte, shown_first}
 use Rattle.npm_lock_reports.specs.ReportLaws.{is_newline}
 
 -- a text without a newline
@@ -64,6 +64,13 @@ shown_byte_line byte = grind (arith, nat_tests, hexadecimal)
 pub shown_line : (text : List ℕ) → IsOneLine (shown text)
 shown_line [] = refl
 shown_line (byte ∷ text) = both (shown_byte byte) (shown text) (shown_byte_line byte) (shown_line text)
+
+first_byte_line : (byte : ℕ) → IsOneLine (first_byte byte)
+first_byte_line byte = grind (arith, nat_tests, hexadecimal)
+
+pub shown_first_line : (text : List ℕ) → IsOneLine (shown_first text)
+shown_first_line [] = refl
+shown_first_line (byte ∷ text) = both (first_byte byte) (shown text) (first_byte_line byte) (shown_line text)
 
 -- ---- JSON texts
 

@@ -21,15 +21,15 @@ use Rattle.npm_advisory_files.specs.declared.severity.Severity.{Severity}
 use Rattle.npm_advisory_files.specs.declared.severity.Severity.TheVariants as Severities
 use Rattle.npm_lock_sentences.specs.Sentence.{after, asker, last_name, manifest_words, mismatch_sentence, named_asker, reason, said}
 use Rattle.npm_lock_sentences.specs.Sentence.{sentence, shown_spec, spec_words, unchecked_sentence, verdict}
-use Rattle.command_lines.specs.Shown.{shown}
+use Rattle.command_lines.specs.Shown.{shown, shown_first}
 use Rattle.npm_lock_reports.specs.HitSentence.{advisory_words, hit_sentence, id_words, joined, offer_words}
 use Rattle.npm_lock_reports.specs.Report.{IsHitLineAs, line_as, line_text, mismatch_text, unchecked_text, unread_text}
 use Rattle.npm_lock_reports.specs.Style.{StyleValue, in_file, with_file}
-use Rattle.npm_lock_reports.specs.Unread.{UnreadValue, manifest_in, unread_data, unread_sentence, workspaces_on_disk}
+use Rattle.npm_lock_reports.specs.Unread.{UnreadValue, manifest_in, root_of_file, unread_data, unread_sentence, workspaces_on_disk}
 use Rattle.npm_lock_reports.specs.declared.format.ReportFormat.{ReportFormat}
 use Rattle.npm_lock_reports.specs.declared.format.ReportFormat.TheVariants.{Json, Text}
 use Rattle.npm_lock_reports.proofs.OutputLines.{with_path}
-use Rattle.npm_lock_reports.proofs.OneLine.{IsOneLine, both, compact_line, decimal_line, shown_line}
+use Rattle.npm_lock_reports.proofs.OneLine.{IsOneLine, both, compact_line, decimal_line, shown_first_line, shown_line}
 
 after_line : (start : List ℕ) (text : Option (List ℕ)) → IsOneLine start → IsOneLine (after start text)
 after_line start None line = refl
@@ -68,8 +68,8 @@ asker_line (byte ∷ folder) version = named_line (last_name (byte ∷ folder)) 
 
 said_line : (words : List ℕ) (dependency : DependencyValue) → IsOneLine words → IsOneLine (said words dependency)
 said_line words d line =
-    let named = shown d.name ++ after (codes " ") d.version in
-    let one : IsOneLine named = both (shown d.name) (after (codes " ") d.version) (shown_line d.name)
+    let named = shown_first d.name ++ after (codes " ") d.version in
+    let one : IsOneLine named = both (shown_first d.name) (after (codes " ") d.version) (shown_first_line d.name)
     (after_line (codes " ") d.version refl) in
     both (named ++ words ++ shown_spec d.spec ++ codes ", which ") (asker d.from d.from_version)
     (both (named ++ words ++ shown_spec d.spec) (codes ", which ")
@@ -100,13 +100,14 @@ group_line OptionalDependencies = refl
 group_line PeerDependencies = refl
 
 mismatch_line : (m : MismatchValue) → IsOneLine (mismatch_sentence m)
-mismatch_line m = both (shown m.name) _ (shown_line m.name) (both (group_text m.group) _ (group_line m.group)
+mismatch_line m = both (shown_first m.name) _ (shown_first_line m.name) (both (group_text m.group) _ (group_line m.group)
     (both (spec_words m.spec) _ (words_line m.spec) (both (manifest_words m.from) _ (manifest_line m.from)
     (both (spec_words m.locked) (codes " in the lock file") (words_line m.locked) refl))))
 
 unread_line : (unread : UnreadValue) → IsOneLine (unread_sentence unread)
-unread_line (manifest_in folder) = both (shown folder) _ (shown_line folder) refl
+unread_line (manifest_in folder) = both (shown_first folder) _ (shown_first_line folder) refl
 unread_line workspaces_on_disk = refl
+unread_line root_of_file = refl
 
 -- ---- a package that is hit
 
@@ -164,7 +165,7 @@ pub record IsFair (found : FoundValue) : Type 0 where
   pub admitted : (v : VersionValue) → found.admitted ≡ Some v → IsBare v
 
 hit_line : (found : FoundValue) → IsFair found → IsOneLine (hit_sentence found)
-hit_line found fair = both (shown found.name) _ (shown_line found.name)
+hit_line found fair = both (shown_first found.name) _ (shown_first_line found.name)
     (both (shown found.version) _ (shown_line found.version)
     (both (joined (codes " is hit by ") found.hits) _ (joined_line (codes " is hit by ") found.hits refl)
     (both (offer_words found.least found.admitted) _
@@ -176,7 +177,7 @@ hit_line found fair = both (shown found.name) _ (shown_line found.name)
 in_file_line : (file : Option (List ℕ)) (text : List ℕ) → IsOneLine text → IsOneLine (in_file file text)
 in_file_line None text line = line
 in_file_line (Some file) text line =
-    both (shown file ++ codes ": ") text (both (shown file) (codes ": ") (shown_line file) refl) line
+    both (shown_first file ++ codes ": ") text (both (shown_first file) (codes ": ") (shown_first_line file) refl) line
 
 as_line : (format : ReportFormat) (file : Option (List ℕ)) (text : List ℕ) (value : Data) → IsOneLine text
     → IsOneLine (line_as format file text value)

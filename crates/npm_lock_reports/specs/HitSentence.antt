@@ -6,7 +6,7 @@ use Rattle.npm_advisory_files.specs.Advisories.{AboutValue}
 use Rattle.npm_advisories.specs.Audit.{FoundValue}
 use Rattle.npm_advisory_files.specs.Severities.{word_of}
 use Rattle.npm_lock_sentences.specs.Sentence.{after}
-use Rattle.command_lines.specs.Shown.{shown}
+use Rattle.command_lines.specs.Shown.{shown, shown_first}
 
 -- which advisory it is: its `id`, if that is a text or a number without sign and fraction
 abbrev pub id_words : (id : Data) → List ℕ
@@ -34,5 +34,5 @@ offer_words None None = codes "; each later release is hit too"
 -- the sentence, in one line: `a 1.0.0 is hit by 7 (high): Bad, and by 9 (low);
 -- 1.0.1 is not, and satisfies all that ask for it (node_modules/a)`
 abbrev pub hit_sentence : FoundValue → List ℕ
-hit_sentence found = shown found.name ++ (codes " " ++ (shown found.version ++ (joined (codes " is hit by ") found.hits
+hit_sentence found = shown_first found.name ++ (codes " " ++ (shown found.version ++ (joined (codes " is hit by ") found.hits
     ++ (offer_words found.least found.admitted ++ (codes " (" ++ (shown found.folder ++ codes ")"))))))

@@ -1,7 +1,7 @@
 -- How the lines of a report are written. Each line names the lock file if there are several.
 use Rattle.std.specs.Prelude.{ℕ, List, [], ◌++◌, Option, Some, None, codes, option_map}
 use Rattle.serde_json.specs.Data.{Data, object, put, string}
-use Rattle.command_lines.specs.Shown.{shown}
+use Rattle.command_lines.specs.Shown.{shown_first}
 use Rattle.npm_lock_reports.specs.declared.format.ReportFormat.{ReportFormat}
 use Rattle.npm_lock_reports.specs.declared.style.LineStyle.{LineStyle}
 
@@ -17,7 +17,7 @@ style_value style = record { format = style.format; file = option_map (λ file. 
 -- the words before a sentence: `a/package-lock.json: `
 abbrev pub file_words : (file : Option (List ℕ)) → List ℕ
 file_words None = []
-file_words (Some file) = shown file ++ codes ": "
+file_words (Some file) = shown_first file ++ codes ": "
 
 -- a sentence after these words
 abbrev pub in_file : (file : Option (List ℕ)) → (sentence : List ℕ) → List ℕ

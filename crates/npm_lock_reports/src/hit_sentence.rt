@@ -6,7 +6,7 @@ ghost use Rattle.npm_advisory_files.specs.Advisories.{about_value};
 ghost use Rattle.npm_advisories.specs.Audit.{found_value};
 ghost use Rattle.npm_lock_reports.specs.HitSentence as HitSentence;
 
-use command_lines::push_shown;
+use command_lines::{push_shown, push_shown_first};
 use node_semver::Version;
 use npm_advisories::{About, Found};
 use serde_json::Value;
@@ -20,7 +20,7 @@ pub fn push_hit_sentence(
 ) -> Result<(), AllocError>
     ensures { OnOk result (line.new.items ≡ line.old.items ++ HitSentence.hit_sentence (found_value found.now)) }
 {
-    push_shown(line, found.name)?;
+    push_shown_first(line, found.name)?;
     line.extend_from_slice(b" ")?;
     push_shown(line, found.version)?;
     push_advisories(alloc, line, &found.hits)?;

@@ -16,7 +16,7 @@ pub struct Report {
     pub mismatches: Vec<Mismatch>,
     /// Mismatches count for the status.
     pub exact: bool,
-    /// What was not looked at: manifests of linked packages, and workspaces on disk.
+    /// What was not looked at: manifests of linked packages, workspaces on disk, and what the root depends on.
     pub unread: Vec<Unread>,
     /// The problems of the lock file but those of kinds that are left out, with the counts of all.
     pub problems: Problems,
@@ -47,10 +47,23 @@ impl Report {
         }
         count
     }
+
+    /// Returns `true` if workspaces were not looked for.
+    fn leaves_workspaces(&self) -> bool {
+        let unread = &self.unread;
+        unread.iter().any(|one| matches!(one, Unread::Workspaces))
+    }
+
+    /// Returns `true` if the lock file has no root.
+    fn has_no_root(&self) -> bool {
+        let unread = &self.unread;
+        unread.iter().any(|one| matches!(one, Unread::Root))
+    }
 }
 
 /// Prints the counts. Those of mismatches and of packages that are hit are left out if nothing was looked for. If dependencies
-/// that are not checked were not listed, names the option that lists them. Says so if workspaces were not looked for.
+/// that are not checked were not listed, names the option that lists them. Says so if workspaces were not looked for, and if the lock
+/// file has no root.
 impl fmt::Display for Report {
     fn fmt<W: fmt::Write>(&self, f: &mut fmt::Formatter<W>) -> fmt::Result {
         let problems = &self.problems;
@@ -72,11 +85,16 @@ impl fmt::Display for Report {
         if manifests > 0 {
             write!(f, ", {manifests} manifests not read (see --outside)")?;
         }
-        if manifests < self.unread.len() {
-            write!(f, ", workspaces not looked for")?;
-            if !self.listed {
-                write!(f, " (see --unchecked)")?;
-            }
+        let see = if self.listed {
+            ""
+        } else {
+            " (see --unchecked)"
+        };
+        if self.leaves_workspaces() {
+            write!(f, ", workspaces not looked for{see}")?;
+        }
+        if self.has_no_root() {
+            write!(f, ", the root not known{see}")?;
         }
         if self.audited {
             write!(f, ", {} hit", self.hits)?;

@@ -5,7 +5,7 @@ ghost use Rattle.npm_lock_reports.specs.Report.{IsJsonLine};
 ghost use Rattle.npm_lock_reports.specs.Style as Style;
 
 use crate::format::ReportFormat;
-use command_lines::push_shown;
+use command_lines::push_shown_first;
 use serde_json::{Value, put};
 use std::alloc::{AllocError, Global};
 
@@ -24,7 +24,7 @@ pub fn push_file(line: &mut Vec<u8>, file: Option<&str>) -> Result<(), AllocErro
 {
     match file {
         Some(file) => {
-            push_shown(line, file)?;
+            push_shown_first(line, file)?;
             line.extend_from_slice(b": ")
         }
         None => Ok(()),

@@ -5,7 +5,7 @@ ghost use Rattle.npm_lock_reports.specs.Unread as UnreadThings;
 ghost use Rattle.npm_lock_reports.specs.Unread.{unread_value};
 
 use crate::folder_name::FolderName;
-use command_lines::push_shown;
+use command_lines::push_shown_first;
 use serde_json::{Map, Value, put};
 use std::alloc::{AllocError, Global};
 
@@ -16,16 +16,18 @@ pub enum Unread {
     Manifest(FolderName),
     /// The workspaces on disk: a pattern of them is not read.
     Workspaces,
+    /// What the root depends on: the lock file has no root.
+    Root,
 }
 
 impl Unread {
-    /// Returns the folder of the package that it is of, which is the root for workspaces.
+    /// Returns the folder of the package that it is of, which may be the root.
     pub fn folder(&self) -> &str
         ensures { result.now ≡ UnreadThings.unread_folder (unread_value self.now) }
     {
         match self {
             Unread::Manifest(folder) => folder.text.as_str(),
-            Unread::Workspaces => "",
+            Unread::Workspaces | Unread::Root => "",
         }
     }
 
@@ -35,6 +37,7 @@ impl Unread {
         match self {
             Unread::Manifest(_) => "manifest",
             Unread::Workspaces => "workspaces",
+            Unread::Root => "root",
         }
     }
 }
@@ -45,13 +48,16 @@ pub fn push_unread_sentence(line: &mut Vec<u8>, unread: &Unread) -> Result<(), A
 {
     match unread {
         Unread::Manifest(folder) => {
-            push_shown(line, folder.text.as_str())?;
+            push_shown_first(line, folder.text.as_str())?;
             line.extend_from_slice(
                 b"/package.json is not read: it is outside the folder of --manifest, or no regular file",
             )
         }
         Unread::Workspaces => line.extend_from_slice(
             b"no workspaces are looked for on disk: a pattern of `workspaces` is not read",
+        ),
+        Unread::Root => line.extend_from_slice(
+            b"what the root depends on is not known: `packages` has no member \"\"; --manifest says it",
         ),
     }
 }

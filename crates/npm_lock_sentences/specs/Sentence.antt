@@ -8,7 +8,7 @@ use Rattle.npm_lock.specs.declared.problem.Kind.{Kind}
 use Rattle.npm_lock.specs.declared.problem.Kind.TheVariants.{Engine, Invalid, Missing, PeerLocal}
 use Rattle.npm_lock.specs.declared.problem.Reason.{Reason}
 use Rattle.npm_lock.specs.declared.problem.Reason.TheVariants.{Location, Override, Tag, Workspace}
-use Rattle.command_lines.specs.Shown.{shown}
+use Rattle.command_lines.specs.Shown.{shown, shown_first}
 
 -- ---- the sentences
 
@@ -54,7 +54,7 @@ asker (byte ∷ folder) version = named_asker (last_name (byte ∷ folder)) (byt
 
 -- a dependency, and this verdict on the version that is installed
 abbrev pub said : (verdict : List ℕ) → DependencyValue → List ℕ
-said verdict dependency = shown dependency.name ++ after (codes " ") dependency.version ++ verdict
+said verdict dependency = shown_first dependency.name ++ after (codes " ") dependency.version ++ verdict
     ++ shown_spec dependency.spec ++ codes ", which " ++ asker dependency.from dependency.from_version
 
 -- a problem: `a 1.0.0 does not satisfy ^2, which b 3.0.0 asks for (node_modules/b)`
@@ -81,6 +81,6 @@ manifest_words (byte ∷ folder) = shown (byte ∷ folder) ++ codes "/package.js
 
 -- the sentence: `a in dependencies is "^2" in package.json, and "^1" in the lock file`
 abbrev pub mismatch_sentence : MismatchValue → List ℕ
-mismatch_sentence mismatch = shown mismatch.name ++ (codes " in " ++ (group_text mismatch.group ++ (codes " is "
+mismatch_sentence mismatch = shown_first mismatch.name ++ (codes " in " ++ (group_text mismatch.group ++ (codes " is "
     ++ (spec_words mismatch.spec ++ (codes " in " ++ (manifest_words mismatch.from ++ (codes ", and "
     ++ (spec_words mismatch.locked ++ codes " in the lock file"))))))))

@@ -8,7 +8,7 @@ ghost use Rattle.npm_manifests.specs.Mismatches.{mismatch_value};
 ghost use Rattle.npm_lock.specs.Outcomes.{dependency_value, problem_value, unchecked_value};
 ghost use Rattle.npm_lock_sentences.specs.Sentence as Sentence;
 
-use command_lines::push_shown;
+use command_lines::{push_shown, push_shown_first};
 use npm_lock::{Dependency, Kind, Problem, Reason, Unchecked};
 use npm_manifests::Mismatch;
 use std::alloc::AllocError;
@@ -34,7 +34,7 @@ pub fn push_mismatch_sentence(line: &mut Vec<u8>, mismatch: &Mismatch) -> Result
     ensures { OnOk result (line.new.items
         ≡ line.old.items ++ Sentence.mismatch_sentence (mismatch_value mismatch.now)) }
 {
-    push_shown(line, mismatch.name.as_str())?;
+    push_shown_first(line, mismatch.name.as_str())?;
     line.extend_from_slice(b" in ")?;
     line.extend_from_slice(mismatch.group.as_str().as_bytes())?;
     line.extend_from_slice(b" is ")?;
@@ -77,7 +77,7 @@ fn push_said(line: &mut Vec<u8>, verdict: &[u8], dependency: &Dependency) -> Res
     ensures { OnOk result (line.new.items
         ≡ line.old.items ++ Sentence.said verdict.now (dependency_value dependency.now)) }
 {
-    push_shown(line, dependency.name.as_str())?;
+    push_shown_first(line, dependency.name.as_str())?;
     push_after(line, b" ", dependency.version.as_ref())?;
     line.extend_from_slice(verdict)?;
     push_spec(line, dependency.spec.as_str())?;

@@ -154,7 +154,7 @@ fn finds_the_problems_of_links_and_names(rt: HostRuntime) {
     each(&rt, &NAMES);
 }
 
-const SPECS: [(&str, &str); 12] = [
+const SPECS: [(&str, &str); 22] = [
     // A spec that is accepted too.
     (
         r#""": {"dependencies": {"a": "^2", "b": "^2", "c": "^2"}, "acceptDependencies": {"a": "^1", "b": "^3", "c": ""}},
@@ -182,7 +182,7 @@ const SPECS: [(&str, &str); 12] = [
     (
         r#""": {"workspaces": ["*", "node_modules/*"], "dependencies": {"a": "^2", "v": "^2", "w": "^2"}},
             "node_modules/a": {"version": "1.0.0"}, "node_modules/v": {"link": true, "resolved": ".v"},
-            ".v": {"version": "1.0.0"}, "node_modules/w": {"link": true, "resolved": "./w"}, "w": {"version": "1.0.0"}"#,
+            ".v": {"name": "v", "version": "1.0.0"}, "node_modules/w": {"link": true, "resolved": "./w"}, "w": {"version": "1.0.0"}"#,
         "invalid a, invalid v",
     ),
     // Patterns that are not read: nothing is said of links.
@@ -191,10 +191,63 @@ const SPECS: [(&str, &str); 12] = [
             "node_modules/w": {"link": true, "resolved": "w"}, "w": {"version": "1.0.0"}"#,
         "invalid a",
     ),
+    // npm takes `a/../w` for `w`. `?` is any letter.
+    (
+        r#""": {"workspaces": ["a/../w"], "dependencies": {"w": "^2"}}, "node_modules/w": {"link": true, "resolved": "w"},
+            "w": {"version": "1.0.0"}"#,
+        "",
+    ),
+    (
+        r#""": {"workspaces": ["a//w", "v"], "dependencies": {"v": "^2"}}, "node_modules/v": {"link": true, "resolved": "v"},
+            "v": {"version": "1.0.0"}"#,
+        "",
+    ),
+    (
+        r#""": {"workspaces": ["?"], "dependencies": {"w": "^2", "v": "^2"}}, "node_modules/w": {"link": true, "resolved": "w"},
+            "w": {"version": "1.0.0"}, "node_modules/v": {"version": "1.0.0"}"#,
+        "invalid v",
+    ),
+    (
+        r#""": {"workspaces": ["../*"], "dependencies": {"w": "^2", "v": "^2"}}, "node_modules/w": {"link": true, "resolved": "../w"},
+            "../w": {"version": "1.0.0"}, "node_modules/v": {"link": true, "resolved": "v"}, "v": {"version": "1.0.0"}"#,
+        "invalid v",
+    ),
+    // npm refuses `workspaces` that are no list, in the root alone.
     (
         r#""": {"workspaces": "w", "dependencies": {"w": "^2"}}, "node_modules/w": {"link": true, "resolved": "w"},
-            "w": {"version": "1.0.0"}"#,
-        "invalid w",
+            "w": {"version": "1.0.0", "workspaces": "x"}"#,
+        "Workspaces",
+    ),
+    (
+        r#""": {"workspaces": ["w"], "dependencies": {"w": "^2"}}, "node_modules/w": {"link": true, "resolved": "w"},
+            "w": {"version": "1.0.0", "workspaces": "x"}"#,
+        "",
+    ),
+    // A workspace is one under its own name: that of the lock file, or that of its folder.
+    (
+        r#""": {"workspaces": ["p/*"], "dependencies": {"a": "^5", "b": "^5"}}, "p/a": {"name": "a", "version": "1.0.0"},
+            "node_modules/a": {"link": true, "resolved": "p/a"}, "node_modules/b": {"link": true, "resolved": "p/a"}"#,
+        "invalid b",
+    ),
+    (
+        r#""": {"workspaces": ["p/*"], "dependencies": {"a": "^5", "b": "^5"}}, "p/a": {"name": "b", "version": "1.0.0"},
+            "node_modules/a": {"link": true, "resolved": "p/a"}, "node_modules/b": {"link": true, "resolved": "p/a"}"#,
+        "invalid a",
+    ),
+    (
+        r#""": {"workspaces": ["p/@s/*"], "dependencies": {"@s/a": "^5", "a": "^1"}}, "p/@s/a": {"name": "", "version": "1.0.0"},
+            "node_modules/@s/a": {"link": true, "resolved": "p/@s/a"}, "node_modules/a": {"link": true, "resolved": "p/@s/a"}"#,
+        "",
+    ),
+    // A folder that npm takes for another.
+    (
+        r#""": {"optionalDependencies": {"a": "^1"}}, "node_modules/a/": {"version": "2.0.0"}"#,
+        "Folder",
+    ),
+    // A name of other parts is found nowhere.
+    (
+        r#""": {"dependencies": {"x/0": "^1"}}, "node_modules/x": {"version": "1.0.0"}, "node_modules/x/0": {"version": "1.0.0"}"#,
+        "missing x/0",
     ),
     // `null` is no group, and a link may begin with `./`.
     (

@@ -4,7 +4,7 @@ use crate::check::each;
 use std::alloc::AllocGlobal;
 use std::process::Abort;
 
-const FOLDERS: [(&str, &str); 8] = [
+const FOLDERS: [(&str, &str); 14] = [
     // Packages in the order of their folders' bytes, and the dependencies of each in the order of their names' bytes.
     (
         r#""w": {"dependencies": {"b": "1", "@s/a": "1", "B": "1"}}, "node_modules/z": {"dependencies": {"a": "1"}},
@@ -33,9 +33,30 @@ const FOLDERS: [(&str, &str); 8] = [
     ),
     (
         r#""": {"dependencies": {"": "1", "/": "1", "a/": "1", "/a": "1", "a": "1"}},
-            "node_modules/": {"version": "2.0.0"}, "node_modules/a/": {"version": "1.0.0"},
-            "node_modules//a": {"version": "2.0.0"}, "/node_modules/a": {"version": "1.0.0"}"#,
-        "invalid , missing /, invalid /a, missing a",
+            "node_modules/a": {"version": "1.0.0"}"#,
+        "missing , missing /, missing /a, missing a/",
+    ),
+    // Folders that npm takes for others: the first in the order of bytes is the fault.
+    (r#""": {}, "node_modules/": {"version": "2.0.0"}"#, "Folder"),
+    (
+        r#""": {}, "node_modules/lodash/": {"version": "4.17.11"}"#,
+        "Folder",
+    ),
+    (
+        r#""": {}, "node_modules/lodash/.": {"version": "4.17.11"}, "a": 1"#,
+        "Package",
+    ),
+    (
+        r#""": {}, "node_modules//a": {"version": "2.0.0"}"#,
+        "Folder",
+    ),
+    (
+        r#""": 1, "/node_modules/a": {"version": "1.0.0"}"#,
+        "Package",
+    ),
+    (
+        r#""": {}, "w": {}, "node_modules/w": {"link": true, "resolved": "x/../w"}"#,
+        "Link",
     ),
     // Folders beside those above come between them in the order of bytes, and no name is looked up there.
     (
@@ -48,11 +69,11 @@ const FOLDERS: [(&str, &str); 8] = [
             "a/b/cnode_modules/z": {"version": "1.0.0"}"#,
         "missing z of a/b/c",
     ),
-    // Names that no package has in the registry are found too.
+    // npm names a package by the last part of its folder, with the scope before it. A name of other parts is found nowhere.
     (
         r#""": {"dependencies": {"b/d": "1", "b/node_modules/c": "1", "d/node_modules/c": "1"}},
             "node_modules/b/node_modules/c": {"version": "2.0.0"}, "node_modules/b/d": {"version": "1.0.0"}"#,
-        "invalid b/node_modules/c, missing d/node_modules/c",
+        "missing b/d, missing b/node_modules/c, missing d/node_modules/c",
     ),
     // From a folder that leads up from the root no name is looked up in the root.
     (

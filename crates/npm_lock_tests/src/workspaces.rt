@@ -6,7 +6,7 @@ use std::alloc::Global;
 use std::test::Fail;
 
 // `workspaces` of a root, and its patterns: none if one is not read.
-const PATTERNS: [(&str, Option<&[&str]>); 12] = [
+const PATTERNS: [(&str, Option<&[&str]>); 16] = [
     (
         r#"["w", "./packages/*", "/a/**", ".//b"]"#,
         Some(&["w", "packages/*", "a/**", "b"]),
@@ -22,6 +22,16 @@ const PATTERNS: [(&str, Option<&[&str]>); 12] = [
     (r#"["w/"]"#, None),
     (r#"["w", 1]"#, None),
     (r#"["*/w"]"#, None),
+    (r#"["?"]"#, None),
+    (r#"[""]"#, None),
+    (
+        r#"["a/../w", "a//w", "w/.", "././w"]"#,
+        Some(&["a/../w", "a//w", "w/.", "./w"]),
+    ),
+    (
+        r#"["../w", "../../*", "..", "..w"]"#,
+        Some(&["../w", "../../*", "..", "..w"]),
+    ),
 ];
 
 #[test]

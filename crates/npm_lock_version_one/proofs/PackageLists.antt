@@ -7,12 +7,13 @@ use Rattle.serde_json.proofs.Views.{view-Object}
 use Rattle.serde_json.specs.Data.{Data, Members, member, object, put}
 use Rattle.serde_json.specs.View.{members_view, view}
 use Rattle.serde_json.specs.declared.value.Value.{Value, Object}
-use Rattle.npm_packages.specs.Folders.{place_in}
+use Rattle.npm_packages.specs.Folders.{is_folder, place_in}
 use Rattle.npm_packages.specs.Packages.{Package}
-use Rattle.npm_lock_version_one.specs.VersionOne.{entry_fault, member_of, packages_below, packages_fault}
+use Rattle.npm_lock_version_one.specs.VersionOne.{entry_fault, member_of, packages_below, packages_fault, placed_fault}
 use Rattle.npm_lock_version_one.specs.VersionOne.{packages_named}
 use Rattle.npm_lock_version_one.specs.VersionOne.{packages_of_entries, packages_of_members, with_packages}
 use Rattle.npm_packages.specs.declared.fault.Fault.{Fault}
+use Rattle.npm_packages.specs.declared.fault.Fault.TheVariants as Faults
 
 -- the members with the packages of two lists
 pub with_both : (first others : List Package) (base : Members)
@@ -28,8 +29,8 @@ or_later (Some x) b c = refl
 pub fault_of_both : (first others : List Package)
     → packages_fault (first ++ others) ≡ option_or (packages_fault first) (packages_fault others)
 fault_of_both [] others = refl
-fault_of_both (p ∷ first) others = ap (option_or (entry_fault p.member)) (fault_of_both first others)
-    ∙ or_later (entry_fault p.member) (packages_fault first) (packages_fault others)
+fault_of_both (p ∷ first) others = ap (option_or (placed_fault p)) (fault_of_both first others)
+    ∙ or_later (placed_fault p) (packages_fault first) (packages_fault others)
 
 -- ---- the member `dependencies`, among others
 
@@ -68,26 +69,35 @@ module _ (folder key : List ℕ) (value : Data) (others : Members) where
 -- ---- one package that is named, and those inside it
 
 module _ (folder name : List ℕ) (entry : Data) (others : Members) where
-  pub entry_passed : None ≡ entry_fault entry → None ≡ packages_fault (packages_below (place_in folder name) entry)
-      → packages_fault (packages_of_entries folder (member name entry others))
-      ≡ packages_fault (packages_of_entries folder others)
-  entry_passed none inside = ap (λ f. option_or f (packages_fault
-      (packages_below (place_in folder name) entry ++ packages_of_entries folder others))) (sym none)
-      ∙ fault_of_both (packages_below (place_in folder name) entry) (packages_of_entries folder others)
-      ∙ ap (λ f. option_or f (packages_fault (packages_of_entries folder others))) (sym inside)
+  -- the fault of the package, and then those inside it
+  abbrev with_fault : Option Fault → Option Fault
+  with_fault f = option_or f (packages_fault (packages_below (place_in folder name) entry ++ packages_of_entries folder others))
 
-  pub entry_found : (fault : Fault) → Some fault ≡ entry_fault entry
-      → packages_fault (packages_of_entries folder (member name entry others)) ≡ Some fault
-  entry_found fault some = ap (λ f. option_or f (packages_fault
-      (packages_below (place_in folder name) entry ++ packages_of_entries folder others))) (sym some)
+  pub folder_found : is_folder (place_in folder name) ≡ false
+      → packages_fault (packages_of_entries folder (member name entry others)) ≡ Some Faults.Folder
+  folder_found is = rw is refl
 
-  pub inside_found : (fault : Fault) → None ≡ entry_fault entry
-      → Some fault ≡ packages_fault (packages_below (place_in folder name) entry)
-      → packages_fault (packages_of_entries folder (member name entry others)) ≡ Some fault
-  inside_found fault none some = ap (λ f. option_or f (packages_fault
-      (packages_below (place_in folder name) entry ++ packages_of_entries folder others))) (sym none)
-      ∙ fault_of_both (packages_below (place_in folder name) entry) (packages_of_entries folder others)
-      ∙ ap (λ f. option_or f (packages_fault (packages_of_entries folder others))) (sym some)
+  module _ (is : is_folder (place_in folder name) ≡ true) where
+    placed : packages_fault (packages_of_entries folder (member name entry others)) ≡ with_fault (entry_fault entry)
+    placed = rw is refl
+
+    pub entry_passed : None ≡ entry_fault entry → None ≡ packages_fault (packages_below (place_in folder name) entry)
+        → packages_fault (packages_of_entries folder (member name entry others))
+        ≡ packages_fault (packages_of_entries folder others)
+    entry_passed none inside = placed ∙ ap with_fault (sym none)
+        ∙ fault_of_both (packages_below (place_in folder name) entry) (packages_of_entries folder others)
+        ∙ ap (λ f. option_or f (packages_fault (packages_of_entries folder others))) (sym inside)
+
+    pub entry_found : (fault : Fault) → Some fault ≡ entry_fault entry
+        → packages_fault (packages_of_entries folder (member name entry others)) ≡ Some fault
+    entry_found fault some = placed ∙ ap with_fault (sym some)
+
+    pub inside_found : (fault : Fault) → None ≡ entry_fault entry
+        → Some fault ≡ packages_fault (packages_below (place_in folder name) entry)
+        → packages_fault (packages_of_entries folder (member name entry others)) ≡ Some fault
+    inside_found fault none some = placed ∙ ap with_fault (sym none)
+        ∙ fault_of_both (packages_below (place_in folder name) entry) (packages_of_entries folder others)
+        ∙ ap (λ f. option_or f (packages_fault (packages_of_entries folder others))) (sym some)
 
   pub entry_added : (place : List ℕ) (made : Data) (base with_it after : Members)
       → place ≡ place_in folder name → made ≡ member_of place entry → with_it ≡ put place made base

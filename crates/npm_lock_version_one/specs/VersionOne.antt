@@ -6,8 +6,8 @@ use Rattle.std.specs.Float.Ieee.{Float, binary64, eq, of_int}
 use Rattle.std.specs.Option.{option_map_or, option_or}
 use Rattle.serde_json.specs.Data.{Data, Members, member, no_members, number, object, put, string, unsigned}
 use Rattle.serde_json.specs.Find.{as_bool, as_null, as_number, as_object, as_str, get, to_float}
-use Rattle.npm_packages.specs.Faults.{has_text_version, lock_fault, package_fault, specs_fault}
-use Rattle.npm_packages.specs.Folders.{place_in}
+use Rattle.npm_packages.specs.Faults.{has_patterns, has_text_version, lock_fault, package_fault, specs_fault}
+use Rattle.npm_packages.specs.Folders.{is_folder, place_in}
 use Rattle.npm_packages.specs.Packages.{Package, is_link}
 use Rattle.npm_lock_version_one.specs.Identity.{name_in, version_in}
 use Rattle.npm_packages.specs.declared.fault.Fault.{Fault}
@@ -115,15 +115,19 @@ entry_fault entry = if not (is_some (as_object entry)) then Some Faults.Entry
     else (if not (has_text_version entry) then Some Faults.PackageVersion
     else (if not (has_named entry) then Some Faults.Dependencies else requires_fault entry))
 
+-- the fault of a package in its folder
+abbrev pub placed_fault : Package → Option Fault
+placed_fault placed = if is_folder placed.folder then entry_fault placed.member else Some Faults.Folder
+
 -- the first fault of these packages
 abbrev pub packages_fault : List Package → Option Fault
 packages_fault [] = None
-packages_fault (first ∷ others) = option_or (entry_fault first.member) (packages_fault others)
+packages_fault (first ∷ others) = option_or (placed_fault first) (packages_fault others)
 
 -- the fault of a manifest, which takes the root's place
 abbrev pub manifest_fault : (manifest : Data) → Option Fault
-manifest_fault manifest =
-    if not (is_some (as_object manifest)) || is_link manifest then Some Faults.Manifest else package_fault manifest
+manifest_fault manifest = if not (is_some (as_object manifest)) || is_link manifest then Some Faults.Manifest
+    else (if has_patterns manifest then package_fault manifest else Some Faults.Workspaces)
 
 -- the fault of a file of version 1, or else of its manifest
 abbrev pub version_one_fault : (lock : Data) → (manifest : Option Data) → Option Fault

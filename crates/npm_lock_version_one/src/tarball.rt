@@ -1,5 +1,6 @@
 //! What the address of a tarball says of the package in it.
-ghost use Rattle.std.specs.Prelude.{◌≡◌, ◌<◌, IfOk, option_map, string_bytes};
+ghost use Rattle.std.specs.Prelude.{◌≡◌, ◌==◌, ◌<◌, IfOk, option_map, string_bytes};
+ghost use Rattle.std.specs.List.{after_first, before_first};
 ghost use Rattle.std.specs.Path.{rsplit_once};
 ghost use Rattle.npm_lock_version_one.specs.Tarballs as Tarballs;
 ghost use Rattle.npm_lock_version_one.specs.Tarballs.{name_value, tarball_value};
@@ -26,28 +27,103 @@ pub(crate) struct Tarball<'t> {
 pub(crate) fn tarball_at<'t>(address: &'t str, installed: &'t str) -> Option<Tarball<'t>>
     ensures { option_map tarball_value result ≡ Tarballs.tarball_at address.now installed.now }
 {
-    let stem = stem_of(address)?;
-    let (above, _) = parts_at_slash(address);
-    match in_registry(above, stem) {
+    let file = file_of(address);
+    let stem = stem_of(file)?;
+    match in_registry(address, file, stem) {
         Some(tarball) => Some(tarball),
         None => with_name(name_at_end(installed), stem),
     }
 }
 
-/// The name of the file without `.tgz`.
-fn stem_of(address: &str) -> Option<&str>
-    ensures { option_map (λ stem. stem.now) result ≡ Tarballs.stem_of address.now }
+/// The file that an address ends with, whose slashes at the end do not count.
+fn file_of(address: &str) -> &str
+    ensures { result.now ≡ Tarballs.file_of address.now }
 {
-    let (_, file) = parts_at_slash(address);
+    let (_, file) = parts_at_slash(before_slashes(address));
+    file
+}
+
+/// The name of a file without `.tgz`.
+fn stem_of(file: &str) -> Option<&str>
+    ensures { option_map (λ stem. stem.now) result ≡ Tarballs.stem_of file.now }
+{
     let stem = front_of(file, ".tgz")?;
     Some(rest_after(stem, "file:").unwrap_or(stem))
 }
 
-/// The package in a registry's tarball, with this before its file: `https://r/@s/a/-`.
-fn in_registry<'t>(above: &'t str, stem: &'t str) -> Option<Tarball<'t>>
-    ensures { option_map tarball_value result ≡ Tarballs.in_registry above.now stem.now }
+/// The package in this file of a registry, if the address is a registry's.
+fn in_registry<'t>(address: &'t str, file: &str, stem: &'t str) -> Option<Tarball<'t>>
+    ensures { option_map tarball_value result ≡ Tarballs.in_registry address.now file.now stem.now }
 {
-    with_name(name_at_end(front_of(above, "/-")?), stem)
+    with_name(name_at_end(above_file(url_path(address)?, file)?), stem)
+}
+
+/// The path of a package in a registry, of which this is the path of a file: `@s/a` of `@s/a/-/a-1.0.0.tgz`.
+fn above_file<'t>(path: &'t str, file: &str) -> Option<&'t str>
+    ensures { option_map (λ above. above.now) result ≡ Tarballs.above_file file.now path.now }
+{
+    front_of(front_of(path, file)?, "/-/")
+}
+
+/// The path of a URL, without the `/` that it begins with: `a/b` of `https://r/a/b?c#d`.
+fn url_path(address: &str) -> Option<&str>
+    ensures { option_map (λ path. path.now) result ≡ Tarballs.url_path address.now }
+{
+    let rest = match rest_after(address, "https:/") {
+        Some(rest) => rest,
+        None => rest_after(address, "http:/")?,
+    };
+    Some(after_first_slash(before_query(after_slashes(rest))))
+}
+
+/// What comes before the `?` or the `#` of a URL.
+fn before_query(url: &str) -> &str
+    ensures { result.now ≡ Tarballs.before_query url.now }
+{
+    before(before(url, '#'), '?')
+}
+
+/// What comes before the first such character, or the whole text if there is none.
+fn before(text: &str, character: char) -> &str
+    requires { character < 128 }
+    ensures { result.now ≡ before_first (λ byte. byte == character) text.now }
+{
+    match text.split_once(character) {
+        Some((front, _)) => front,
+        None => text,
+    }
+}
+
+/// What comes after the first `/`: `a/b` of `r/a/b`. Nothing comes after it if there is none.
+fn after_first_slash(text: &str) -> &str
+    ensures { result.now ≡ after_first Tarballs.is_slash text.now }
+{
+    match text.split_once('/') {
+        Some((_, path)) => path,
+        None => "",
+    }
+}
+
+/// The text without slashes at its start.
+fn after_slashes(text: &str) -> &str
+    ensures { result.now ≡ Tarballs.after_slashes text.now }
+{
+    let mut left = text;
+    while let Some(rest) = rest_after(left, "/") {
+        left = rest;
+    }
+    left
+}
+
+/// The text without slashes at its end.
+fn before_slashes(text: &str) -> &str
+    ensures { result.now ≡ Tarballs.before_slashes text.now }
+{
+    let mut left = text;
+    while let Some(front) = front_of(left, "/") {
+        left = front;
+    }
+    left
 }
 
 /// The package of this name in the file `a-1.0.0.tgz`, of which this is `a-1.0.0`.
@@ -74,26 +150,32 @@ fn front_of<'t>(text: &'t str, end: &str) -> Option<&'t str>
 fn name_at_end(path: &str) -> Name<'_>
     ensures { name_value result ≡ Tarballs.name_at_end path.now }
 {
-    let (above, project) = parts_at_slash(path);
-    match escaped_name(project) {
-        Some(name) => name,
-        None => {
-            let (_, scope) = parts_at_slash(above);
-            Name { scope, project }
-        }
+    let (above, project) = parts_at_end(path);
+    let (_, scope) = parts_at_end(above);
+    Name { scope, project }
+}
+
+/// What comes before the last `/` or `%2f` of a path, and what comes after it.
+fn parts_at_end(path: &str) -> (&str, &str)
+    ensures { (result.0.now, result.1.now) ≡ Tarballs.parts_at_end path.now }
+{
+    let (above, part) = parts_at_slash(path);
+    match escaped_parts(part) {
+        Some(parts) => parts,
+        None => (above, part),
     }
 }
 
-/// A name in one part of a path: `@s%2fa`.
-fn escaped_name(part: &str) -> Option<Name<'_>>
-    ensures { option_map name_value result ≡ Tarballs.escaped_name part.now }
+/// The two parts of `@s%2fa`.
+fn escaped_parts(part: &str) -> Option<(&str, &str)>
+    ensures { option_map (λ parts. (parts.0.now, parts.1.now)) result ≡ Tarballs.escaped_parts part.now }
 {
-    let (scope, after) = parted(part, '%')?;
+    let (front, after) = parted(part, '%')?;
     match rest_after(after, "2f") {
-        Some(project) => Some(Name { scope, project }),
+        Some(project) => Some((front, project)),
         None => {
             let project = rest_after(after, "2F")?;
-            Some(Name { scope, project })
+            Some((front, project))
         }
     }
 }

@@ -1,12 +1,15 @@
 //! Values that are no lock file of version 1.
-ghost use Rattle.std.specs.Prelude.{◌≡◌, ℕ, List, option_map};
+ghost use Rattle.std.specs.Prelude.{◌≡◌, ℕ, List, length, option_map, true};
 ghost use Rattle.std.specs.Result.{result_err};
 ghost use Rattle.serde_json.specs.View.{view};
+ghost use Rattle.npm_packages.specs.Folders.{is_folder};
 ghost use Rattle.npm_lock_version_one.specs.VersionOne as VersionOne;
 ghost use Rattle.npm_lock_version_one.specs.VersionOne.{packages_below, packages_fault, packages_named};
 
 use crate::version_one::required_of;
-use npm_lock::{Fault, check_package, check_specs, has_text_version, is_link};
+use npm_packages::{
+    Fault, check_package, check_specs, has_patterns, has_text_version, is_link, place_size,
+};
 use serde_json::Value;
 
 /// Fails if a file of version 1 or its manifest has a fault.
@@ -17,7 +20,7 @@ pub(crate) fn check_version_one(lock: &Value, manifest: Option<&Value>) -> Resul
     if !has_named(lock) {
         return Err(Fault::Dependencies);
     }
-    check_below(lock)?;
+    check_below(lock, 0)?;
     match manifest {
         Some(manifest) => check_manifest(manifest),
         None => Ok(()),
@@ -31,33 +34,41 @@ fn check_manifest(manifest: &Value) -> Result<(), Fault>
     if !manifest.is_object() || is_link(manifest) {
         return Err(Fault::Manifest);
     }
+    if !has_patterns(manifest) {
+        return Err(Fault::Workspaces);
+    }
     check_package(manifest)
 }
 
-/// Fails if a package below this one has a fault.
+/// Fails if a package below this one has a fault. Its folder has this size.
 #[cycle(faults)]
-fn check_below(entry: &Value) -> Result<(), Fault>
-    ensures { (folder : List ℕ) → result_err result ≡ packages_fault (packages_below folder (view entry.now)) }
+fn check_below(entry: &Value, size: usize) -> Result<(), Fault>
+    ensures { (folder : List ℕ) → is_folder folder ≡ true → length folder ≡ size
+        → result_err result ≡ packages_fault (packages_below folder (view entry.now)) }
 {
     if let Value::Object(members) = entry {
         for (key, value) in members.iter() {
             if key.as_str() == "dependencies" {
-                check_named(value)?;
+                check_named(value, size)?;
             }
         }
     }
     Ok(())
 }
 
-/// Fails if a package that `dependencies` names has a fault, or one inside it.
+/// Fails if a package that `dependencies` names has a fault, or one inside it. They are in a folder of this size.
 #[cycle(faults)]
-fn check_named(dependencies: &Value) -> Result<(), Fault>
-    ensures { (folder : List ℕ) → result_err result ≡ packages_fault (packages_named folder (view dependencies.now)) }
+fn check_named(dependencies: &Value, size: usize) -> Result<(), Fault>
+    ensures { (folder : List ℕ) → is_folder folder ≡ true → length folder ≡ size
+        → result_err result ≡ packages_fault (packages_named folder (view dependencies.now)) }
 {
     if let Value::Object(entries) = dependencies {
-        for (_, entry) in entries.iter() {
+        for (name, entry) in entries.iter() {
+            let Some(place) = place_size(size, name.as_str()) else {
+                return Err(Fault::Folder);
+            };
             check_entry(entry)?;
-            check_below(entry)?;
+            check_below(entry, place)?;
         }
     }
     Ok(())

@@ -2,3 +2,4 @@ pub mod Examples
 pub mod FileFolders
 pub mod PathParts
 pub mod ReadManifests
+pub mod TextStarts

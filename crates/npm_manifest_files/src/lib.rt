@@ -5,6 +5,7 @@
 //! of workspaces are read where npm reads them".
 #![tactic(auto)]
 
+mod below;
 mod linked;
 mod load_error;
 mod manifest_file;

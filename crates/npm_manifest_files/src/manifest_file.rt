@@ -7,6 +7,7 @@ ghost use Rattle.npm_manifests.specs.Mismatches.{manifest_fault};
 ghost use Rattle.npm_manifest_files.specs.ManifestFile.{IsFaultyInput, IsNoFile, IsNotOpened, IsNotRead, path_of};
 ghost use Rattle.npm_manifest_files.specs.Paths as Paths;
 
+use crate::below::is_below;
 use crate::linked::Found;
 use crate::load_error::{LoadError, ManifestError};
 use crate::walk::joined;
@@ -27,6 +28,13 @@ pub fn folder_of(path: &str) -> &str
         Some((folder, _)) => folder,
         None => ".",
     }
+}
+
+/// Returns the path of a folder that `folder_of` returned: `/` of the empty one.
+pub(crate) fn path_of_folder(folder: &str) -> &str
+    ensures { result.now ≡ Paths.path_of_folder folder.now }
+{
+    if folder.is_empty() { "/" } else { folder }
 }
 
 /// Reads a manifest that must have no fault.
@@ -82,25 +90,21 @@ pub fn manifest_in(
     }
 }
 
-/// Opens a manifest. Returns `None` for one that is not inside this folder, unless those are read too.
+/// Opens a manifest. Returns `None` for one that is no regular file, and for one that is not inside this folder, unless those are
+/// read too. A pipe is no regular file, and is not opened: that could wait for ever.
 fn opened(rt: &HostRuntime, outer: &str, path: &str, outside: bool) -> io::Result<Option<File>> {
-    if outside || is_inside(rt, outer, path)? {
+    if fs::metadata(rt, path)?.is_file() && (outside || is_inside(rt, outer, path)?) {
         File::open(rt, path).map(Some)
     } else {
         Ok(None)
     }
 }
 
-/// Returns `true` for a regular file below a folder. Of a symbolic link the file that it leads to counts. A pipe is no regular
-/// file, and is not opened: that could wait for ever.
+/// Returns `true` for a file below a folder. Of a symbolic link the file that it leads to counts.
 fn is_inside(rt: &HostRuntime, outer: &str, path: &str) -> io::Result<bool> {
-    if !fs::metadata(rt, path)?.is_file() {
-        return Ok(false);
-    }
-    let outer = if outer.is_empty() { "/" } else { outer };
-    let above = fs::canonicalize(rt, outer)?;
+    let above = fs::canonicalize(rt, path_of_folder(outer))?;
     let real = fs::canonicalize(rt, path)?;
-    Ok(real.as_path().starts_with(above.as_path()))
+    Ok(is_below(real.as_path().as_str(), above.as_path().as_str()))
 }
 
 /// Returns the path of the manifest in a folder, which is inside another.

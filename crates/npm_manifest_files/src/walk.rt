@@ -5,6 +5,7 @@ ghost use Rattle.std.specs.Prelude.{◌≡◌, ◌++◌, IfErr, IfOk, IsErr, Non
 ghost use Rattle.std.specs.IoError.{error_kind};
 ghost use Rattle.std.specs.declared.io.ErrorKind.{ErrorKind};
 
+use crate::below::is_below;
 use npm_lock::is_part;
 use std::alloc::{AllocError, Global};
 use std::collections::BTreeMap;
@@ -195,8 +196,7 @@ impl<'a> Walk<'a> {
         let Some(real) = unless_failed(fs::canonicalize(self.rt, path.as_str()))? else {
             return Ok(false);
         };
-        let real = real.as_path();
-        Ok(real.as_str() != self.above && real.starts_with(self.above))
+        Ok(is_below(real.as_path().as_str(), self.above))
     }
 }
 

@@ -5,7 +5,7 @@ ghost use Rattle.npm_manifest_files.specs.Linked.{loaded_value, without_workspac
 
 use crate::linked::{Found, Linked, Loaded, Workspace};
 use crate::load_error::LoadError;
-use crate::manifest_file::manifest_in;
+use crate::manifest_file::{manifest_in, path_of_folder};
 use crate::walk::{folders_on_disk, joined, unless_failed};
 use crate::workspace_name::name_of;
 use npm_lock::workspace_patterns;
@@ -155,8 +155,7 @@ fn has_folder(unread: &[Unread], folder: &str) -> bool {
 
 /// The path of a folder without symbolic links.
 fn real_path(rt: &HostRuntime, outer: &str) -> Result<Option<String>, LoadError> {
-    let outer = if outer.is_empty() { "/" } else { outer };
-    match unless_failed(fs::canonicalize(rt, outer)) {
+    match unless_failed(fs::canonicalize(rt, path_of_folder(outer))) {
         Ok(Some(path)) => Ok(Some(path.into_string())),
         Ok(None) => Ok(None),
         Err(_) => Err(LoadError::Memory),

@@ -220,11 +220,11 @@ const MEMBERS: &str =
 const MANIFESTS: [(&str, &str); 2] = [
     (
         "",
-        r#"{"link": true, "dependencies": {"a": "2", "w": "^3"}}"#,
+        r#"{"link": true, "dev": true, "dependencies": {"a": "2", "w": "^3"}}"#,
     ),
     (
         "w",
-        r#"{"version": "3.1.0", "optional": true, "dependencies": {"b": "1"}}"#,
+        r#"{"version": "3.1.0", "optional": true, "peer": true, "dependencies": {"b": "1"}}"#,
     ),
 ];
 
@@ -244,11 +244,32 @@ missing {"dev":false,"from":"w","name":"b","optional":false,"peer":false,"proble
     unchecked: "",
 };
 
-// A manifest is checked in the place of its package, whatever its members `link` and `optional` are.
+// The root and a linked package with marks, and their manifests without.
+const MARKED: &str =
+    r#"{"lockfileVersion": 3, "packages": {"": {"dev": true, "optional": true, "peer": true},
+        "node_modules/w": {"link": true, "resolved": "w"}, "w": {"dev": true, "optional": 1, "peer": true}}}"#;
+
+const UNMARKED: [(&str, &str); 2] = [
+    ("", r#"{"dependencies": {"a": "1"}}"#),
+    ("w", r#"{"dependencies": {"b": "1"}, "dev": false}"#),
+];
+
+const MARKS: Findings = Findings {
+    packages: 2,
+    dependencies: 2,
+    problems: r#"
+missing {"dev":false,"from":"","name":"a","optional":false,"peer":false,"problem":"missing","spec":"1"}
+missing {"dev":true,"from":"w","name":"b","optional":true,"peer":true,"problem":"missing","spec":"1"}"#,
+    unchecked: "",
+};
+
+// A manifest is checked in the place of its package, whatever its members `link` and `optional` are. The marks of a linked package
+// are those of the lock file, and the root has none.
 #[test]
 fn checks_with_manifests(rt: HostRuntime) {
     assert!(rt; is_checked_with(rt.alloc(), MEMBERS, &[], &BEFORE));
     assert!(rt; is_checked_with(rt.alloc(), MEMBERS, &MANIFESTS, &AFTER));
+    assert!(rt; is_checked_with(rt.alloc(), MARKED, &UNMARKED, &MARKS));
     assert!(rt; stays(rt.alloc(), "[1]"));
 }
 

@@ -299,7 +299,7 @@ const CONVERTED: &str =
     r#"{"lockfileVersion":3,"packages":{"":{"dependencies":{"a":"^1"}},"node_modules/a":{"dependencies":{"b":"^2"},"dev":true,"version":"1.0.0"},"node_modules/a/node_modules/b":{"name":"c","version":"1.0.0"}}}"#;
 
 // A lock file, its manifest, the file that it becomes or the fault, and what a check of that file finds.
-const CONVERSIONS: [(&str, &str, &str, &str); 6] = [
+const CONVERSIONS: [(&str, &str, &str, &str); 8] = [
     (OLD, MANIFEST, CONVERTED, "invalid b of node_modules/a"),
     // Aliases: with a scope, of a name alone, of no name, and of a package in no registry.
     (
@@ -329,6 +329,29 @@ const CONVERSIONS: [(&str, &str, &str, &str); 6] = [
             "g": {"version": "2.0.0", "from": "https://r/g-1.0.0.tgz"}}}"#,
         "",
         r#"{"lockfileVersion":3,"packages":{"":{},"node_modules/a":{"name":"b","version":"1.0.0"},"node_modules/c":{"name":"b","version":"1.0.0"},"node_modules/d":{"version":"2.0.0"},"node_modules/e":{"name":"b","version":"1.0.0"},"node_modules/f":{"name":"b","version":"1.0.0"},"node_modules/g":{"name":"g","version":"1.0.0"}}}"#,
+        "",
+    ),
+    // The name is in the path of a URL: not in its host, its query or its fragment, and in no file.
+    (
+        r#"{"dependencies": {"a": {"version": "https://@s/b/-/b-1.0.0.tgz"}, "b": {"version": "https://@r/b-1.0.0.tgz"},
+            "c": {"version": "http://r/b/-/b-1.0.0.tgz?/@s/b/-/b-1.0.0.tgz"}, "d": {"version": "https:/@s/b/-/b-1.0.0.tgz#x/b-1.0.0.tgz"},
+            "@s/e": {"version": "file:@t/e/-/e-1.0.0.tgz"}, "f": {"version": "https://r/@s/f/-/f-1.0.0.tgz/"},
+            "g": {"version": "https://r/@s%2fx/b/-/b-1.0.0.tgz"}, "h": {"version": "ftp://r/@s/h/-/h-1.0.0.tgz"}}}"#,
+        "",
+        r#"{"lockfileVersion":3,"packages":{"":{},"node_modules/@s/e":{"name":"@s/e","version":"1.0.0"},"node_modules/a":{"name":"b","version":"1.0.0"},"node_modules/b":{"name":"b","version":"1.0.0"},"node_modules/c":{"name":"b","version":"1.0.0"},"node_modules/d":{"name":"b","version":"1.0.0"},"node_modules/f":{"name":"f","version":"1.0.0"},"node_modules/g":{"name":"b","version":"1.0.0"},"node_modules/h":{"name":"h","version":"1.0.0"}}}"#,
+        "",
+    ),
+    // `from` alone says the version. One that npm refuses counts as none.
+    (
+        r#"{"dependencies": {"a": {"from": "4.17.11"}, "b": {"from": "npm:@s/c@1.0.0"}, "c": {"from": "workspace:^"},
+            "d": {"version": "1.0.0", "from": "workspace:^", "resolved": "https://r/d/-/d-2.0.0.tgz"},
+            "e": {"version": "1.0.0", "from": "npm:b@github:b/c", "resolved": "https://r/e/-/e-2.0.0.tgz"},
+            "f": {"version": "1.0.0", "from": true, "resolved": "https://r/f/-/f-2.0.0.tgz"},
+            "g": {"version": "1.0.0", "from": "github:b/g", "resolved": "https://r/g/-/g-2.0.0.tgz"},
+            "h": {"version": "1.0.0", "from": "c:h", "resolved": "https://r/h/-/h-2.0.0.tgz"},
+            "i": {"from": "1.0.0", "resolved": "https://r/i"}, "j": {"version": "", "from": "1.0.0", "resolved": null}}}"#,
+        "",
+        r#"{"lockfileVersion":3,"packages":{"":{},"node_modules/a":{"version":"4.17.11"},"node_modules/b":{"name":"@s/c","version":"1.0.0"},"node_modules/c":{},"node_modules/d":{"version":"1.0.0"},"node_modules/e":{"version":"1.0.0"},"node_modules/f":{"version":"1.0.0"},"node_modules/g":{"name":"g","version":"2.0.0"},"node_modules/h":{"name":"h","version":"2.0.0"},"node_modules/i":{},"node_modules/j":{"version":"1.0.0"}}}"#,
         "",
     ),
     (

@@ -9,7 +9,7 @@ use Rattle.std.specs.Option.{MatchOption}
 use Rattle.std.specs.Str.Pattern.{RFindsChar, SplitsAroundMatch}
 use denote.Ref.{Bor}
 use Rattle.npm_packages.specs.Folders.{place_in}
-use Rattle.npm_packages.specs.LastParts.{HasNoSlash, IsEnd, IsLast, alone, plain, scoped}
+use Rattle.npm_packages.specs.LastParts.{HasNoSlash, IsEnd, IsLast, IsPlain, alone, plain, scoped}
 
 -- ---- parts
 
@@ -217,3 +217,10 @@ front_of_last above part is = elim is.whole [
   | inl same ↦ ([], same)
   | inr more ↦ (more.0 ++ (47 ∷ []), more.1 ∙ sym (append_assoc more.0 (47 ∷ []) part))
 ]
+
+-- the end of a path is a plain name
+pub plain_end : (path end : List ℕ) → IsEnd path end → IsPlain end
+plain_end path end (alone none is) = rw is (alone none refl)
+plain_end path end (plain above part whole none last no_scope) = alone none refl
+plain_end path end (scoped above part last whole none is_last is_scope is) =
+    scoped part part last is none (record { no_slash = is_last.no_slash; whole = inl refl }) is_scope is

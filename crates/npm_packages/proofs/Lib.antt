@@ -7,9 +7,11 @@ pub mod Indexing
 pub mod LastPlaces
 pub mod LinkedLists
 pub mod MemberLookups
+pub mod Named
 pub mod Nearest
 pub mod OverrideNames
 pub mod OverrideRules
 pub mod Reaching
 pub mod Starts
+pub mod Steps
 pub mod DependentTexts

@@ -52,18 +52,18 @@ module _ (packages : Data) (from outermost name : List ℕ) (places : Places) (i
 -- ---- what the nearest hit says
 
 module _ (packages : Data) (from outermost name : List ℕ) (best : Option Hit)
-    (is_outermost : IsOutermostFrom from outermost) (nearest : IsNearest packages from name best)
+    (is_outermost : IsOutermostFrom from outermost) (plain : IsPlain name) (nearest : IsNearest packages from name best)
   where
     passed_at : (folder : List ℕ) → IsReached from folder → (IsCovered best folder → ⊥) → IsPassed packages name folder
     passed_at folder reached none = by_kind (is_modules folder) refl where
       by_found : is_modules folder ≡ false → (o : Option Package) → package_at packages (place_in folder name) ≡ o
           → IsPassed packages name folder
-      by_found no_modules None is = inr is
+      by_found no_modules None is = inr (inr is)
       by_found no_modules (Some found) is = absurd (none
-          (nearest.nearest folder found reached (record { no_modules = no_modules; found = is })))
+          (nearest.nearest folder found reached (record { plain = plain; no_modules = no_modules; found = is })))
 
       by_kind : (b : Bool) → is_modules folder ≡ b → IsPassed packages name folder
-      by_kind true is = inl is
+      by_kind true is = inr (inl is)
       by_kind false is = by_found is _ refl
 
     pub found_by : IsFound packages name from (option_map (λ h. package_value h.found) best)
@@ -73,7 +73,7 @@ module _ (packages : Data) (from outermost name : List ℕ) (best : Option Hit)
           (λ folder reached. passed_at folder reached (λ covered. cc (is, covered.1)))
       by_best (Some h) is =
           let hit : IsHit packages from name h = rw is at nearest.hit in
-          found_in_nearest packages name hit.reached (package_value h.found) hit.found.no_modules hit.found.found
+          found_in_nearest packages name hit.reached (package_value h.found) hit.found
           (λ nearer reached long. passed_at nearer reached (λ covered.
           let same : covered.0 ≡ h = cc (is, covered.1) in
           let short : length nearer ≤ length h.folder.now = rw same at covered.2 in
@@ -97,31 +97,8 @@ pub equal_lengths : (m n : ℕ) {P : Type 0} → ((m ≡ n) ↔ P) → IsTrue (n
 equal_lengths m n means =
     ((λ yes. means.0 ((Decides-eqb m n).0 yes)), (λ holds. (Decides-eqb m n).1 (means.1 holds)))
 
--- ---- folder by folder
-
-module _ (packages : Data) (name from : List ℕ) where
-  -- the folder itself, or one above it, where the name is passed in the folder itself
-  abbrev pub IsFrom : (folder : List ℕ) → Type 0
-  IsFrom folder = (folder ≡ from) ⊎ (IsPassed packages name from × (length folder < length from))
-
-  pub from_above : (folder parent : List ℕ) → IsFrom folder → IsPassed packages name folder → IsAbove folder parent
-      → IsFrom parent
-  from_above folder parent is passed is_above = elim is [
-    | inl same ↦
-        let less : length parent < length from = rw same at (shorter folder parent is_above) in
-        inr (rw same at passed, less)
-    | inr more ↦ inr (more.0, omega (arith, more.1, shorter folder parent is_above))
-  ]
-
-  pub own_if : (folder : List ℕ) (found : Package) → IsFrom folder → IsFoundIn packages name folder found
-      → (length folder ≡ length from) ↔ IsFoundIn packages name from found
-  own_if folder found is found_in = elim is [
-    | inl same ↦ ((λ equal. rw same at found_in), (λ own. ap (λ t. length t) same))
-    | inr more ↦ (
-      (λ equal. absurd (omega (arith, equal, more.1))),
-      (λ own. absurd (elim more.0 [
-        | inl modules ↦ cc (modules, own.no_modules)
-        | inr none ↦ cc (none, own.found)
-      ])),
-    )
-  ]
+-- a name that is not plain is found nowhere
+pub not_plain : (packages : Data) (from outermost name : List ℕ) → IsOutermostFrom from outermost → ¬ IsPlain name
+    → IsFound packages name from None
+not_plain packages from outermost name is_outermost none =
+    found_in_none packages name is_outermost.reached is_outermost.last (λ folder reached. inl none)

@@ -4,7 +4,7 @@ use Rattle.std.proofs.Common.{None, ap, append_assoc, arith, codes, inl, inr, le
 use Rattle.std.proofs.lemmas.List.{length-append}
 use Rattle.serde_json.specs.Data.{Data}
 use Rattle.npm_packages.specs.Folders.{IsAbove, IsOutermost, is_modules, place_in}
-use Rattle.npm_packages.specs.Packages.{IsFound, IsPassed, Package, above as found_above, here, nowhere, package_at}
+use Rattle.npm_packages.specs.Packages.{IsFound, IsFoundIn, IsPassed, Package, above as found_above, here, nowhere}
 use Rattle.npm_packages.specs.Lookups.{IsReached, above, itself}
 use Rattle.npm_packages.specs.Index.{IsFront}
 use Rattle.npm_packages.proofs.Fronts.{has_slash, parted, same_cut}
@@ -141,16 +141,14 @@ reached_within (above folder parent to is rest) (above _ second outermost is_sec
 
 module _ (packages : Data) (name : List ℕ) where
   -- the name is passed in all folders that are nearer
-  pub found_in_nearest : {from to : List ℕ} → IsReached from to → (found : Package) → is_modules to ≡ false
-      → package_at packages (place_in to name) ≡ Some found
+  pub found_in_nearest : {from to : List ℕ} → IsReached from to → (found : Package) → IsFoundIn packages name to found
       → ((nearer : List ℕ) → IsReached from nearer → length to < length nearer → IsPassed packages name nearer)
       → IsFound packages name from (Some found)
-  found_in_nearest (itself folder) found no_modules is passed =
-      here folder found (record { no_modules = no_modules; found = is })
-  found_in_nearest (above folder parent to is_above rest) found no_modules is passed =
+  found_in_nearest (itself folder) found is passed = here folder found is
+  found_in_nearest (above folder parent to is_above rest) found is passed =
       found_above folder parent (Some found)
       (passed folder (itself folder) (omega (arith, shorter folder parent is_above, reached_shorter rest))) is_above
-      (found_in_nearest rest found no_modules is
+      (found_in_nearest rest found is
       (λ nearer reached long. passed nearer (above folder parent nearer is_above reached) long))
 
   -- the name is passed in all folders

@@ -1,10 +1,11 @@
 -- Which values are no lock file that is read: npm's "package-lock.json", "lockfileVersion" and "packages".
-use Rattle.std.specs.Prelude.{◌||◌, ◌&&◌, ℕ, pos, List, Bool, true, false, if◌then◌else◌, Option, Some, None}
-use Rattle.std.specs.Prelude.{is_some, option_and_then, option_map, codes}
+use Rattle.std.specs.Prelude.{◌||◌, ◌&&◌, ◌==◌, ℕ, pos, List, Bool, true, false, not, if◌then◌else◌, Option, Some, None}
+use Rattle.std.specs.Prelude.{is_some, length, option_and_then, option_map, codes}
 use Rattle.std.specs.Float.Ieee.{Float, binary64, eq, of_int}
 use Rattle.std.specs.Option.{option_map_or, option_or}
 use Rattle.serde_json.specs.Data.{Data, Members, member, no_members}
-use Rattle.serde_json.specs.Find.{as_null, as_number, as_object, as_str, get, to_float}
+use Rattle.serde_json.specs.Find.{as_array, as_null, as_number, as_object, as_str, get, to_float}
+use Rattle.npm_packages.specs.Folders.{is_folder}
 use Rattle.npm_packages.specs.Packages.{is_link, target_of}
 use Rattle.npm_packages.specs.declared.fault.Fault.{Fault}
 use Rattle.npm_packages.specs.declared.fault.Fault.TheVariants as Faults
@@ -53,17 +54,30 @@ abbrev pub link_fault : (packages link : Data) → Option Fault
 link_fault packages link = option_map_or
     (λ target. if is_link target.member then Some Faults.Link else None) (target_of packages link) (Some Faults.Link)
 
--- the fault of a member of `packages`, if it has one
-abbrev pub member_fault : (packages entry : Data) → Option Fault
-member_fault packages entry = if is_some (as_object entry)
+-- the fault of a member of `packages`, apart from its folder
+abbrev pub entry_fault : (packages entry : Data) → Option Fault
+entry_fault packages entry = if is_some (as_object entry)
     then (if is_link entry then link_fault packages entry else package_fault entry)
     else Some Faults.Package
+
+-- a list of patterns, or an object with such a list as `packages`
+abbrev pub has_list : (said : Data) → Bool
+has_list said = is_some (as_array said) || is_some (option_and_then as_array (get (codes "packages") said))
+
+-- `workspaces` of the root is one of them, or absent: npm refuses anything else
+abbrev pub has_patterns : (root : Data) → Bool
+has_patterns root = option_map_or has_list (get (codes "workspaces") root) true
+
+-- the fault of a member of `packages`, if it has one; its key is the folder of a package, and that of the root is empty
+abbrev pub member_fault : (packages : Data) → (folder : List ℕ) → (entry : Data) → Option Fault
+member_fault packages folder entry = if not (is_folder folder) then Some Faults.Folder
+    else (if (length folder == 0) && not (has_patterns entry) then Some Faults.Workspaces else entry_fault packages entry)
 
 -- the first fault of these members of `packages`
 abbrev pub members_fault : (packages : Data) → Members → Option Fault
 members_fault packages no_members = None
 members_fault packages (member folder entry others) =
-    option_or (member_fault packages entry) (members_fault packages others)
+    option_or (member_fault packages folder entry) (members_fault packages others)
 
 -- the fault of `packages`
 abbrev pub packages_fault : (packages : Data) → Option Fault

@@ -1,7 +1,7 @@
 -- Folders of packages, as the keys of `packages` in a lock file write them: npm's "package-lock.json", "packages".
-use Rattle.std.specs.Prelude.{◌≡◌, ◌≢◌, ◌⊎◌, ◌||◌, ◌<◌, ℕ, List, [], ◌∷◌, ◌++◌, Bool, false, true, IsTrue, bytes_eq}
-use Rattle.std.specs.Prelude.{codes, length, nat_eq, slice_index}
-use Rattle.std.specs.List.{ends_with, starts_with}
+use Rattle.std.specs.Prelude.{◌≡◌, ◌≢◌, ◌⊎◌, ◌||◌, ◌&&◌, ◌==◌, ◌<◌, ℕ, List, [], ◌∷◌, ◌++◌, Bool, false, true, IsTrue}
+use Rattle.std.specs.Prelude.{bytes_eq, codes, if◌then◌else◌, length, nat_eq, nat_le, not, slice_index}
+use Rattle.std.specs.List.{ends_with, list_all, list_any, slice_split, starts_with}
 use Rattle.std.specs.Str.Iter.{HasSubslice}
 
 -- a path inside a folder: `node_modules/a` is in the root, `b/node_modules/a` in `b`
@@ -36,3 +36,31 @@ is_modules folder = bytes_eq folder (codes "node_modules") || ends_with nat_eq f
 abbrev pub IsInstalled : List ℕ → Type 0
 IsInstalled folder = IsTrue (starts_with nat_eq folder (codes "node_modules/"))
     ⊎ HasSubslice folder (codes "/node_modules/")
+
+-- ---- which keys are folders
+
+-- the parts of a path: `node_modules` and `a` of `node_modules/a`. The empty path has one part, which is empty.
+abbrev pub parts_of : (path : List ℕ) → List (List ℕ)
+parts_of path = slice_split (λ b. b == 47) path
+
+-- A part that leads one folder down: it is not empty, not `.` or `..`, and has no `\`, for which npm writes `/`.
+abbrev pub is_step : (part : List ℕ) → Bool
+is_step part = not (length part == 0) && not (bytes_eq part (codes ".")) && not (bytes_eq part (codes ".."))
+    && not (list_any (λ b. b == 92) part)
+
+-- the parts without each `..` at their start
+abbrev pub below_up : (parts : List (List ℕ)) → List (List ℕ)
+below_up [] = []
+below_up (part ∷ parts) = if bytes_eq part (codes "..") then below_up parts else part ∷ parts
+
+-- the parts lead up alone, or down alone, or first up and then down
+abbrev pub are_straight : (parts : List (List ℕ)) → Bool
+are_straight parts = list_all is_step (below_up parts)
+
+abbrev pub is_straight : (path : List ℕ) → Bool
+is_straight path = are_straight (parts_of path)
+
+-- The folder of a package as npm writes it, the shortest path from the root: `node_modules/a`, `w`, `../x`, and the empty
+-- path. It has at most 4,096 bytes, as a path of Linux.
+abbrev pub is_folder : (path : List ℕ) → Bool
+is_folder path = (length path == 0) || (nat_le (length path) 4096 && is_straight path)

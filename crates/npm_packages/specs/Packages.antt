@@ -1,10 +1,11 @@
 -- Where the name of a dependency is found: npm's "folders", "Cycles, Conflicts, and Folder Parsimony".
-use Rattle.std.specs.Prelude.{◌≡◌, ◌⊎◌, ℕ, List, Bool, true, false, if◌then◌else◌, Option, Some, None, option_map}
+use Rattle.std.specs.Prelude.{◌≡◌, ◌≢◌, ◌⊎◌, ℕ, List, [], Bool, true, false, if◌then◌else◌, Option, Some, None, option_map}
 use Rattle.std.specs.Prelude.{option_and_then, unwrap_or, codes, drop, nat_eq}
 use Rattle.std.specs.List.{starts_with}
 use Rattle.serde_json.specs.Data.{Data}
 use Rattle.serde_json.specs.Find.{as_bool, as_str, get}
 use Rattle.npm_packages.specs.Folders.{IsAbove, IsOutermost, is_modules, place_in}
+use Rattle.npm_packages.specs.LastParts.{IsEnd, IsPlain}
 
 -- a package, and the folder that it is in
 pub record Package : Type 0 where
@@ -14,6 +15,16 @@ pub record Package : Type 0 where
 -- the version of a package, as the lock file writes it
 abbrev pub version_of : (member : Data) → Option (List ℕ)
 version_of member = option_and_then as_str (get (codes "version") member)
+
+-- the name that the lock file writes for a package, as it does for an alias and for most workspaces
+abbrev pub said_name : (member : Data) → Option (List ℕ)
+said_name member = option_and_then as_str (get (codes "name") member)
+
+-- The package has this name: the lock file says so, or else its folder does: `a` of `packages/a`. An empty name counts as none.
+pub data IsNamed (named : Package) (name : List ℕ) : Type 0 where
+  said : said_name named.member ≡ Some name → name ≢ [] → IsNamed named name
+  placed : (said_name named.member ≡ None) ⊎ (said_name named.member ≡ Some []) → IsEnd named.folder name
+      → IsNamed named name
 
 -- a member with `"link": true`, which is no package of its own
 abbrev pub is_link : (member : Data) → Bool
@@ -36,13 +47,15 @@ package_at packages place = option_and_then
     (λ member. if is_link member then target_of packages member else Some (record { folder = place; member = member }))
     (get place packages)
 
--- the name is not found in the `node_modules` of this very folder
+-- The name is not found in the `node_modules` of this very folder. A package has the last part of its folder as its name,
+-- with the scope before it, so a name of other parts is found nowhere: `node_modules/x/y` is a package `y`.
 abbrev pub IsPassed : (packages : Data) → (name folder : List ℕ) → Type 0
 IsPassed packages name folder =
-    (is_modules folder ≡ true) ⊎ (package_at packages (place_in folder name) ≡ None)
+    ¬ IsPlain name ⊎ (is_modules folder ≡ true) ⊎ (package_at packages (place_in folder name) ≡ None)
 
 -- the name is found in the `node_modules` of this very folder
 pub record IsFoundIn (packages : Data) (name folder : List ℕ) (package_found : Package) : Type 0 where
+  pub plain : IsPlain name
   pub no_modules : is_modules folder ≡ false
   pub found : package_at packages (place_in folder name) ≡ Some package_found
 

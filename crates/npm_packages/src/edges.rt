@@ -111,7 +111,7 @@ fn add_package<'v>(
     let all = asked_of(lock.alloc, asker.member, is_installed)?;
     for (name, asked) in all.iter() {
         let changed = overridden(rules, asker.folder, *name, *asked);
-        edges.push(edge_of(lock, asker, index, outermost, *name, changed)?)?;
+        edges.push(edge_of(lock, asker, index, outermost, *name, changed))?;
     }
     Ok(())
 }
@@ -124,17 +124,17 @@ fn edge_of<'v>(
     outermost: &str,
     name: &'v str,
     asked: Asked<'v>,
-) -> Result<Edge<'v>>
+) -> Edge<'v>
     requires index { IsIndexOf (packages_data lock) index.now }
     requires outermost { IsOutermostFrom asker.folder.now outermost.now }
-    ensures { IfOk result (λ edge. (is_installed : Bool) (before : AskedValue)
+    ensures { (is_installed : Bool) (before : AskedValue)
         → asked_by (view asker.entry.member.now) is_installed name.now ≡ Some before
         → asked_value asked.entry ≡ Overrides.overridden (packages_data lock.entry) asker.entry.folder.now name.now before
         → IsEdge (packages_data lock.entry) asker.entry.folder.now (view asker.entry.member.now) is_installed
-        name.now (edge_value edge)) }
+        name.now (edge_value result) }
 {
-    let found = lock.find(index, asker.folder, outermost, name)?;
-    Ok(Edge {
+    let found = lock.find(index, asker.folder, outermost, name);
+    Edge {
         from: asker.folder,
         name,
         spec: asked.spec,
@@ -144,7 +144,7 @@ fn edge_of<'v>(
         is_overridden: asked.is_overridden,
         to: folder_of(&found),
         version: found_version(&found),
-    })
+    }
 }
 
 /// The folder of a package that is found.

@@ -7,6 +7,7 @@ ghost use Rattle.npm_packages.specs.PackageValue.{packages_data};
 ghost use Rattle.npm_packages.specs.Faults as Faults;
 
 use crate::Result;
+use crate::folder::is_folder;
 use crate::place::{Lock, is_link};
 use serde_json::Value;
 use std::alloc::Global;
@@ -21,6 +22,13 @@ pub enum Fault {
     /// `packages` is missing, or is no object.
     #[error("`packages` is no object")]
     Packages,
+    /// A package has a folder that npm does not write: a part is empty, `.` or after others `..`, or has a `\`, or the folder
+    /// has more than 4,096 bytes.
+    #[error("npm does not write the folder of a package so, or it has more than 4096 bytes")]
+    Folder,
+    /// `workspaces` of the root is no list of patterns, and no object with such a list as `packages`.
+    #[error("`workspaces` of the root is no list")]
+    Workspaces,
     /// A member of `packages` is no object.
     #[error("a member of `packages` is no object")]
     Package,
@@ -72,8 +80,8 @@ pub fn lock_of(alloc: Global, lock: &Value) -> Result<Lock<'_>, Fault>
     let packages = lock.get("packages").ok_or(Fault::Packages)?;
     let members = packages.as_object().ok_or(Fault::Packages)?;
     let lock = Lock { alloc, members };
-    for (_, member) in members.iter() {
-        check_member(lock, member)?;
+    for (folder, member) in members.iter() {
+        check_member(lock, folder.as_str(), member)?;
     }
     Ok(lock)
 }
@@ -93,9 +101,36 @@ fn is_format(number: f64) -> bool
     number == f64::from(2_u8) || number == f64::from(3_u8)
 }
 
-/// Fails if a member of `packages` has a fault. The target of a link is a package and no link.
-fn check_member(lock: Lock<'_>, member: &Value) -> Result<(), Fault>
-    ensures { result_err result ≡ Faults.member_fault (packages_data lock.entry) (view member.now) }
+/// Fails if a member of `packages` has a fault.
+fn check_member(lock: Lock<'_>, folder: &str, member: &Value) -> Result<(), Fault>
+    ensures { result_err result ≡ Faults.member_fault (packages_data lock.entry) folder.now (view member.now) }
+{
+    if !is_folder(folder) {
+        return Err(Fault::Folder);
+    }
+    if folder.is_empty() && !has_patterns(member) {
+        return Err(Fault::Workspaces);
+    }
+    check_entry(lock, member)
+}
+
+/// Returns `true` if `workspaces` of the root is a list of patterns, an object with such a list as `packages`, or absent. Does
+/// not allocate.
+pub fn has_patterns(root: &Value) -> bool
+    ensures { result ≡ Faults.has_patterns (view root.now) }
+{
+    root.get("workspaces").is_none_or(has_list)
+}
+
+fn has_list(said: &Value) -> bool
+    ensures { result ≡ Faults.has_list (view said.now) }
+{
+    said.is_array() || said.get("packages").is_some_and(Value::is_array)
+}
+
+/// Fails if a member of `packages` has a fault, whatever its folder. The target of a link is a package and no link.
+fn check_entry(lock: Lock<'_>, member: &Value) -> Result<(), Fault>
+    ensures { result_err result ≡ Faults.entry_fault (packages_data lock.entry) (view member.now) }
 {
     member.as_object().ok_or(Fault::Package)?;
     if !is_link(member) {

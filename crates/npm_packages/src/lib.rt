@@ -21,14 +21,14 @@ pub use asked::{Asked, Names, accepted_of, asked_of, is_optional_peer};
 pub use dependents::Dependents;
 pub use edges::{Edge, edges_of};
 pub use fault::{
-    CheckError, Fault, check_package, check_specs, has_format, has_text_version, link_fault,
-    lock_of,
+    CheckError, Fault, check_package, check_specs, has_format, has_patterns, has_text_version,
+    link_fault, lock_of,
 };
-pub use folder::is_installed;
+pub use folder::{is_folder, is_installed, place_size};
 pub use index::{Index, end_of};
 pub use linked::{linked_folders, members_of};
 pub use overrides::{Rule, Rules, overridden, rules_of};
-pub use place::{Lock, Package, is_link, linked_folder, place_text, version_of};
+pub use place::{Lock, Package, is_link, is_named, linked_folder, place_text, version_of};
 pub use search::outermost_of;
 
 /// The result of what fails by memory alone, if no other error is named.

@@ -1,22 +1,19 @@
 //! Where a name is found.
-ghost use Rattle.std.specs.Prelude.{◌≡◌, ◌↔◌, IfOk, IfSome, IsTrue, Some, option_map, string_bytes};
-ghost use Rattle.std.specs.Option.{MatchOption};
+ghost use Rattle.std.specs.Prelude.{◌≡◌, ◌≢◌, ◌⊎◌, ◌↔◌, [], IfOk, IfSome, IsTrue, Some, option_map, string_bytes};
 ghost use Rattle.serde_json.specs.Find.{get};
 ghost use Rattle.serde_json.specs.View.{view};
 ghost use Rattle.npm_packages.specs.Folders as Folders;
-ghost use Rattle.npm_packages.specs.Packages.{IsFound, IsFoundIn, IsPassed};
+ghost use Rattle.npm_packages.specs.Packages.{IsFound, IsFoundIn, IsNamed};
 ghost use Rattle.npm_packages.specs.Packages as Packages;
 ghost use Rattle.npm_packages.specs.Index.{IsIndexOf};
-ghost use Rattle.npm_packages.specs.LastParts.{IsPlain};
+ghost use Rattle.npm_packages.specs.LastParts.{IsEnd, IsPlain};
 ghost use Rattle.npm_packages.specs.PackageValue.{package_value, packages_data};
 ghost use Rattle.npm_packages.specs.Lookups.{IsOutermostFrom};
 ghost use Rattle.npm_packages.specs.Private.Search.{IsNearest};
 
 use crate::Result;
-use crate::folder::is_modules;
-use crate::index::{Hit, Index, is_plain};
+use crate::index::{Hit, Index, end_of, is_plain};
 use crate::places::nearest;
-use crate::search::above_of;
 use serde_json::{Map, Value};
 use std::alloc::Global;
 
@@ -39,17 +36,9 @@ pub struct Package<'v> {
 
 impl<'v> Lock<'v> {
     /// Finds a name in the `node_modules` of the package's folder, or else of the next folder above. Also returns `true`
-    /// if that is the `node_modules` of the folder itself. Returns `None` if the name is found nowhere. `index` is that of
-    /// this lock file, and `outermost` what `outermost_of` returns for the folder.
-    ///
-    /// # Errors
-    ///
-    /// An allocation failed.
-    ///
-    /// # Memory
-    ///
-    /// Does not allocate for a name of one part, or of a scope and a part, as npm's names are. For any other name it
-    /// allocates the text of each place at which it looks.
+    /// if that is the `node_modules` of the folder itself. Returns `None` if the name is found nowhere, as each that is not one
+    /// part, or a scope and a part. `index` is that of this lock file, and `outermost` what `outermost_of` returns for the
+    /// folder. Does not allocate.
     ///
     /// # Examples
     ///
@@ -65,20 +54,20 @@ impl<'v> Lock<'v> {
         from: &'v str,
         outermost: &str,
         name: &'v str,
-    ) -> Result<Option<(Package<'v>, bool)>>
+    ) -> Option<(Package<'v>, bool)>
         requires index { IsIndexOf (packages_data self) index.now }
         requires outermost { IsOutermostFrom from.now outermost.now }
-        ensures found { IfOk result (λ found. IsFound (packages_data self.entry) name.now from.now
-            (option_map (λ f. package_value f.0) found)) }
-        ensures own { IfOk result (λ found. IfSome found (λ f. IsTrue f.1
-            ↔ IsFoundIn (packages_data self.entry) name.now from.now (package_value f.0))) }
+        ensures found { IsFound (packages_data self.entry) name.now from.now
+            (option_map (λ f. package_value f.0) result) }
+        ensures own { IfSome result (λ f. IsTrue f.1
+            ↔ IsFoundIn (packages_data self.entry) name.now from.now (package_value f.0)) }
     {
         if !is_plain(name) {
-            return self.find_above(from, name);
+            return None;
         }
         match self.nearest(index, from, outermost, name) {
-            Some(hit) => Ok(Some((hit.found, hit.folder.len() == from.len()))),
-            None => Ok(None),
+            Some(hit) => Some((hit.found, hit.folder.len() == from.len())),
+            None => None,
         }
     }
 
@@ -101,37 +90,6 @@ impl<'v> Lock<'v> {
         } else {
             None
         }
-    }
-
-    /// The same for any name, folder by folder.
-    fn find_above(self, from: &str, name: &str) -> Result<Option<(Package<'v>, bool)>>
-        ensures found { IfOk result (λ found. IsFound (packages_data self.entry) name.now from.now
-            (option_map (λ f. package_value f.0) found)) }
-        ensures own { IfOk result (λ found. IfSome found (λ f. IsTrue f.1
-            ↔ IsFoundIn (packages_data self.entry) name.now from.now (package_value f.0))) }
-    {
-        let mut at = from;
-        'folders: loop {
-            if let Some(found) = self.find_in(at, name)? {
-                return Ok(Some((found, at.len() == from.len())));
-            }
-            let Some(above) = above_of(at) else {
-                return Ok(None);
-            };
-            at = above;
-        }
-    }
-
-    /// Finds a name in the `node_modules` of one folder.
-    fn find_in(self, folder: &str, name: &str) -> Result<Option<Package<'v>>>
-        ensures { IfOk result (λ found. MatchOption found (IsPassed (packages_data self.entry) name.now folder.now)
-            (λ found. IsFoundIn (packages_data self.entry) name.now folder.now (package_value found))) }
-    {
-        if is_modules(folder) {
-            return Ok(None);
-        }
-        let place = place_text(self.alloc, folder, name)?;
-        Ok(self.package_at(place.as_str()))
     }
 
     /// Returns the package at a place, which is the target if a link is there. Does not allocate.
@@ -200,6 +158,46 @@ pub fn version_of(member: &Value) -> Option<&str>
     ensures { option_map (λ version. version.now) result ≡ Packages.version_of (view member.now) }
 {
     member.get("version")?.as_str()
+}
+
+/// Returns `true` if this is the name of a package: the one that the lock file writes for it, or else that of its folder. Does not
+/// allocate.
+///
+/// # Examples
+///
+/// The package in `packages/a` is `a`, or `b` with `"name": "b"`.
+pub fn is_named(found: Package<'_>, name: &str) -> bool
+    ensures { IsTrue result ↔ IsNamed (package_value found.entry) name.now }
+{
+    name_of(found) == name
+}
+
+/// The name of a package.
+fn name_of<'v>(found: Package<'v>) -> &'v str
+    ensures { IsNamed (package_value found.entry) result.now }
+{
+    match said_name(found.member) {
+        Some(said) => said_or_placed(found.folder, said),
+        None => end_of(found.folder),
+    }
+}
+
+/// The name that is said, or that of the folder if it is empty.
+fn said_or_placed<'v>(folder: &'v str, said: &'v str) -> &'v str
+    ensures { ((result.now ≡ said.now) × (said.now ≢ [])) ⊎ ((said.now ≡ []) × IsEnd folder.now result.now) }
+{
+    if said.is_empty() {
+        end_of(folder)
+    } else {
+        said
+    }
+}
+
+/// The name that the lock file writes for a package.
+fn said_name(member: &Value) -> Option<&str>
+    ensures { option_map (λ name. name.now) result ≡ Packages.said_name (view member.now) }
+{
+    member.get("name")?.as_str()
 }
 
 /// Returns `true` if a member of `packages` is a link, and no package of its own.

@@ -3,7 +3,7 @@ use npm_texts::installed_version;
 use std::alloc::{AllocError, Global};
 
 // Source: `new SemVer(text, { loose: true })` of npm's package `semver` 7.6.2, with its build.
-const READ: [(&str, &str); 17] = [
+const READ: [(&str, &str); 19] = [
     ("1.2.3", "1.2.3"),
     ("=4.17.11", "4.17.11"),
     (" 1.0.0 ", "1.0.0"),
@@ -13,6 +13,8 @@ const READ: [(&str, &str); 17] = [
     ("\u{b}1.2.3\u{c}", "1.2.3"),
     ("\u{a0}1.2.3\u{2003}", "1.2.3"),
     ("\u{feff}v\u{2028}1.2.3", "1.2.3"),
+    ("\u{2029}v\u{2029}=1.2.3\u{2029}", "1.2.3"),
+    ("\u{202f}\u{205f}1.2.3\u{1680}", "1.2.3"),
     ("01.02.03", "1.2.3"),
     ("1.2.3beta", "1.2.3-beta"),
     ("1.2.3-01+b", "1.2.3-1+b"),

@@ -1,8 +1,8 @@
 //! Tests of where a name is found, for a caller that goes over the packages itself.
 use crate::rows::text;
 use npm_packages::{
-    Fault, Index, is_installed, is_link, linked_folder, lock_of, members_of, outermost_of,
-    place_text,
+    Fault, Index, Package, is_folder, is_installed, is_link, is_named, linked_folder, lock_of,
+    members_of, outermost_of, place_size, place_text,
 };
 use serde_json::Value;
 use std::test::Fail;
@@ -13,8 +13,9 @@ const LOCK: &str =
     "node_modules/w": {"link": true, "resolved": "./w"}, "node_modules/c/d": {}, "w": {}, "../x": {}}}"#;
 
 // A lock file, and rows: a folder, a name, the folder of the package that is found, if one is, and whether it is in the folder's
-// own `node_modules`. For a link the package that it names is found; a name that no registry has is found too; nothing is looked
-// up in the root from a folder outside of it. npm: "folders", "Cycles, Conflicts, and Folder Parsimony".
+// own `node_modules`. For a link the package that it names is found; a name that is not the last part of a folder, with the scope before
+// it, is found nowhere; nothing is looked up in the root from a folder outside of it. npm: "folders", "Cycles, Conflicts, and Folder
+// Parsimony".
 const TEXT: &str =
     r#"{"lock": {"lockfileVersion": 3, "packages": {"": {}, "node_modules/a": {"version": "1.0.0"},
     "node_modules/a/node_modules/b": {"version": "2.0.0"}, "node_modules/b": {"version": "1.0.0"},
@@ -26,7 +27,9 @@ const TEXT: &str =
         {"from": "node_modules/b", "name": "b", "found": "node_modules/b", "own": false},
         {"from": "w", "name": "b", "found": "node_modules/b", "own": false},
         {"from": "", "name": "w", "found": "w", "own": true},
-        {"from": "", "name": "c/d", "found": "node_modules/c/d", "own": true},
+        {"from": "", "name": "c/d"},
+        {"from": "node_modules/c", "name": "c/d"},
+        {"from": "", "name": "d"},
         {"from": "", "name": "e"},
         {"from": "../x", "name": "a"}]}"#;
 
@@ -58,7 +61,7 @@ const MANY: &str =
 
 #[test]
 fn finds_names_from_folders(rt: HostRuntime) -> Result<(), Fail> {
-    for (table, count) in [(TEXT, 9), (MANY, 13)] {
+    for (table, count) in [(TEXT, 11), (MANY, 13)] {
         let alloc = rt.alloc();
         let value = Value::from_str(alloc, table)?;
         let lock = lock_of(alloc, value.get("lock").ok_or("no lock")?)?;
@@ -70,7 +73,7 @@ fn finds_names_from_folders(rt: HostRuntime) -> Result<(), Fail> {
         assert!(rt; rows.len() == count);
         for row in rows {
             let from = text(row, "from");
-            match lock.find(&index, from, outermost_of(from), text(row, "name"))? {
+            match lock.find(&index, from, outermost_of(from), text(row, "name")) {
                 Some((found, is_own)) => {
                     assert!(rt;
                         row.get("found").and_then(Value::as_str) == Some(found.folder),
@@ -121,7 +124,7 @@ fn finds_what_is_at_a_place(rt: HostRuntime) -> Result<(), Fail> {
 }
 
 // A lock file, and its fault.
-const REFUSED: [(&str, Fault); 6] = [
+const REFUSED: [(&str, Fault); 12] = [
     ("[]", Fault::Version),
     (r#"{"lockfileVersion": 3}"#, Fault::Packages),
     (
@@ -140,6 +143,30 @@ const REFUSED: [(&str, Fault); 6] = [
         r#"{"lockfileVersion": 3, "packages": {"": {"dependencies": {"a": 1}}}}"#,
         Fault::Spec,
     ),
+    (
+        r#"{"lockfileVersion": 3, "packages": {"node_modules/a/": 1}}"#,
+        Fault::Folder,
+    ),
+    (
+        r#"{"lockfileVersion": 3, "packages": {"": {"workspaces": "w"}}}"#,
+        Fault::Workspaces,
+    ),
+    (
+        r#"{"lockfileVersion": 3, "packages": {"": {"workspaces": null}}}"#,
+        Fault::Workspaces,
+    ),
+    (
+        r#"{"lockfileVersion": 3, "packages": {"": {"workspaces": {}}}}"#,
+        Fault::Workspaces,
+    ),
+    (
+        r#"{"lockfileVersion": 3, "packages": {"": {"workspaces": {"packages": "w"}}}}"#,
+        Fault::Workspaces,
+    ),
+    (
+        r#"{"lockfileVersion": 3, "packages": {"": [], "a": {"workspaces": "w"}}}"#,
+        Fault::Package,
+    ),
 ];
 
 #[test]
@@ -150,6 +177,103 @@ fn refuses_what_has_a_fault(rt: HostRuntime) -> Result<(), Fail> {
         match lock_of(alloc, &value) {
             Ok(_) => assert!(rt; false, "{text}"),
             Err(found) => assert!(rt; found == fault, "{text}"),
+        }
+    }
+    Ok(())
+}
+
+// Folders, and texts that npm's `path.resolve` makes another path of, or finds in another place than they say.
+const RIGHT: [&str; 13] = [
+    "",
+    "a",
+    "node_modules/a",
+    "node_modules/@s/a/node_modules/b",
+    "packages/a b",
+    "..",
+    "../..",
+    "../../a",
+    "../node_modules/a",
+    "...",
+    "..a/.b/a.",
+    "C:/a",
+    "node_modules/c/d",
+];
+
+const WRONG: [&str; 14] = [
+    "node_modules/a/",
+    "node_modules/a/.",
+    "node_modules/a/..",
+    "./a",
+    ".",
+    "/",
+    "/a",
+    "node_modules//a",
+    "a/../node_modules/b",
+    "../a/../b",
+    ".././a",
+    "../",
+    "node_modules\\a",
+    "a/\\",
+];
+
+#[test]
+fn reads_folders_as_npm_writes_them(rt: HostRuntime) -> Result<(), Fail> {
+    for path in RIGHT {
+        assert!(rt; is_folder(path), "{path}");
+    }
+    for path in WRONG {
+        assert!(rt; !is_folder(path), "{path}");
+    }
+    // 4,096 bytes, and one more.
+    for (count, is_right) in [(4093, true), (4094, false)] {
+        let path = format!(in rt.alloc(); "a/{}b", "c".repeat(rt.alloc(), count)?)?;
+        assert!(rt; is_folder(path.as_str()) == is_right);
+    }
+    Ok(())
+}
+
+// The length of a folder, a name, and the length of the folder of a package of this name in its `node_modules`.
+const SIZES: [(usize, &str, Option<usize>); 9] = [
+    (0, "a", Some(14)),
+    (14, "@s/a", Some(32)),
+    (4000, "a", Some(4015)),
+    (4081, "a", Some(4096)),
+    (4082, "a", None),
+    (4097, "a", None),
+    (0, "", None),
+    (0, "a/..", None),
+    (0, "..", None),
+];
+
+#[test]
+fn returns_the_size_of_a_place(rt: HostRuntime) {
+    for (size, name, wanted) in SIZES {
+        assert!(rt; place_size(size, name) == wanted, "{size} {name}");
+    }
+}
+
+// A folder, what the lock file writes as its `name`, and the name of the package.
+const NAMES: [(&str, &str, &str); 7] = [
+    ("packages/a", "{}", "a"),
+    ("packages/a", r#"{"name": "b"}"#, "b"),
+    ("packages/a", r#"{"name": ""}"#, "a"),
+    ("packages/a", r#"{"name": 1}"#, "a"),
+    ("packages/@s/a", "{}", "@s/a"),
+    ("a", "{}", "a"),
+    ("../x", r#"{"name": null}"#, "x"),
+];
+
+#[test]
+fn knows_the_name_of_a_package(rt: HostRuntime) -> Result<(), Fail> {
+    for (folder, text, name) in NAMES {
+        let member = Value::from_str(rt.alloc(), text)?;
+        let package = Package {
+            folder,
+            member: &member,
+        };
+        assert!(rt; is_named(package, name), "{folder} {text}");
+        for other in ["", "c", "packages/a", "/a"] {
+            assert!(rt; !is_named(package, other), "{folder} {text} {other}");
         }
     }
     Ok(())

@@ -10,7 +10,7 @@ use Rattle.semver_cuts.specs.SpanLists.{AnyByRecursion}
 use Rattle.serde_json.specs.Data.{Data}
 use Rattle.node_semver.specs.Versions.{VersionValue, version_cmp}
 use Rattle.npm_texts.specs.InstalledVersions.{IsInstalledVersion}
-use Rattle.npm_texts.specs.RangeText.{filled}
+use Rattle.npm_texts.specs.RangeText.{filled, is_plain}
 use Rattle.npm_texts.specs.Admission.{Admits, of_dependencies}
 use Rattle.npm_pick_ranks.specs.Packument.{Release, candidates_of, is_restricted}
 use Rattle.npm_pick.specs.Pick.{IsNoVersion, IsPicked, PickedValue}
@@ -30,9 +30,13 @@ pub data ArePicked (packument : Data) (options : Options) : (texts keys : List (
       → IsPicked packument options (filled text) (Err error) → ArePicked packument options texts keys
       → ArePicked packument options (text ∷ texts) keys
 
+-- the text is a range that admits the version, and no location and no alias
+abbrev pub IsInText : (text : List ℕ) → VersionValue → Type 0
+IsInText text v = (is_plain text ≡ true) × Admits of_dependencies text v
+
 -- the version is in the range of one of the texts; a text that is no range admits none
 abbrev pub IsInSome : (texts : List (List ℕ)) → VersionValue → Type 0
-IsInSome texts v = AnyByRecursion (λ (text : List ℕ). Admits of_dependencies (filled text) v) texts
+IsInSome texts v = AnyByRecursion (λ (text : List ℕ). IsInText (filled text) v) texts
 
 -- the key is a version of one of the ranges, it is in time, and no policy restricts it
 pub record IsAdmitted (packument : Data) (options : Options) (texts : List (List ℕ)) (key : List ℕ) : Type 0 where

@@ -1,12 +1,13 @@
 -- Which version of a document is picked, or why none is: npm's "npm-pick-manifest", "Algorithm".
 use Rattle.std.specs.Prelude.{◌≡◌, ◌↔◌, ◌⊎◌, ◌++◌, ℕ, List, Bool, true, false, Option, Some, None, Result, Ok, Err}
 use Rattle.std.specs.Prelude.{IsTrue, bytes_eq, codes, if◌then◌else◌, option_map}
-use Rattle.std.specs.List.{AllByRecursion}
+use Rattle.std.specs.List.{AllByRecursion, list_all}
 use Rattle.serde_json.specs.Data.{Data}
 use Rattle.serde_json.specs.View.{view}
 use Rattle.node_semver.specs.Versions.{VersionValue, version_text, without_build}
 use Rattle.npm_texts.specs.InstalledVersions.{IsInstalledVersion}
-use Rattle.npm_texts.specs.RangeText.{is_tag}
+use Rattle.npm_texts.specs.RangeText.{is_plain, is_tag_byte}
+use Rattle.npm_texts.specs.WhiteSpace.{trimmed}
 use Rattle.npm_texts.specs.Admission.{Admits, IsNoRange, of_dependencies}
 use Rattle.npm_pick_ranks.specs.Packument.{Release, candidate_of, candidates_of, is_restricted, is_staged, manifest_of, tagged}
 use Rattle.npm_pick_ranks.specs.Rank.{FitsEngines, HasNone, IsAvoided, IsBest, Rank, is_deprecated}
@@ -123,6 +124,11 @@ pub data IsPickedIn (packument : Data) (options : Options) (range : List ℕ) : 
 abbrev pub IsNoVersion : (text : List ℕ) → Type 0
 IsNoVersion text = (v : VersionValue) → ¬ IsInstalledVersion text v
 
+-- a text that may be a tag: `latest`, `next-11`. White space around it does not count, though a document has a tag by the
+-- whole text.
+abbrev pub is_tag : (text : List ℕ) → Bool
+is_tag text = list_all is_tag_byte (trimmed text)
+
 -- the range of a version and of all below it: `<=1.2.3`
 abbrev pub up_to : (key : List ℕ) → List ℕ
 up_to key = codes "<=" ++ key
@@ -143,18 +149,25 @@ pub data IsPickedByTag (packument : Data) (options : Options) (tag : List ℕ) :
 
 -- The version that is picked for a version, a range or a tag. For a version its key has no build: for `=v1.2.3+a` it is
 -- `1.2.3`.
+pub data IsPickedByText (packument : Data) (options : Options) (wanted : List ℕ)
+    : Result PickedValue PickError → Type 0 where
+  version : (v : VersionValue) (answer : Result PickedValue PickError) → IsInstalledVersion wanted v
+      → IsPickedAt packument options (version_text (without_build v)) answer
+      → IsPickedByText packument options wanted answer
+  range : (answer : Result PickedValue PickError) → IsNoVersion wanted → ¬ IsNoRange of_dependencies wanted
+      → IsPickedIn packument options wanted answer → IsPickedByText packument options wanted answer
+  tag : (answer : Result PickedValue PickError) → IsNoVersion wanted → IsNoRange of_dependencies wanted
+      → is_tag wanted ≡ true → IsPickedByTag packument options wanted answer
+      → IsPickedByText packument options wanted answer
+  refused : IsNoVersion wanted → IsNoRange of_dependencies wanted → is_tag wanted ≡ false
+      → IsPickedByText packument options wanted (Err Errors.Wanted)
+
+-- The same of any text. A location and an alias, as `1.0.0 || a.tgz` and `npm:a@1`, are refused.
 pub data IsPickedFor (packument : Data) (options : Options) (wanted : List ℕ) : Result PickedValue PickError → Type 0
   where
-    version : (v : VersionValue) (answer : Result PickedValue PickError) → IsInstalledVersion wanted v
-        → IsPickedAt packument options (version_text (without_build v)) answer
-        → IsPickedFor packument options wanted answer
-    range : (answer : Result PickedValue PickError) → IsNoVersion wanted → ¬ IsNoRange of_dependencies wanted
-        → IsPickedIn packument options wanted answer → IsPickedFor packument options wanted answer
-    tag : (answer : Result PickedValue PickError) → IsNoVersion wanted → IsNoRange of_dependencies wanted
-        → is_tag wanted ≡ true → IsPickedByTag packument options wanted answer
-        → IsPickedFor packument options wanted answer
-    refused : IsNoVersion wanted → IsNoRange of_dependencies wanted → is_tag wanted ≡ false
-        → IsPickedFor packument options wanted (Err Errors.Wanted)
+    by_text : (answer : Result PickedValue PickError) → is_plain wanted ≡ true
+        → IsPickedByText packument options wanted answer → IsPickedFor packument options wanted answer
+    elsewhere : is_plain wanted ≡ false → IsPickedFor packument options wanted (Err Errors.Wanted)
 
 -- ---- in place of a version to avoid
 

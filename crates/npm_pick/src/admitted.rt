@@ -4,8 +4,7 @@ ghost use Rattle.serde_json.specs.View.{members_view, view};
 ghost use Rattle.node_semver.specs.Versions.{VersionValue};
 ghost use Rattle.npm_texts.specs.InstalledVersions.{IsInstalledVersion};
 ghost use Rattle.npm_texts.specs.RangeText as RangeText;
-ghost use Rattle.npm_texts.specs.Admission.{Admits, of_dependencies};
-ghost use Rattle.npm_pick.specs.Kept.{IsInSome};
+ghost use Rattle.npm_pick.specs.Kept.{IsInSome, IsInText};
 ghost use Rattle.npm_pick_ranks.specs.Packument.{candidates_of, releases_among, releases_in};
 ghost use Rattle.npm_pick.specs.Private.Keeping.{AreAdded, IsInOne, IsSatisfied, IsWithin, key_value};
 
@@ -13,7 +12,7 @@ use crate::Result;
 use crate::key::Key;
 use node_semver::{Range, VersionRef};
 use npm_pick_ranks::{Options, is_published, is_restricted, restricted_of, staged_of, versions_of};
-use npm_texts::{OF_DEPENDENCIES, filled, installed_version, range_of};
+use npm_texts::{OF_DEPENDENCIES, filled, installed_version, is_plain, range_of};
 use serde_json::{Map, Value};
 use std::alloc::Global;
 
@@ -39,10 +38,20 @@ pub(crate) fn ranges_of(alloc: Global, wanted: &[String]) -> Result<Vec<Option<R
 
 /// The range of a text, or `None` if it is none.
 fn wanted_range(alloc: Global, text: &str) -> Result<Option<Range>>
-    ensures { IfOk result (λ range. (v : VersionValue) → IsSatisfied range v
-        ↔ Admits of_dependencies (RangeText.filled text.now) v) }
+    ensures { IfOk result (λ range. (v : VersionValue) → IsSatisfied range v ↔ IsInText (RangeText.filled text.now) v) }
 {
-    range_of(alloc, filled(text), OF_DEPENDENCIES)
+    plain_range(alloc, filled(text))
+}
+
+/// The same of a text that is not empty. A location and an alias are no range.
+fn plain_range(alloc: Global, text: &str) -> Result<Option<Range>>
+    ensures { IfOk result (λ range. (v : VersionValue) → IsSatisfied range v ↔ IsInText text.now v) }
+{
+    if is_plain(text) {
+        range_of(alloc, text, OF_DEPENDENCIES)
+    } else {
+        Ok(None)
+    }
 }
 
 impl<'v, 'o> Admitting<'v, 'o> {

@@ -19,7 +19,7 @@ use std::alloc::{AllocError, Global};
 ///
 /// These are the versions that [`pick`] picks for the texts. With `all` they are also the versions in the range of one of
 /// the texts that were published in time and that no policy restricts. A text for which none is picked adds none, and so does
-/// one that is no range with `all`.
+/// one that is no range with `all`, as a URL or an alias.
 ///
 /// The keys are in the order of their versions. Equal versions are in the order of their bytes, and keys that are no
 /// versions, which only a tag can name, come first. No key is there twice.

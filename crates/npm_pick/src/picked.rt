@@ -4,14 +4,16 @@ ghost use Rattle.serde_json.specs.View.{view};
 ghost use Rattle.node_semver.specs.Versions.{version_text, without_build};
 ghost use Rattle.npm_texts.specs.RangeText as RangeText;
 ghost use Rattle.npm_pick.specs.Pick as Picks;
-ghost use Rattle.npm_pick.specs.Pick.{IsAnswer, IsChosen, IsPicked, IsPickedAt, IsPickedByTag, IsPickedFor, answer_value};
+ghost use Rattle.npm_pick.specs.Pick.{IsAnswer, IsChosen, IsPicked, IsPickedAt, IsPickedByTag, IsPickedByText, IsPickedFor, answer_value};
 
 use crate::error::PickError;
 use crate::ranged::{pick_at, pick_in};
 use crate::strict::pick_strictly;
 use node_semver::VersionRef;
 use npm_pick_ranks::{Options, is_published, is_restricted, tagged};
-use npm_texts::{OF_DEPENDENCIES, filled, installed_version, is_tag, range_of};
+use npm_texts::{
+    OF_DEPENDENCIES, are_tag_bytes, filled, installed_version, is_plain, range_of, trimmed,
+};
 use serde_json::Value;
 use std::alloc::{AllocError, Global};
 
@@ -22,7 +24,8 @@ pub struct Picked<'v> {
     pub key: &'v str,
     /// Its value in `versions`, or else in `stagedVersions`.
     pub manifest: &'v Value,
-    /// It is in the range of the versions to avoid, and no other version was left. npm: `_shouldAvoid`.
+    /// It is in the range of the versions to avoid. For a range no other version was left; for a version or a tag none was looked
+    /// for. npm: `_shouldAvoid`.
     pub is_avoided: bool,
     /// With `avoid_strict`: it was picked in place of a version to avoid. npm: `_outsideDependencyRange`.
     pub is_outside: bool,
@@ -35,8 +38,8 @@ pub struct Picked<'v> {
 /// For a range it picks the version of the default tag, if that is in the range and in time, not to be avoided, not
 /// restricted, not staged, not deprecated, and fits the versions of Node and npm. Else it picks the version with the highest
 /// rank. These count, the first most: not to be avoided; not to be restricted; not to be staged; not to be deprecated and to
-/// fit; to fit; not to be deprecated; the order of versions. So a deprecated version is picked if no other version is in
-/// the range.
+/// fit; to fit; not to be deprecated; the order of versions. So a deprecated version that fits is picked before one that does
+/// not fit.
 ///
 /// For a version or a tag only that version will do. If the version of a tag was published after `before`, the highest
 /// version at or below it is picked. The empty text is `*`.
@@ -46,7 +49,8 @@ pub struct Picked<'v> {
 ///
 /// # Errors
 ///
-/// - `foo bar`: `Wanted`, it is no version, no range and no tag.
+/// - `foo bar`: `Wanted`, it is no version, no range and no tag. So are an alias, as `npm:a@1`, and a URL, a repository, a file or
+///   a folder, as `1.0.0 || a.tgz`.
 /// - `next`: `NoTag`, there is no such tag.
 /// - `1.2.3`: `NoVersion`, there is no such version, or it was published after `before`.
 /// - `^9`: `NoneInRange`, or `NoVersions` if no version at all was published in time.
@@ -98,7 +102,7 @@ fn pick_chosen<'v>(
     }
 }
 
-/// Picks for a text that is a version, a range or a tag.
+/// Picks for a text that should be a version, a range or a tag.
 pub(crate) fn pick_for<'v>(
     alloc: Global,
     packument: &'v Value,
@@ -106,6 +110,22 @@ pub(crate) fn pick_for<'v>(
     options: &Options<'_>,
 ) -> Result<Picked<'v>, PickError>
     ensures { IsAnswer (IsPickedFor (view packument.now) options.now wanted.now) (answer_value result) }
+{
+    if is_plain(wanted) {
+        pick_by_text(alloc, packument, wanted, options)
+    } else {
+        Err(PickError::Wanted)
+    }
+}
+
+/// Picks for a text that is neither a location nor an alias.
+fn pick_by_text<'v>(
+    alloc: Global,
+    packument: &'v Value,
+    wanted: &str,
+    options: &Options<'_>,
+) -> Result<Picked<'v>, PickError>
+    ensures { IsAnswer (IsPickedByText (view packument.now) options.now wanted.now) (answer_value result) }
 {
     if let Some(version) = installed_version(wanted) {
         return pick_version(alloc, packument, &version, options);
@@ -115,6 +135,13 @@ pub(crate) fn pick_for<'v>(
         None if is_tag(wanted) => pick_by_tag(alloc, packument, wanted, options),
         None => Err(PickError::Wanted),
     }
+}
+
+/// Returns `true` if the text can be a tag. White space around it does not count.
+fn is_tag(text: &str) -> bool
+    ensures { result ≡ Picks.is_tag text.now }
+{
+    are_tag_bytes(trimmed(text))
 }
 
 /// Picks a version.

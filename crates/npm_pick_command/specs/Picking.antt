@@ -1,10 +1,14 @@
 -- The options of a pick, by the arguments.
-use Rattle.std.specs.Prelude.{◌≡◌, ℕ, ℤ, IsSome, List, Option, Some, None, codes, option_map, string_bytes, unwrap_or}
+use Rattle.std.specs.Prelude.{◌≡◌, ◌⊎◌, ℕ, ℤ, IsSome, List, Option, Some, None, codes, option_map, string_bytes, unwrap_or}
 use Rattle.node_semver.specs.Versions.{IsVersionText, VersionValue}
 use Rattle.npm_pick.specs.PickOptions.{Options}
-use Rattle.npm_pick_command.specs.Arguments.{ArgumentsValue}
+use Rattle.npm_pick_reports.specs.Failures.{Memory}
+use Rattle.npm_pick_command.specs.Arguments.{ArgumentErrorValue, ArgumentsValue, argument_error_value, no_node_version}
+use Rattle.npm_pick_command.specs.Arguments.{no_npm_version, no_time}
 use Rattle.npm_pick_command.specs.Given.{IsVersionGiven, time_given}
 use Rattle.npm_pick_command.specs.declared.picking.Values.{Values}
+use Rattle.npm_pick_command.specs.declared.program_error.ProgramError.{ProgramError}
+use Rattle.npm_pick_command.specs.declared.program_error.ProgramError.TheVariants as Errors
 
 -- the time of a text, if there is a text
 abbrev pub IsTime : (text : Option (List ℕ)) → Option ℤ → Type 0
@@ -24,6 +28,30 @@ IsVersionOf (Some whole) version = (v : VersionValue) → IsVersionText whole v 
 -- the version that a text names, if there is a text
 abbrev pub IsNamed : (text : Option (List ℕ)) → Option VersionValue → Type 0
 IsNamed text version = (whole : Option (List ℕ)) × IsWhole text whole × IsVersionOf whole version
+
+-- the text is no time, and is told
+abbrev pub IsTimeFault : (text : Option (List ℕ)) → ArgumentErrorValue → Type 0
+IsTimeFault text fault = (t : List ℕ) × (text ≡ Some t) × (time_given t ≡ None) × (fault ≡ no_time t)
+
+-- the text is no version of Node
+abbrev pub IsNodeFault : (text : Option (List ℕ)) → ArgumentErrorValue → Type 0
+IsNodeFault text fault = (t : List ℕ) × (text ≡ Some t) × IsVersionGiven t None × (fault ≡ no_node_version t)
+
+-- the text is no version of npm
+abbrev pub IsNpmFault : (text : Option (List ℕ)) → ArgumentErrorValue → Type 0
+IsNpmFault text fault = (t : List ℕ) × (text ≡ Some t) × IsVersionGiven t None × (fault ≡ no_npm_version t)
+
+-- one of the texts of these arguments names nothing
+abbrev pub IsValueFault : ArgumentsValue → ArgumentErrorValue → Type 0
+IsValueFault asked fault = IsTimeFault asked.before fault ⊎ IsNodeFault asked.node fault ⊎ IsNpmFault asked.npm fault
+
+-- the arguments have such a fault, or an allocation failed
+abbrev pub IsFailureFor : (IsFault : ArgumentErrorValue → Type 0) → ProgramError → Type 0
+IsFailureFor IsFault (Errors.Argument error) = IsFault (argument_error_value error)
+IsFailureFor IsFault (Errors.Run error) = error ≡ Memory
+IsFailureFor IsFault (Errors.Words error) = ⊥
+IsFailureFor IsFault (Errors.File option path error) = ⊥
+IsFailureFor IsFault (Errors.Manifest path fault) = ⊥
 
 -- the times and versions of these arguments
 pub record AreValues (asked : ArgumentsValue) (values : Values) : Type 0 where

@@ -1,9 +1,9 @@
 //! The options of a pick, by the arguments.
-ghost use Rattle.std.specs.Prelude.{◌≡◌, IfOk, Some, string_bytes, option_map};
+ghost use Rattle.std.specs.Prelude.{◌≡◌, IfErr, IfOk, Some, string_bytes, option_map};
 ghost use Rattle.node_semver.specs.Versions.{IsVersionText, VersionValue};
 ghost use Rattle.npm_pick_command.specs.Arguments.{arguments_value};
 ghost use Rattle.npm_pick_command.specs.Picking as Picking;
-ghost use Rattle.npm_pick_command.specs.Picking.{AreOptions, AreValues};
+ghost use Rattle.npm_pick_command.specs.Picking.{AreOptions, AreValues, IsFailureFor, IsValueFault};
 
 use crate::argument_error::ArgumentError;
 use crate::arguments::Arguments;
@@ -25,9 +25,10 @@ pub struct Values {
 }
 
 impl Values {
-    /// Reads the times and versions that the arguments name.
+    /// Reads the times and versions that the arguments name. It fails if a text names none, or if an allocation fails.
     pub fn of_arguments<'a>(alloc: Global, asked: Arguments<'a>) -> Result<Values, ProgramError<'a>>
-        ensures { IfOk result (AreValues (arguments_value asked.entry)) }
+        ensures read { IfOk result (AreValues (arguments_value asked.entry)) }
+        ensures failed { IfErr result (IsFailureFor (IsValueFault (arguments_value asked.entry))) }
     {
         Ok(Values {
             before: before_of(alloc, asked.before)?,
@@ -55,7 +56,8 @@ impl Values {
 
 /// The time of `--before`.
 fn before_of<'a>(alloc: Global, text: Option<&'a str>) -> Result<Option<i128>, ProgramError<'a>>
-    ensures { IfOk result (Picking.IsTime (option_map (λ text. text.now) text.entry)) }
+    ensures read { IfOk result (Picking.IsTime (option_map (λ text. text.now) text.entry)) }
+    ensures failed { IfErr result (IsFailureFor (Picking.IsTimeFault (option_map (λ text. text.now) text.entry))) }
 {
     let Some(text) = text else {
         return Ok(None);
@@ -69,28 +71,30 @@ fn before_of<'a>(alloc: Global, text: Option<&'a str>) -> Result<Option<i128>, P
 
 /// The version of `--node`.
 fn node_of<'a>(alloc: Global, text: Option<&'a str>) -> Result<Option<String>, ProgramError<'a>>
-    ensures { IfOk result (λ whole. Picking.IsWhole (option_map (λ text. text.now) text.entry)
+    ensures read { IfOk result (λ whole. Picking.IsWhole (option_map (λ text. text.now) text.entry)
         (option_map string_bytes whole)) }
+    ensures failed { IfErr result (IsFailureFor (Picking.IsNodeFault (option_map (λ text. text.now) text.entry))) }
 {
     let Some(text) = text else {
         return Ok(None);
     };
     match version_given(alloc, text)? {
-        Some(whole) => Ok(Some(whole)),
+        Some(node) => Ok(Some(node)),
         None => Err(ProgramError::Argument(ArgumentError::NodeVersion(Quoted { text }))),
     }
 }
 
 /// The version of `--npm`.
 fn npm_of<'a>(alloc: Global, text: Option<&'a str>) -> Result<Option<String>, ProgramError<'a>>
-    ensures { IfOk result (λ whole. Picking.IsWhole (option_map (λ text. text.now) text.entry)
+    ensures read { IfOk result (λ whole. Picking.IsWhole (option_map (λ text. text.now) text.entry)
         (option_map string_bytes whole)) }
+    ensures failed { IfErr result (IsFailureFor (Picking.IsNpmFault (option_map (λ text. text.now) text.entry))) }
 {
     let Some(text) = text else {
         return Ok(None);
     };
     match version_given(alloc, text)? {
-        Some(whole) => Ok(Some(whole)),
+        Some(npm) => Ok(Some(npm)),
         None => Err(ProgramError::Argument(ArgumentError::NpmVersion(Quoted { text }))),
     }
 }

@@ -9,9 +9,13 @@ use Rattle.npm_pick_errors.specs.declared.run_error.RunError.TheVariants.{Load, 
 abbrev pub Loads : Type 1
 Loads = (name : List ℕ) → Result (Option Value) LoadError → Type 0
 
--- a document was not loaded, or an allocation failed
-abbrev pub IsLoadFailure : Loads → RunError → Type 0
-IsLoadFailure Gives Memory = Unit {0}
-IsLoadFailure Gives (Load error) = (name : List ℕ) × Gives name (Err error)
-IsLoadFailure Gives Write = ⊥
-IsLoadFailure Gives (NoLock fault) = ⊥
+-- the packages whose documents are needed, by their names
+abbrev pub Needed : Type 1
+Needed = (name : List ℕ) → Type 0
+
+-- the document of a package that is needed was not loaded, or an allocation failed
+abbrev pub IsLoadFailure : Needed → Loads → RunError → Type 0
+IsLoadFailure IsNeeded Gives Memory = Unit {0}
+IsLoadFailure IsNeeded Gives (Load error) = (name : List ℕ) × IsNeeded name × Gives name (Err error)
+IsLoadFailure IsNeeded Gives Write = ⊥
+IsLoadFailure IsNeeded Gives (NoLock fault) = ⊥

@@ -1,9 +1,9 @@
 -- Packages of a mirror, and dependencies of a lock file, one after another.
-use Rattle.std.proofs.Common.{◌≡◌, ◌∙◌, ◌↔◌, Bor, Err, IsTrue, None, Ok, OnOk, Option, Result, Some, false, not, true, ℕ, ◌+◌, ◌<◌, List, [], ◌∷◌, ◌++◌, Bool, ap, append-nil, codes, drop, get_or, length, map, option_map, refl, string_bytes, subst, sym}
+use Rattle.std.proofs.Common.{◌≡◌, ◌∙◌, ◌↔◌, Bor, Err, Global, IfErr, IsErrAnd, IsTrue, String, arith, None, Ok, OnOk, Option, Result, Some, false, not, true, ℕ, ◌+◌, ◌<◌, List, [], ◌∷◌, ◌++◌, Bool, ap, append-nil, codes, drop, get_or, length, map, option_map, refl, string_bytes, subst, sym}
 use Rattle.std.specs.Prelude.{is_some}
-use Rattle.std.proofs.lemmas.List.{drop_more, map-append}
+use Rattle.std.proofs.lemmas.List.{drop_more, get_or-map, length-map, map-append}
 use Rattle.std.proofs.lemmas.List.Concat.{flat_map-append}
-use Rattle.std.proofs.lemmas.List.Elements.{All-push}
+use Rattle.std.proofs.lemmas.List.Elements.{All-push, Contains-get_or}
 use Rattle.std.specs.List.{Contains, flat_map}
 use Rattle.serde_json.specs.Data.{Data, array, string}
 use Rattle.serde_json.specs.View.{items_of, view}
@@ -16,14 +16,16 @@ use Rattle.npm_pick.specs.PickOptions.{Options}
 use Rattle.npm_texts.specs.RegistrySpec.{RegistrySpecValue, registry_spec, registry_spec_value}
 use Rattle.npm_texts.specs.declared.registry.RegistrySpec.{RegistrySpec}
 use Rattle.npm_pick_mirrors.specs.Asks.{AreEdgeAsks, AreEdgesAsks, AskValue, ask_value}
-use Rattle.npm_pick_errors.specs.Loading.{Loads}
-use Rattle.npm_pick_mirrors.specs.Mirror.{AreTextsOf, kept_text, IsPackage, PackageValue, absent, absent_of, kept, kept_of, texts_for}
+use Rattle.npm_pick_errors.specs.Loading.{IsLoadFailure, Loads}
+use Rattle.npm_pick_mirrors.specs.Mirror.{AreTextsOf, IsNeededFor, kept_text, IsPackage, PackageValue, absent, absent_of, kept, kept_of}
+use Rattle.npm_pick_mirrors.specs.Mirror.{names_of, texts_for}
 use Rattle.npm_pick_mirrors.specs.MirrorLines.{list_text}
 use Rattle.npm_pick_mirrors.specs.Notes.{ask_note, ask_notes}
 use Rattle.npm_pick_mirrors.specs.Private.Mirroring.{AreBothAdded, AreKeptIn, IsAdded, IsAddedFor}
 use Rattle.npm_pick_mirrors.specs.declared.asks.Ask.{Ask}
 use Rattle.npm_pick_mirrors.specs.declared.mirror.Mirror.{Mirror}
 use Rattle.npm_pick_errors.specs.declared.run_error.RunError.{RunError}
+use Rattle.npm_pick_errors.specs.declared.run_error.RunError.TheVariants as RunErrors
 
 -- the list of one part more is behind the lists of all parts before it
 flat_more : {X Y : Type 0} (made : X → List Y) (xs : List X) (x : X) (old new : List Y) → new ≡ old ++ made x
@@ -142,3 +144,28 @@ pub keys_added : (old new : List (List ℕ)) (name : List ℕ) (keys : List (Bor
     → new ≡ old ++ map (λ key. kept_text name key.now) keys
     → new ≡ old ++ map (λ key. kept_text name key) (map (λ key. key.now) keys)
 keys_added old new name keys is = is ∙ ap (λ l. old ++ l) (keys-seen name keys)
+
+-- ---- failures
+
+-- what holds of an error holds where the error is passed on
+pub passed_on : {T E : Type 0} (result : Result T E) (P Q : E → Type 0) → IsErrAnd result P
+    → ((error : E) → P error → Q error) → IfErr result Q
+passed_on (Ok x) P Q is then = tt
+passed_on (Err error) P Q is then = then error is
+
+-- a document that was needed for the package of a name is needed for the requests
+pub needed_for_name : (Gives : Loads) (requests : List RegistrySpecValue) (names : List (String Global)) (i : ℕ)
+    (item : String Global) (error : RunError) → i < length names → item ≡ get_or names i item
+    → ((name : List ℕ) → Contains (map string_bytes names) name ↔ Contains (names_of requests) name)
+    → IsLoadFailure (λ needed. needed ≡ string_bytes item) Gives error
+    → IsLoadFailure (IsNeededFor requests) Gives error
+needed_for_name Gives requests names i item RunErrors.Memory small here exact is = tt
+needed_for_name Gives requests names i item RunErrors.Write small here exact is = is
+needed_for_name Gives requests names i item (RunErrors.NoLock fault) small here exact is = is
+needed_for_name Gives requests names i item (RunErrors.Load error) small here exact is =
+    let long = length-map names string_bytes in
+    let inside : i < length (map string_bytes names) = omega (arith, long, small) in
+    let there : Contains (map string_bytes names) (string_bytes item) =
+    subst (Contains (map string_bytes names)) (get_or-map string_bytes names i item (string_bytes item) small ∙ ap string_bytes (sym here))
+    (Contains-get_or (map string_bytes names) i (string_bytes item) inside) in
+    (is.0, subst (Contains (names_of requests)) (sym is.1) ((exact (string_bytes item)).0 there), is.2)

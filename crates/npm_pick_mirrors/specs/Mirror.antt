@@ -32,6 +32,10 @@ requests_of asks = flat_map requests_by asks
 abbrev pub names_of : List RegistrySpecValue → List (List ℕ)
 names_of requests = map (λ (request : RegistrySpecValue). request.name) requests
 
+-- the document of a package is needed: a request names it
+abbrev pub IsNeededFor : List RegistrySpecValue → (name : List ℕ) → Type 0
+IsNeededFor requests name = Contains (names_of requests) name
+
 -- the versions, ranges and tags of the package with this name
 abbrev pub texts_for : (name : List ℕ) → List RegistrySpecValue → List (List ℕ)
 texts_for name requests = map (λ (request : RegistrySpecValue). request.text)

@@ -5,7 +5,7 @@ ghost use Rattle.serde_json.specs.View.{view};
 ghost use Rattle.npm_pick.specs.Kept.{IsKept};
 ghost use Rattle.npm_texts.specs.RegistrySpec.{registry_spec_value};
 ghost use Rattle.npm_pick_errors.specs.Loading.{IsLoadFailure};
-ghost use Rattle.npm_pick_mirrors.specs.Mirror.{IsMirror, kept_text};
+ghost use Rattle.npm_pick_mirrors.specs.Mirror.{IsMirror, IsNeededFor, kept_text};
 ghost use Rattle.npm_pick_mirrors.specs.Private.Mirroring.{AreBothAdded, IsAddedFor};
 
 use crate::requests::{Groups, names_of};
@@ -25,7 +25,8 @@ pub struct Mirror {
 }
 
 /// Returns what a mirror keeps for these requests: of each package what `npm_pick::keep` keeps for all of them together, in the
-/// order of the names. `load` returns the document of a package, if there is one.
+/// order of the names. `load` returns the document of a package, if there is one. It fails if a document that a request names is not
+/// read.
 pub fn mirror_of<F: Fn(&str) -> Result<Option<Value>, LoadError>>(
     alloc: Global,
     requests: &[RegistrySpec<'_>],
@@ -37,7 +38,7 @@ pub fn mirror_of<F: Fn(&str) -> Result<Option<Value>, LoadError>>(
     ensures mirror { IfOk result (λ mirror. IsMirror (FnReturnsAt F.Fn load) options.now all
         (map registry_spec_value requests.now) (map string_bytes mirror.kept.items)
         (map string_bytes mirror.absent.items)) }
-    ensures failed { IfErr result (IsLoadFailure (FnReturnsAt F.Fn load)) }
+    ensures failed { IfErr result (IsLoadFailure (IsNeededFor (map registry_spec_value requests.now)) (FnReturnsAt F.Fn load)) }
 {
     let names = names_of(alloc, requests)?;
     let groups = Groups::of_requests(alloc, requests)?;
@@ -66,7 +67,7 @@ fn add_package<F: Fn(&str) -> Result<Option<Value>, LoadError>>(
     requires { F.IsAlwaysCallable load.now }
     ensures added { OnOk result (IsAddedFor (FnReturnsAt F.Fn load.now) options.now all name.now
         (map string_bytes texts.now) mirror.old mirror.new) }
-    ensures failed { IfErr result (IsLoadFailure (FnReturnsAt F.Fn load.now)) }
+    ensures failed { IfErr result (IsLoadFailure (λ needed. needed ≡ name.now) (FnReturnsAt F.Fn load.now)) }
 {
     match load(name) {
         Ok(Some(packument)) => add_kept(alloc, mirror, name, &packument, texts, all, options),

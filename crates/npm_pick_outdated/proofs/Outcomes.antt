@@ -1,9 +1,10 @@
 -- What is found out about dependencies, one after the other, and their lines.
-use Rattle.std.proofs.Common.{◌≡◌, ◌∙◌, ℕ, ◌+◌, ◌<◌, List, [], ◌∷◌, ◌++◌, Bool, false, append_assoc}
+use Rattle.std.proofs.Common.{◌≡◌, ◌∙◌, ℕ, ◌+◌, ◌<◌, List, [], ◌∷◌, ◌++◌, Bool, arith, false, append_assoc, subst}
 use Rattle.std.proofs.Common.{Err, Global, IfOk, Ok, OnOk, Result, Some, String, ap, append-nil}
 use Rattle.std.proofs.Common.{codes, drop, get_or, length, map, string_bytes, sym}
-use Rattle.std.proofs.lemmas.List.{drop_all, drop_more, map-append}
-use Rattle.std.specs.List.{AllZip}
+use Rattle.std.proofs.lemmas.List.{drop_all, drop_more, get_or-map, length-map, map-append}
+use Rattle.std.proofs.lemmas.List.Elements.{Contains-get_or}
+use Rattle.std.specs.List.{AllZip, Contains}
 use Rattle.std.specs.Prelude.{◌≤◌}
 use Rattle.npm_packages.specs.Edges.{EdgeValue, edge_value}
 use Rattle.npm_packages.specs.declared.edges.Edge.{Edge}
@@ -12,8 +13,10 @@ use Rattle.npm_texts.specs.RegistrySpec.{RegistrySpecValue, registry_spec}
 use Rattle.serde_json.specs.Data.{Data}
 use Rattle.serde_json.specs.View.{view}
 use Rattle.serde_json.specs.declared.value.Value.{Value}
-use Rattle.npm_pick_errors.specs.Loading.{Loads}
-use Rattle.npm_pick_outdated.specs.Outdated.{IsOutcome, IsOutcomeOf, IsPickedAs, OutcomeValue, behind, is_current}
+use Rattle.npm_pick_errors.specs.Loading.{IsLoadFailure, Loads}
+use Rattle.npm_pick_errors.specs.declared.run_error.RunError.TheVariants as RunErrors
+use Rattle.npm_pick_outdated.specs.Outdated.{IsNeededFor, IsNeededForOne, IsOutcome, IsOutcomeOf, IsPickedAs, OutcomeValue}
+use Rattle.npm_pick_outdated.specs.Outdated.{behind, is_current}
 use Rattle.npm_pick_outdated.specs.Outdated.{is_passed, known, outcome_value, outdated}
 use Rattle.npm_pick_outdated.specs.OutdatedLines.{outcome_line, outcome_lines}
 use Rattle.npm_pick_errors.specs.declared.format.Format.{Format}
@@ -50,6 +53,23 @@ module _ (Is : EdgeValue → OutcomeValue → Type 0) (edges : List Edge) where
       let gone : drop i edges ≡ [] = drop_all i edges past in
       let all : AllZip Is (map edge_value edges) (map outcome_value outcomes ++ []) = held [] (rw gone tt) in
       rw (append-nil (map outcome_value outcomes)) at all
+
+-- ---- failures
+
+-- what was needed for one of the dependencies is needed
+pub needed_for_one : (Gives : Loads) (all : Bool) (edges : List Edge) (i : ℕ) (none : Edge) (error : RunError)
+    → i < length edges → IsLoadFailure (IsNeededFor all (edge_value (get_or edges i none))) Gives error
+    → IsLoadFailure (IsNeededForOne all (map edge_value edges)) Gives error
+needed_for_one Gives all edges i none RunErrors.Memory small is = tt
+needed_for_one Gives all edges i none RunErrors.Write small is = is
+needed_for_one Gives all edges i none (RunErrors.NoLock fault) small is = is
+needed_for_one Gives all edges i none (RunErrors.Load error) small is =
+    let long = length-map edges edge_value in
+    let inside : i < length (map edge_value edges) = omega (arith, long, small) in
+    let there : Contains (map edge_value edges) (edge_value (get_or edges i none)) =
+    subst (Contains (map edge_value edges)) (get_or-map edge_value edges i none (edge_value none) small)
+    (Contains-get_or (map edge_value edges) i (edge_value none) inside) in
+    (is.0, (edge_value (get_or edges i none), there, is.1), is.2)
 
 -- ---- lines
 

@@ -1,6 +1,7 @@
 -- Which dependencies of a lock file are outdated: npm's "npm outdated".
 use Rattle.std.specs.Prelude.{◌≡◌, ◌⊎◌, ◌&&◌, ◌||◌, ◌==◌, ℕ, List, Bool, true, false, Option, Some, None}
 use Rattle.std.specs.Prelude.{Ok, Err, bytes_eq, codes, is_none, length, not, string_bytes}
+use Rattle.std.specs.List.{Contains}
 use Rattle.serde_json.specs.Data.{Data}
 use Rattle.serde_json.specs.View.{view}
 use Rattle.serde_json.specs.declared.value.Value.{Value}
@@ -73,6 +74,15 @@ pub data IsOutcome (Gives : Loads) (all : Bool) (options : Options) (edge : Edge
   known : (request : RegistrySpecValue) (packument : Value) (outcome : OutcomeValue) → is_passed all edge ≡ false
       → registry_spec edge.name edge.spec ≡ Some request → Gives request.name (Ok (Some packument))
       → IsOutcomeOf (view packument) options request.text edge outcome → IsOutcome Gives all options edge outcome
+
+-- the document of this package is needed for a dependency: it is not left out, and asks a registry for the package
+abbrev pub IsNeededFor : (all : Bool) → EdgeValue → (name : List ℕ) → Type 0
+IsNeededFor all edge name = (request : RegistrySpecValue) × (is_passed all edge ≡ false)
+    × (registry_spec edge.name edge.spec ≡ Some request) × (request.name ≡ name)
+
+-- the same for one of these dependencies
+abbrev pub IsNeededForOne : (all : Bool) → List EdgeValue → (name : List ℕ) → Type 0
+IsNeededForOne all edges name = (edge : EdgeValue) × Contains edges edge × IsNeededFor all edge name
 
 -- what a contract sees of it
 abbrev pub row_value : Row → RowValue

@@ -5,7 +5,7 @@ ghost use Rattle.std.specs.List.{AllZip};
 ghost use Rattle.serde_json.specs.View.{view};
 ghost use Rattle.npm_packages.specs.Edges.{edge_value};
 ghost use Rattle.npm_pick_outdated.specs.Outdated as Rows;
-ghost use Rattle.npm_pick_outdated.specs.Outdated.{IsOutcome, IsOutcomeOf, IsPickedAs, outcome_value};
+ghost use Rattle.npm_pick_outdated.specs.Outdated.{IsNeededFor, IsNeededForOne, IsOutcome, IsOutcomeOf, IsPickedAs, outcome_value};
 ghost use Rattle.npm_pick_errors.specs.Loading.{IsLoadFailure};
 
 use npm_packages::Edge;
@@ -57,7 +57,8 @@ impl<'v> Outcome<'v> {
     }
 }
 
-/// Returns the outcome of each of these dependencies. `load` returns the document of a package, if there is one.
+/// Returns the outcome of each of these dependencies. `load` returns the document of a package, if there is one. It fails if the
+/// document of a package that one of them asks for is not read.
 pub fn outcomes_of<'v, F: Fn(&str) -> Result<Option<Value>, LoadError>>(
     alloc: Global,
     edges: &[Edge<'v>],
@@ -68,7 +69,7 @@ pub fn outcomes_of<'v, F: Fn(&str) -> Result<Option<Value>, LoadError>>(
     requires { F.IsAlwaysCallable load }
     ensures found { IfOk result (λ outcomes. AllZip (IsOutcome (FnReturnsAt F.Fn load) all options.now)
         (map edge_value edges.now) (map outcome_value outcomes.items)) }
-    ensures failed { IfErr result (IsLoadFailure (FnReturnsAt F.Fn load)) }
+    ensures failed { IfErr result (IsLoadFailure (IsNeededForOne all (map edge_value edges.now)) (FnReturnsAt F.Fn load)) }
 {
     let mut outcomes = Vec::new(alloc);
     for edge in edges {
@@ -95,7 +96,7 @@ fn outcome_of<'v, F: Fn(&str) -> Result<Option<Value>, LoadError>>(
     requires { F.IsAlwaysCallable load.now }
     ensures found { IfOk result (λ outcome. IsOutcome (FnReturnsAt F.Fn load.now) all options.now
         (edge_value edge.entry) (outcome_value outcome)) }
-    ensures failed { IfErr result (IsLoadFailure (FnReturnsAt F.Fn load.now)) }
+    ensures failed { IfErr result (IsLoadFailure (IsNeededFor all (edge_value edge.entry)) (FnReturnsAt F.Fn load.now)) }
 {
     if is_passed(&edge, all) {
         return Ok(Outcome::Passed);

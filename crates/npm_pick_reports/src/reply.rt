@@ -4,11 +4,10 @@ ghost use Rattle.std.specs.Fn.{FnReturnsAt};
 ghost use Rattle.std.specs.Io.KnownBytes.{Appends};
 ghost use Rattle.std.specs.List.{list_any};
 ghost use Rattle.serde_json.specs.View.{view};
-ghost use Rattle.npm_pick_errors.specs.Loading.{IsLoadFailure};
 ghost use Rattle.npm_pick_errors.specs.LockFailures.{IsLockFailure};
 ghost use Rattle.npm_pick_outdated.specs.Outdated as Rows;
 ghost use Rattle.npm_pick_outdated.specs.Outdated.{outcome_value};
-ghost use Rattle.npm_pick_reports.specs.Failures.{IsFailure};
+ghost use Rattle.npm_pick_reports.specs.Failures.{IsComparedFailure, IsFailure, IsKeptFailure};
 ghost use Rattle.npm_pick_reports.specs.Reply.{IsComparedReply, IsKeptReply, IsPickedReply, IsReply, done_value, reply_value};
 
 use crate::picked_line::picked_line;
@@ -66,7 +65,7 @@ struct Reply {
 ///
 /// - `Write`: a write failed. A beginning of the lines may have been written.
 /// - `NoLock`: the value is no lock file that is read here. Nothing was written, and so for the other errors.
-/// - `Load`: what `load` returned.
+/// - `Load`: what `load` returned for a package that a dependency asks for.
 /// - `Memory`: an allocation failed.
 ///
 /// # Memory
@@ -163,7 +162,7 @@ fn outdated_reply<F: Fn(&str) -> Result<Option<Value>, LoadError>>(
     ensures reply { IfOk result (λ reply. IsComparedReply (FnReturnsAt F.Fn load) (view lock.now) all options.now format
         (reply_value reply)) }
     ensures failed { IfErr result (λ error. IsLockFailure (Some (view lock.now)) error
-        ⊎ IsLoadFailure (FnReturnsAt F.Fn load) error) }
+        ⊎ IsComparedFailure (FnReturnsAt F.Fn load) (view lock.now) all error) }
 {
     let edges = match edges_of(alloc, lock) {
         Ok(edges) => edges,
@@ -208,7 +207,8 @@ fn kept_reply<F: Fn(&str) -> Result<Option<Value>, LoadError>>(
     ensures reply { IfOk result (λ reply. IsKeptReply (FnReturnsAt F.Fn load) (map view manifests.now)
         (option_map (λ lock. view lock.now) lock.entry) all options.now format (reply_value reply)) }
     ensures failed { IfErr result (λ error. IsLockFailure (option_map (λ lock. view lock.now) lock.entry) error
-        ⊎ IsLoadFailure (FnReturnsAt F.Fn load) error) }
+        ⊎ IsKeptFailure (FnReturnsAt F.Fn load) (map view manifests.now) (option_map (λ lock. view lock.now) lock.entry)
+        error) }
 {
     let asks = asks_of(alloc, manifests, lock)?;
     let requests = requests_of(alloc, &asks)?;

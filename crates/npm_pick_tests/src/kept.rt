@@ -85,6 +85,7 @@ fn keeps_all_that_is_admitted(rt: HostRuntime) {
         ("", "v0.1.0 1.2.0 1.3.0 1.3.0+a 1.3.0+b "),
         ("1.10", ""),
         ("a b", ""),
+        ("1.3.0 || a.tgz,npm:a@1 || 1.3.0", ""),
     ];
     assert_eq!(rt;
         first_wrong_list(rt.alloc(), PLAIN, NOTHING, true, &rows),

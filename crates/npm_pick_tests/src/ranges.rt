@@ -25,6 +25,7 @@ fn picks_for_ranges_tags_and_versions(rt: HostRuntime) {
         ("1.3.0", "1.3.0"),
         (" =v1.3.0+build ", "1.3.0"),
         ("1.3.1beta.1", "1.3.1-beta.1"),
+        ("^1 || git@x.y:z", "1.2.0"),
     ];
     assert_eq!(rt; first_wrong(rt.alloc(), PLAIN, NOTHING, &rows), None);
 }
@@ -42,6 +43,20 @@ fn names_what_is_wrong(rt: HostRuntime) {
         ("foo bar", "Wanted"),
         ("a/b", "Wanted"),
         ("npm:a@1", "Wanted"),
+        // npm-package-arg: a location or an alias, though it reads as a range or as a tag
+        ("^1 x/y", "Wanted"),
+        ("1.0.0 || a.tgz", "Wanted"),
+        ("1.0.0 || a.TAR", "Wanted"),
+        ("1.0.0 || a.tar-gz", "Wanted"),
+        ("npm:a@1 || 1.0.0", "Wanted"),
+        ("^1 || git@gist.github.com:a", "Wanted"),
+        ("a.tgz", "Wanted"),
+        (".next", "Wanted"),
+        ("x@y:z", "Wanted"),
+        // the whole text is the tag, and white space is JavaScript's
+        ("next ", "NoTag"),
+        ("\u{feff}next", "NoTag"),
+        ("\u{85}next", "Wanted"),
     ];
     assert_eq!(rt; first_wrong(rt.alloc(), PLAIN, NOTHING, &rows), None);
 }

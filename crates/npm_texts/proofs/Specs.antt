@@ -1,4 +1,5 @@
 pub mod Splits
+pub mod Archives
 pub mod Locations
 pub mod Targets
 pub mod Aliases

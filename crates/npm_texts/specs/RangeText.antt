@@ -1,13 +1,13 @@
 -- The grammar of specs as functions, step by step. The law `specs_are_those_of_the_grammar` says that they give what the
 -- grammar says, so a reader of `SpecGrammar` need not read them.
 use Rattle.std.specs.Prelude.{◌==◌, ◌||◌, ◌&&◌, not, ℕ, List, [], ◌∷◌, Bool, if◌then◌else◌, Option, Some, None, codes}
-use Rattle.std.specs.Prelude.{length, nat_eq, option_and_then, unwrap_or}
-use Rattle.std.specs.Char.{is_ascii_alphabetic}
+use Rattle.std.specs.Prelude.{is_none, is_some, length, nat_eq, option_and_then, reverse, unwrap_or}
+use Rattle.std.specs.Char.{is_ascii_alphabetic, to_ascii_lowercase}
 use Rattle.std.specs.List.{after_first, before_first, ends_with, list_all, list_any, position_or_len, starts_with}
 use Rattle.std.specs.Option.{option_map_or}
 use Rattle.npm_texts.specs.Texts.{rest_after}
 pub use Rattle.npm_texts.specs.SpecGrammar.{SpecValue, in_registry, location, refused, spec_value}
-pub use Rattle.npm_texts.specs.SpecGrammar.{filled, is_at_sign, is_colon, is_slash, is_tag, is_tag_byte}
+pub use Rattle.npm_texts.specs.SpecGrammar.{filled, is_any, is_at_sign, is_colon, is_slash, is_tag, is_tag_byte}
 
 -- ---- URLs, repositories, files and folders
 
@@ -17,17 +17,43 @@ all_letters text = not (length text == 0) && list_all is_ascii_alphabetic text
 
 -- what comes before the `:` of a URL or of a repository
 abbrev pub begins_url : List ℕ → Bool
-begins_url text = all_letters (unwrap_or (rest_after (codes "git+") text) text) || list_any is_at_sign text
+begins_url text = all_letters (unwrap_or (rest_after (codes "git+") text) text)
+    || ends_with nat_eq text (codes "@gist.github.com")
 
 -- a text that begins as a URL: `github:a`, and not `^1 || a:b`
 abbrev pub has_scheme : List ℕ → Bool
 has_scheme text =
     not (position_or_len is_colon text == length text) && begins_url (before_first is_colon text)
 
+-- the text after its first byte, if that is this letter, small or capital
+abbrev pub past_letter : (letter : ℕ) → List ℕ → Option (List ℕ)
+past_letter letter [] = None
+past_letter letter (b ∷ text) = if to_ascii_lowercase b == letter then Some text else None
+
+-- the same if it is any one
+abbrev pub past_any : List ℕ → Option (List ℕ)
+past_any [] = None
+past_any (b ∷ text) = if is_any b then Some text else None
+
+-- the same for several letters, one after the other
+abbrev pub past_letters : (letters : List ℕ) → List ℕ → Option (List ℕ)
+past_letters [] text = Some text
+past_letters (letter ∷ letters) text = option_and_then (past_letters letters) (past_letter letter text)
+
+-- read from the last byte on, what comes before `.tgz`, before `.tar`, and before `.tar.gz`
+abbrev pub before_tgz : List ℕ → Option (List ℕ)
+before_tgz = past_letters (codes "zgt.")
+
+abbrev pub before_tar : List ℕ → Option (List ℕ)
+before_tar = past_letters (codes "rat.")
+
+abbrev pub before_tar_gz : List ℕ → Option (List ℕ)
+before_tar_gz back = option_and_then before_tar (option_and_then past_any (past_letters (codes "zg") back))
+
 -- a text that ends as an archive: `a.tgz`
 abbrev pub ends_archive : List ℕ → Bool
-ends_archive text = ends_with nat_eq text (codes ".tgz") || ends_with nat_eq text (codes ".tar.gz")
-    || ends_with nat_eq text (codes ".tar")
+ends_archive text = is_some (before_tgz (reverse text)) || is_some (before_tar (reverse text))
+    || is_some (before_tar_gz (reverse text))
 
 -- `IsLocation` of the grammar
 abbrev pub is_elsewhere : List ℕ → Bool
@@ -89,6 +115,10 @@ alias_value range = if is_elsewhere range then refused else in_registry range
 -- what any other spec is
 abbrev pub other_value : (spec : List ℕ) → SpecValue
 other_value spec = if is_elsewhere spec then location else in_registry (filled spec)
+
+-- the text is neither an alias nor a location: a version, a range, a tag, or what is none of them
+abbrev pub is_plain : (spec : List ℕ) → Bool
+is_plain spec = is_none (alias_target spec) && not (is_elsewhere spec)
 
 -- what a spec is: `IsSpec` of the grammar
 abbrev pub spec_of : (spec : List ℕ) → SpecValue

@@ -2,6 +2,7 @@
 use Rattle.std.specs.Prelude.{ℕ, List, Option, Some, None, is_some, if◌then◌else◌, option_map}
 use Rattle.npm_texts.specs.RangeText.{alias_target, aliased_name, spec_of}
 use Rattle.npm_texts.specs.SpecGrammar.{IsAlias, IsAliasOf, IsSpec, SpecValue, in_registry, location, refused}
+use Rattle.npm_texts.specs.WhiteSpace.{trimmed}
 use Rattle.npm_texts.specs.declared.registry.RegistrySpec.{RegistrySpec}
 
 -- a package of a registry, and the version, the range or the tag of it
@@ -14,13 +15,13 @@ abbrev pub registry_spec_value : RegistrySpec → RegistrySpecValue
 registry_spec_value spec = record { name = spec.name.now; text = spec.text.now }
 
 -- A dependency on this name by this spec asks for that: `^1` of `a` for the text `^1` of the package `a`, and `npm:b@^1`
--- for that of `b`. A URL, a repository, a file, a folder and a refused spec ask for nothing, and neither does an alias
+-- for that of `b`. White space at the ends of the text does not count. A URL, a repository, a file, a folder and a refused spec ask for nothing, and neither does an alias
 -- without a name, as `npm:^1`.
 pub data IsRegistrySpec (name spec : List ℕ) : RegistrySpecValue → Type 0 where
   of_name : (text : List ℕ) → ((target : List ℕ) → ¬ IsAlias spec target) → IsSpec spec (in_registry text)
-      → IsRegistrySpec name spec (record { name = name; text = text })
+      → IsRegistrySpec name spec (record { name = name; text = trimmed text })
   of_alias : (aliased text : List ℕ) → IsAliasOf spec aliased → IsSpec spec (in_registry text)
-      → IsRegistrySpec name spec (record { name = aliased; text = text })
+      → IsRegistrySpec name spec (record { name = aliased; text = trimmed text })
 
 -- ---- the same as a function: the law `specs_are_those_of_the_grammar` says that it gives what is defined above
 
@@ -30,7 +31,7 @@ package_name name spec = if is_some (alias_target spec) then aliased_name spec e
 
 -- this text of a package, if the spec has one
 abbrev pub of_package : (named : Option (List ℕ)) → SpecValue → Option RegistrySpecValue
-of_package named (in_registry text) = option_map (λ name. record { name = name; text = text }) named
+of_package named (in_registry text) = option_map (λ name. record { name = name; text = trimmed text }) named
 of_package named location = None
 of_package named refused = None
 

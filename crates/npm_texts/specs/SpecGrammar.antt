@@ -3,13 +3,13 @@
 --     spec     = "npm:" target | location | range
 --     target   = name "@" range | name | range
 --     location = "." text | text "/" text | scheme ":" text | text archive
---     scheme   = letters | "git+" letters | text "@" text
---     archive  = ".tgz" | ".tar.gz" | ".tar"
+--     scheme   = letters | "git+" letters | text "@gist.github.com"
+--     archive  = ".tgz" | ".tar" any "gz" | ".tar"
 --
--- The first form that fits counts. An empty range is `*`. Each other text is a range here: this grammar does not say which
--- texts are ranges, which are tags, and which are neither.
+-- The first form that fits counts. The letters of an archive may be capitals. An empty range is `*`. Each other text is a
+-- range here: this grammar does not say which texts are ranges, which are tags, and which are neither.
 use Rattle.std.specs.Prelude.{◌≡◌, ◌≢◌, ◌==◌, ◌||◌, ◌⊎◌, ℕ, Bool, true, false, List, [], ◌∷◌, ◌++◌, Option, Some, None}
-use Rattle.std.specs.Prelude.{codes, map}
+use Rattle.std.specs.Prelude.{◌&&◌, codes, map, nat_lt, not}
 use Rattle.std.specs.Char.{is_ascii_alphabetic, is_ascii_alphanumeric, to_ascii_lowercase}
 use Rattle.std.specs.List.{list_all, list_any}
 use Rattle.std.specs.Str.{trim}
@@ -56,15 +56,23 @@ AreSome test text = (text ≢ []) × (list_all test text ≡ true)
 
 -- ---- URLs, repositories, files and folders
 
--- what comes before the `:` of a URL or of a repository: `https` or `github`, `git+ssh`, and `git@gist.github.com`
+-- What comes before the `:` of a URL or of a repository: `https` or `github`, `git+ssh`, and `git@gist.github.com`. Of the
+-- hosts that npm knows, this one alone has repositories without a slash.
 pub data IsScheme (text : List ℕ) : Type 0 where
   letters : AreSome is_ascii_alphabetic text → IsScheme text
   git : (protocol : List ℕ) → text ≡ codes "git+" ++ protocol → AreSome is_ascii_alphabetic protocol → IsScheme text
-  user : Has is_at_sign text → HasNo is_colon text → IsScheme text
+  gist : (user : List ℕ) → text ≡ user ++ codes "@gist.github.com" → HasNo is_colon text → IsScheme text
 
--- the end of the name of an archive
-abbrev pub IsArchiveEnd : List ℕ → Type 0
-IsArchiveEnd end = (end ≡ codes ".tgz") ⊎ (end ≡ codes ".tar.gz") ⊎ (end ≡ codes ".tar")
+-- what does for the second dot of `.tar.gz`: any character of ASCII that ends no line
+abbrev pub is_any : ℕ → Bool
+is_any b = nat_lt b 128 && not (b == 10) && not (b == 13)
+
+-- the end of the name of an archive: `.tgz`, `.tar`, and `.tar.gz`, as in `.TGZ` and `.tar-gz`
+pub data IsArchiveEnd (end : List ℕ) : Type 0 where
+  tgz : map to_ascii_lowercase end ≡ codes ".tgz" → IsArchiveEnd end
+  tar : map to_ascii_lowercase end ≡ codes ".tar" → IsArchiveEnd end
+  tar_gz : (start gz : List ℕ) (b : ℕ) → end ≡ start ++ (b ∷ gz) → map to_ascii_lowercase start ≡ codes ".tar"
+      → is_any b ≡ true → map to_ascii_lowercase gz ≡ codes "gz" → IsArchiveEnd end
 
 -- a URL, a repository, a file or a folder: `./a`, `a/b`, `github:a`, and `a-1.0.0.tgz`
 pub data IsLocation (text : List ℕ) : Type 0 where

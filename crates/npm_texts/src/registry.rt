@@ -5,6 +5,7 @@ ghost use Rattle.npm_texts.specs.SpecGrammar.{spec_value};
 ghost use Rattle.npm_texts.specs.RegistrySpec.{registry_spec_value};
 
 use crate::spec::{Spec, alias_of, alias_range, aliased, name_of_alias, plain_spec};
+use crate::white::trimmed;
 
 /// A package of a registry, and the version, the range or the tag of it that a dependency asks for.
 #[derive(Clone, Copy, Debug, PartialEq, Eq, Drop)]
@@ -18,7 +19,8 @@ pub struct RegistrySpec<'t> {
 /// Returns what a dependency asks a registry for, by its name and its spec. `None`: the spec is a URL, a repository, a file or a
 /// folder, or an alias that npm refuses.
 ///
-/// The empty spec is `*`. An alias has the name of the package that it stands for.
+/// The empty spec is `*`. An alias has the name of the package that it stands for. White space at the ends of the text is left
+/// out, as in npm's `fetchSpec`: a text of white space alone is empty.
 ///
 /// # Memory
 ///
@@ -46,7 +48,10 @@ fn of_package<'t>(name: &'t str, spec: Spec<'t>) -> Option<RegistrySpec<'t>>
     ensures { option_map registry_spec_value result ≡ RegistrySpecs.of_package (Some name.now) (spec_value spec.entry) }
 {
     match spec {
-        Spec::Text(text) => Some(RegistrySpec { name, text }),
+        Spec::Text(text) => Some(RegistrySpec {
+            name,
+            text: trimmed(text),
+        }),
         Spec::Location | Spec::Refused => None,
     }
 }

@@ -1,5 +1,5 @@
 //! What npm reads a spec as.
-ghost use Rattle.std.specs.Prelude.{◌≡◌, ◌<◌, ◌∷◌, option_map};
+ghost use Rattle.std.specs.Prelude.{◌≡◌, ◌<◌, ◌∷◌, option_map, reverse};
 ghost use Rattle.std.specs.Char.{is_ascii_alphabetic};
 ghost use Rattle.std.specs.List.{before_first, list_all, list_any};
 ghost use Rattle.npm_texts.specs.RangeText as RangeText;
@@ -49,6 +49,13 @@ pub(crate) fn plain_spec(spec: &str) -> Spec<'_>
     } else {
         Spec::Text(filled(spec))
     }
+}
+
+/// Returns `true` if the text is neither an alias nor a URL, a repository, a file or a folder. Does not allocate.
+pub fn is_plain(spec: &str) -> bool
+    ensures { result ≡ RangeText.is_plain spec.now }
+{
+    alias_of(spec).is_none() && !is_location(spec)
 }
 
 /// Returns the text, or `*` if it is empty.
@@ -183,13 +190,7 @@ fn is_url(text: &str) -> bool
 fn is_scheme(text: &str) -> bool
     ensures { result ≡ RangeText.begins_url text.now }
 {
-    are_letters(rest_after(text, "git+").unwrap_or(text)) || has_at_sign(text)
-}
-
-fn has_at_sign(text: &str) -> bool
-    ensures { result ≡ list_any RangeText.is_at_sign text.now }
-{
-    text.bytes().any(|byte| byte == b'@')
+    are_letters(rest_after(text, "git+").unwrap_or(text)) || ends_with(text, "@gist.github.com")
 }
 
 fn are_letters(text: &str) -> bool
@@ -204,10 +205,67 @@ fn has_letters_alone(text: &str) -> bool
     text.bytes().all(|byte| byte.is_ascii_alphabetic())
 }
 
+/// Returns `true` if the text ends as the name of an archive.
 fn is_archive(text: &str) -> bool
     ensures { result ≡ RangeText.ends_archive text.now }
 {
-    ends_with(text, ".tgz") || ends_with(text, ".tar.gz") || ends_with(text, ".tar")
+    let bytes = text.as_bytes();
+    before_tgz(bytes).is_some() || before_tar(bytes).is_some() || before_tar_gz(bytes).is_some()
+}
+
+/// Returns the text before `.tgz`.
+fn before_tgz(text: &[u8]) -> Option<&[u8]>
+    ensures { option_map (λ front. reverse front.now) result ≡ RangeText.before_tgz (reverse text.now) }
+{
+    let text = before_letter(text, b'z')?;
+    let text = before_letter(text, b'g')?;
+    let text = before_letter(text, b't')?;
+    before_letter(text, b'.')
+}
+
+/// Returns the text before `.tar`.
+fn before_tar(text: &[u8]) -> Option<&[u8]>
+    ensures { option_map (λ front. reverse front.now) result ≡ RangeText.before_tar (reverse text.now) }
+{
+    let text = before_letter(text, b'r')?;
+    let text = before_letter(text, b'a')?;
+    let text = before_letter(text, b't')?;
+    before_letter(text, b'.')
+}
+
+/// Returns the text before `.tar.gz`, where any character of ASCII does for the second dot.
+fn before_tar_gz(text: &[u8]) -> Option<&[u8]>
+    ensures { option_map (λ front. reverse front.now) result ≡ RangeText.before_tar_gz (reverse text.now) }
+{
+    let text = before_letter(text, b'z')?;
+    let text = before_letter(text, b'g')?;
+    before_tar(before_any(text)?)
+}
+
+/// Returns the text before its last byte, if that is this letter, small or capital.
+fn before_letter(text: &[u8], letter: u8) -> Option<&[u8]>
+    ensures { option_map (λ front. reverse front.now) result ≡ RangeText.past_letter letter (reverse text.now) }
+{
+    let (last, front) = text.split_last()?;
+    if last.to_ascii_lowercase() == letter {
+        Some(front)
+    } else {
+        None
+    }
+}
+
+/// Returns the text before its last byte, if that does for a dot.
+fn before_any(text: &[u8]) -> Option<&[u8]>
+    ensures { option_map (λ front. reverse front.now) result ≡ RangeText.past_any (reverse text.now) }
+{
+    let (last, front) = text.split_last()?;
+    if is_any(*last) { Some(front) } else { None }
+}
+
+fn is_any(byte: u8) -> bool
+    ensures { result ≡ RangeText.is_any byte }
+{
+    byte < 128 && byte != b'\n' && byte != b'\r'
 }
 
 /// Returns `true` if the text can be a tag. White space around it does not count.

@@ -42,6 +42,13 @@ pub fn without_white_end(text: &str) -> &str
     }
 }
 
+/// Returns the text without white space at its ends.
+pub fn trimmed(text: &str) -> &str
+    ensures { result.now ≡ WhiteSpace.trimmed text.now }
+{
+    without_white_end(without_white_start(text))
+}
+
 /// Returns `true` for the white space of JavaScript.
 pub fn is_white(c: char) -> bool
     ensures white { result ≡ WhiteSpace.is_white c }

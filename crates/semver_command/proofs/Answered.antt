@@ -125,13 +125,11 @@ has_versions asked r s kept c d items has same = record {
   put = rw (nothing_written asked.options.json has.versions has.written kept has.is_kept) at has.put;
 }
 
-pub none_raised : {E : Type 0} (asked : AskedValue) (bump : Bump) (r s : Option (List ℕ))
-    (versions : List VersionValue) (c d e : Option (List ℕ)) (res : Result Ending E) → asked.increment ≡ Some bump
-    → HasVersions asked r s versions c d → versions ≡ []
-    → IfOk res (λ ending. (ending ≡ ending_of versions) × Appends d e (listed_text asked.options.json versions))
-    → IfOk res (IsAnswered asked r s c e)
-none_raised asked bump r s versions c d e (Err x) is has empty list = tt
-none_raised asked bump r s versions c d e (Ok ending) is has empty list = record {
+pub none_raised : (asked : AskedValue) (bump : Bump) (r s : Option (List ℕ)) (versions : List VersionValue)
+    (c d e : Option (List ℕ)) (ending : Ending) → asked.increment ≡ Some bump → HasVersions asked r s versions c d
+    → versions ≡ [] → (ending ≡ ending_of versions) × Appends d e (listed_text asked.options.json versions)
+    → IsAnswered asked r s c e ending
+none_raised asked bump r s versions c d e ending is has empty list = record {
   input = has.input;
   taken = has.taken;
   texts = has.texts;
@@ -181,11 +179,10 @@ pub some_mapped : {A B : Type 0} (f : A → B) (xs : List A) → xs ≢ [] → m
 some_mapped f [] some empty = some refl
 some_mapped f (one ∷ others) some empty = grind (arith, empty)
 
-pub help_ok : {E : Type 0} (words : List (List ℕ)) (r c d e : Option (List ℕ)) (res : Result Ending E)
-    → IsReply words r [] HELP.now [] Endings.Written
-    → IfOk res (λ ending. (ending ≡ Endings.Written) × Appends c d HELP.now) → IfOk res (Replies words r r c d e e)
-help_ok words r c d e (Err x) reply is = tt
-help_ok words r c d e (Ok ending) reply is = record {
+pub help_given : (words : List (List ℕ)) (r c d e : Option (List ℕ)) (ending : Ending)
+    → IsReply words r [] HELP.now [] Endings.Written → (ending ≡ Endings.Written) × Appends c d HELP.now
+    → Replies words r r c d e e ending
+help_given words r c d e ending reply is = record {
   input = [];
   written = HELP.now;
   said = [];
@@ -195,12 +192,10 @@ help_ok words r c d e (Ok ending) reply is = record {
   reply = rw is.0 reply;
 }
 
-pub explained_ok : {E : Type 0} (words : List (List ℕ)) (asked : AskedValue) (r c d e f : Option (List ℕ))
-    (res : Result Ending E) → words ≢ [] → IsAsked words asked → asked.options.help ≡ false
-    → asked.options.explain ≡ true → IfOk res (Explains (IsExplanation asked) c d e f)
-    → IfOk res (Replies words r r c d e f)
-explained_ok words asked r c d e f (Err x) some read shown on is = tt
-explained_ok words asked r c d e f (Ok ending) some read shown on is = record {
+pub sets_given : (words : List (List ℕ)) (asked : AskedValue) (r c d e f : Option (List ℕ)) (ending : Ending)
+    → words ≢ [] → IsAsked words asked → asked.options.help ≡ false → asked.options.explain ≡ true
+    → Explains (IsExplanation asked) c d e f ending → Replies words r r c d e f ending
+sets_given words asked r c d e f ending some read shown on is = record {
   input = [];
   written = is.written;
   said = is.said;

@@ -5,7 +5,7 @@ use Rattle.npm_semver.specs.declared.bump.Bump.{Bump}
 use Rattle.node_semver.specs.Versions.{VersionValue}
 use Rattle.semver_command.specs.Asked.{AskedValue}
 use Rattle.semver_command.specs.Chosen.{AreChosen}
-use Rattle.semver_command.specs.Increment.{IsIncremented, incremented_text}
+use Rattle.semver_command.specs.Increment.{IsIncremented, IsNoIdentifier, incremented_text}
 use Rattle.semver_command.specs.Lines.{listed_text}
 use Rattle.semver_command.specs.Listed.{AreListed}
 use Rattle.semver_command.specs.Ranges.{IsAdmittedByAll}
@@ -46,3 +46,12 @@ pub data IsAnswer (asked : AskedValue) (texts : List (List ℕ)) : (written : Li
   not_alone : (bump : Bump) (versions : List VersionValue) → asked.increment ≡ Some bump
       → AreVersions asked texts versions → versions ≢ [] → (length versions ≢ 1) ⊎ (asked.ranges ≢ [])
       → IsAnswer asked texts [] Endings.Misused
+
+-- the text after `--preid` is no identifier, and it would be needed: for an increment of a single version, without a range
+pub record IsRefused (asked : AskedValue) (texts : List (List ℕ)) : Type 0 where
+  pub bump : Bump
+  pub version : VersionValue
+  pub increment : asked.increment ≡ Some bump
+  pub single : AreVersions asked texts (version ∷ [])
+  pub free : asked.ranges ≡ []
+  pub identifier : IsNoIdentifier asked.identifier

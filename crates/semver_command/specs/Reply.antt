@@ -1,7 +1,7 @@
 -- What the program writes for the words of its command line and for standard input, and how it ends.
 use Rattle.std.specs.Prelude.{◌≡◌, ◌≢◌, ℕ, List, [], true, false, Option}
 use Rattle.std.specs.Io.KnownBytes.{Appends, Consumes}
-use Rattle.semver_command.specs.Answer.{IsAnswer}
+use Rattle.semver_command.specs.Answer.{IsAnswer, IsRefused}
 use Rattle.semver_command.specs.Asked.{AskedValue, IsAsked}
 use Rattle.semver_command.specs.Explained.{IsExplanation}
 use Rattle.semver_command.specs.Input.{AreTexts}
@@ -36,3 +36,20 @@ pub record Replies (words : List (List ℕ)) (remaining remaining_new contents c
   pub put : Appends contents contents_new written
   pub told : Appends errors errors_new said
   pub reply : IsReply words remaining input written said ending
+
+-- the texts were read, and the request is refused for them
+pub record RefusesTexts (asked : AskedValue) (remaining remaining_new : Option (List ℕ)) : Type 0 where
+  pub input : List ℕ
+  pub taken : Consumes remaining remaining_new input
+  pub texts : List (List ℕ)
+  pub placed : AreTexts asked.versions remaining input texts
+  pub refused : IsRefused asked texts
+
+-- the request of the words is refused, for the text after `--preid`
+pub record Refuses (words : List (List ℕ)) (remaining remaining_new : Option (List ℕ)) : Type 0 where
+  pub asked : AskedValue
+  pub given : words ≢ []
+  pub is_asked : IsAsked words asked
+  pub unhelped : asked.options.help ≡ false
+  pub unexplained : asked.options.explain ≡ false
+  pub refused : RefusesTexts asked remaining remaining_new

@@ -1,9 +1,10 @@
 //! What is written for a command line, and how it ends.
-ghost use Rattle.std.specs.Prelude.{◌≡◌, ◌≢◌, ◌∷◌, [], ℕ, List, IfOk, MatchOption, None, Some, length, Bool};
+ghost use Rattle.std.specs.Prelude.{◌≡◌, ◌≢◌, ◌∷◌, [], ℕ, List, IfOk, IsErrOf, MatchOption, None, Some, length, Bool};
 ghost use Rattle.std.specs.Bool.{MatchBool};
 ghost use Rattle.std.specs.Io.Buffered.{reader_remaining};
 ghost use Rattle.semver_command.specs.Answer.{IsAnswer, npm_options};
 ghost use Rattle.semver_command.specs.Asked.{asked_value};
+ghost use Rattle.semver_command.specs.Reply.{RefusesTexts};
 ghost use Rattle.semver_command.specs.Private.Gathering.{AreAllKept, HasVersions, IsAnswered, IsKept, IsListed};
 ghost use Rattle.semver_command.specs.declared.asked.Listing.TheVariants as Listings;
 ghost use Rattle.node_semver.specs.Versions.{VersionValue};
@@ -16,6 +17,7 @@ use crate::increment::{incremented, write_incremented};
 use crate::kept::Kept;
 use crate::lines::{ending_of, put_in_order, write_list};
 use crate::ranges::ranges_of;
+use crate::stopped::Stopped;
 use crate::writing::write_end;
 use node_semver::Version;
 use npm_semver::{Bump, NpmOptions};
@@ -27,20 +29,21 @@ use std::io::{BufReader, Read, Write};
 /// # Errors
 ///
 /// - `Identifier`: there is an increment of one version, and the text after `--preid` is no identifier.
-/// - `Read`, `Write`: reading from standard input or a write failed. What was written before stays written.
-/// - `Memory`: an allocation failed.
+/// - `Stopped`: reading from standard input, a write or an allocation failed. What was written before stays written.
 pub fn answer<R: Read, W: Write>(
     alloc: Global,
     asked: &Asked<'_>,
     reader: &mut BufReader<R>,
     writer: &mut W,
 ) -> Result<Ending, CommandError>
-    ensures { IfOk result (IsAnswered (asked_value asked.now) (reader_remaining R.remaining reader.old)
+    ensures answered { IfOk result (IsAnswered (asked_value asked.now) (reader_remaining R.remaining reader.old)
         (reader_remaining R.remaining reader.new) (W.contents writer.old) (W.contents writer.new)) }
+    ensures identifier { IsErrOf result CommandError.Identifier → RefusesTexts (asked_value asked.now)
+        (reader_remaining R.remaining reader.old) (reader_remaining R.remaining reader.new) }
 {
     match asked.increment {
         Some(bump) => raised(alloc, asked, bump, reader, writer),
-        None => listed(alloc, asked, reader, writer),
+        None => Ok(listed(alloc, asked, reader, writer)?),
     }
 }
 
@@ -60,7 +63,7 @@ fn listed<R: Read, W: Write>(
     asked: &Asked<'_>,
     reader: &mut BufReader<R>,
     writer: &mut W,
-) -> Result<Ending, CommandError>
+) -> Result<Ending, Stopped>
     requires { asked.now.increment ≡ None }
     ensures { IfOk result (IsAnswered (asked_value asked.now) (reader_remaining R.remaining reader.old)
         (reader_remaining R.remaining reader.new) (W.contents writer.old) (W.contents writer.new)) }
@@ -86,7 +89,7 @@ fn write_kept<W: Write>(
     kept: Kept,
     options: Options,
     writer: &mut W,
-) -> Result<Ending, CommandError>
+) -> Result<Ending, Stopped>
     ensures { IfOk result (λ ending. (versions : List VersionValue) (before : List ℕ)
         → IsKept options.listing options.json versions kept before
         → IsListed options versions before (W.contents writer.old) (W.contents writer.new) ending) }
@@ -114,12 +117,14 @@ fn raised<R: Read, W: Write>(
     writer: &mut W,
 ) -> Result<Ending, CommandError>
     requires { asked.now.increment ≡ Some bump }
-    ensures { IfOk result (IsAnswered (asked_value asked.now) (reader_remaining R.remaining reader.old)
+    ensures answered { IfOk result (IsAnswered (asked_value asked.now) (reader_remaining R.remaining reader.old)
         (reader_remaining R.remaining reader.new) (W.contents writer.old) (W.contents writer.new)) }
+    ensures identifier { IsErrOf result CommandError.Identifier → RefusesTexts (asked_value asked.now)
+        (reader_remaining R.remaining reader.old) (reader_remaining R.remaining reader.new) }
 {
     let versions = all_versions(alloc, asked, reader, writer)?;
     if is_nothing(&versions) {
-        return write_list(alloc, writer, &versions, asked.options.json);
+        return Ok(write_list(alloc, writer, &versions, asked.options.json)?);
     }
     if !is_nothing(&asked.ranges) {
         return Ok(Ending::Misused);
@@ -138,7 +143,7 @@ fn all_versions<R: Read, W: Write>(
     asked: &Asked<'_>,
     reader: &mut BufReader<R>,
     writer: &mut W,
-) -> Result<Vec<Version>, CommandError>
+) -> Result<Vec<Version>, Stopped>
     ensures { IfOk result (λ versions. HasVersions (asked_value asked.now) (reader_remaining R.remaining reader.old)
         (reader_remaining R.remaining reader.new) versions.items (W.contents writer.old) (W.contents writer.new)) }
 {

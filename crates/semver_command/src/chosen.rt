@@ -5,9 +5,9 @@ ghost use Rattle.semver_command.specs.Private.Gathering.{Gathers};
 ghost use Rattle.semver_command.specs.Ranges.{IsInAll};
 
 use crate::asked::Options;
-use crate::command_error::CommandError;
 use crate::kept::Kept;
 use crate::ranges::is_in_all;
+use crate::stopped::Stopped;
 use crate::written::version_of;
 use node_semver::{Range, Version};
 use std::alloc::{AllocError, Global};
@@ -22,7 +22,7 @@ pub fn add_chosen<W: Write>(
     ranges: &[Option<Range>],
     kept: &mut Kept,
     writer: &mut W,
-) -> Result<(), CommandError>
+) -> Result<(), Stopped>
     ensures { OnOk result (Gathers options (IsInAll options.include_prerelease ranges.now) (text.now ∷ [])
         kept.old kept.new (W.contents writer.old) (W.contents writer.new)) }
 {

@@ -12,10 +12,10 @@ ghost use Rattle.semver_command.specs.RefusedText.{refused_lines};
 
 use crate::answer::{is_nothing, npm_options};
 use crate::asked::Asked;
-use crate::command_error::CommandError;
 use crate::ending::Ending;
 use crate::refused_text::lines_of_refused;
 use crate::set_lines::write_sets;
+use crate::stopped::Stopped;
 use crate::writing::write_text;
 use node_semver::SemverError;
 use npm_semver::{NpmOptions, parse_range};
@@ -29,7 +29,7 @@ pub fn explain<W: Write, E: Write>(
     asked: &Asked<'_>,
     writer: &mut W,
     errors: &mut E,
-) -> Result<Ending, CommandError>
+) -> Result<Ending, Stopped>
     ensures { IfOk result (Explains (IsExplanation (asked_value asked.now)) (W.contents writer.old)
         (W.contents writer.new) (E.contents errors.old) (E.contents errors.new)) }
 {
@@ -54,7 +54,7 @@ fn explain_texts<W: Write, E: Write>(
     options: NpmOptions,
     writer: &mut W,
     errors: &mut E,
-) -> Result<Ending, CommandError>
+) -> Result<Ending, Stopped>
     ensures { IfOk result (Explains (AreExplained options (map text_value texts.now)) (W.contents writer.old)
         (W.contents writer.new) (E.contents errors.old) (E.contents errors.new)) }
 {
@@ -83,7 +83,7 @@ fn explain_text<W: Write, E: Write>(
     options: NpmOptions,
     writer: &mut W,
     errors: &mut E,
-) -> Result<Ending, CommandError>
+) -> Result<Ending, Stopped>
     ensures { IfOk result (Explains (IsExplained options (text_value text.entry)) (W.contents writer.old)
         (W.contents writer.new) (E.contents errors.old) (E.contents errors.new)) }
 {
@@ -100,7 +100,7 @@ fn explain_given<W: Write, E: Write>(
     options: NpmOptions,
     writer: &mut W,
     errors: &mut E,
-) -> Result<Ending, CommandError>
+) -> Result<Ending, Stopped>
     ensures { IfOk result (Explains (IsExplained options (Some text.now)) (W.contents writer.old)
         (W.contents writer.new) (E.contents errors.old) (E.contents errors.new)) }
 {
@@ -119,14 +119,14 @@ fn write_refused<E: Write>(
     text: &str,
     error: &SemverError,
     errors: &mut E,
-) -> Result<Ending, CommandError>
+) -> Result<Ending, Stopped>
     ensures { IfOk result (λ ending. (ending ≡ Ending.Refused)
         × (¬ ((refusal_of error.now).kind ≡ out_of_memory))
         × Appends (E.contents errors.old) (E.contents errors.new)
         (refused_lines text.now (refusal_of error.now).offset)) }
 {
     if error.is_out_of_memory() {
-        return Err(CommandError::Memory);
+        return Err(Stopped::Memory);
     }
     let lines = lines_of_refused(alloc, text, error.offset())?;
     write_text(errors, &lines)?;

@@ -9,9 +9,9 @@ ghost use Rattle.semver_command.specs.Ranges.{IsInAll};
 use crate::answer::is_nothing;
 use crate::asked::{Listing, Options};
 use crate::chosen::add_chosen;
-use crate::command_error::CommandError;
 use crate::input_line::{InputLine, read_line};
 use crate::kept::Kept;
+use crate::stopped::Stopped;
 use memchr::memchr;
 use node_semver::Range;
 use std::alloc::Global;
@@ -26,7 +26,7 @@ pub fn gathered<R: Read, W: Write>(
     listing: Listing,
     reader: &mut BufReader<R>,
     writer: &mut W,
-) -> Result<Kept, CommandError>
+) -> Result<Kept, Stopped>
     ensures { IfOk result (λ kept. HasGathered options listing (IsInAll options.include_prerelease ranges.now)
         (map (λ word. word.now) words.now) (reader_remaining R.remaining reader.old)
         (reader_remaining R.remaining reader.new) kept (W.contents writer.old) (W.contents writer.new)) }
@@ -45,7 +45,7 @@ fn add_texts<R: Read, W: Write>(
     kept: &mut Kept,
     reader: &mut BufReader<R>,
     writer: &mut W,
-) -> Result<(), CommandError>
+) -> Result<(), Stopped>
     ensures { OnOk result (GathersTexts options (IsInAll options.include_prerelease ranges.now)
         (map (λ word. word.now) words.now) (reader_remaining R.remaining reader.old)
         (reader_remaining R.remaining reader.new) kept.old kept.new (W.contents writer.old) (W.contents writer.new)) }
@@ -85,7 +85,7 @@ fn add_words<W: Write>(
     ranges: &[Option<Range>],
     kept: &mut Kept,
     writer: &mut W,
-) -> Result<(), CommandError>
+) -> Result<(), Stopped>
     ensures { OnOk result (Gathers options (IsInAll options.include_prerelease ranges.now)
         (without_dashes (map (λ word. word.now) words.now)) kept.old kept.new
         (W.contents writer.old) (W.contents writer.new)) }
@@ -104,7 +104,7 @@ fn add_word<W: Write>(
     ranges: &[Option<Range>],
     kept: &mut Kept,
     writer: &mut W,
-) -> Result<(), CommandError>
+) -> Result<(), Stopped>
     ensures { OnOk result (Gathers options (IsInAll options.include_prerelease ranges.now)
         (without_dashes (word.now ∷ [])) kept.old kept.new (W.contents writer.old) (W.contents writer.new)) }
 {
@@ -123,7 +123,7 @@ fn add_lines<R: Read, W: Write>(
     kept: &mut Kept,
     reader: &mut BufReader<R>,
     writer: &mut W,
-) -> Result<(), CommandError>
+) -> Result<(), Stopped>
     ensures { OnOk result ((input : List ℕ)
         × Consumes (reader_remaining R.remaining reader.old) (reader_remaining R.remaining reader.new) input
         × IsWhole (reader_remaining R.remaining reader.old) input
@@ -139,14 +139,11 @@ fn add_lines<R: Read, W: Write>(
             InputLine::End => return Ok(()),
         }
     }
-    Err(CommandError::Read)
+    Err(Stopped::Read)
 }
 
 /// Writes the bytes in the writer's buffer, if the next line is not wholly in the reader's.
-fn flush_before<R: Read, W: Write>(
-    reader: &BufReader<R>,
-    writer: &mut W,
-) -> Result<(), CommandError>
+fn flush_before<R: Read, W: Write>(reader: &BufReader<R>, writer: &mut W) -> Result<(), Stopped>
     ensures { Keeps (W.contents writer.old) (W.contents writer.new) }
 {
     if memchr(b'\n', reader.buffer()).is_some() {
@@ -156,11 +153,11 @@ fn flush_before<R: Read, W: Write>(
 }
 
 /// Writes the bytes in the writer's buffer.
-pub fn flush<W: Write>(writer: &mut W) -> Result<(), CommandError>
+pub fn flush<W: Write>(writer: &mut W) -> Result<(), Stopped>
     ensures { Keeps (W.contents writer.old) (W.contents writer.new) }
 {
     match writer.flush() {
         Ok(()) => Ok(()),
-        Err(_) => Err(CommandError::Write),
+        Err(_) => Err(Stopped::Write),
     }
 }

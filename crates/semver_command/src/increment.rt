@@ -6,6 +6,7 @@ ghost use Rattle.semver_command.specs.Arguments.{text_value};
 ghost use Rattle.semver_command.specs.Increment.{IsIdentifierGiven, IsIncremented, IsNoIdentifier, incremented_text, null_text};
 
 use crate::command_error::CommandError;
+use crate::stopped::Stopped;
 use crate::writing::{write_end, write_item, write_text};
 use node_semver::{Identifier, Version};
 use npm_semver::{Bump, BumpError, IdentifierBase, inc, read_identifier};
@@ -22,7 +23,7 @@ pub fn incremented(
 ) -> Result<Option<Version>, CommandError>
     ensures version { IfOk result (IsIncremented bump (text_value identifier.entry) base version.now) }
     ensures identifier { IsErrOf result CommandError.Identifier → IsNoIdentifier (text_value identifier.entry) }
-    ensures errors { IfErr result (λ error. error ≡ CommandError.Identifier ⊎ error ≡ CommandError.Memory) }
+    ensures errors { IfErr result (λ error. error ≡ CommandError.Identifier ⊎ error ≡ CommandError.Stopped Stopped.Memory) }
 {
     let given = given_identifier(alloc, identifier)?;
     match inc(alloc, version, bump, given.as_ref(), base) {
@@ -35,12 +36,12 @@ pub fn incremented(
 }
 
 /// Fails if an increment was not made since an allocation failed.
-fn refused(error: BumpError) -> Result<(), CommandError>
+fn refused(error: BumpError) -> Result<(), Stopped>
     ensures refused { IfOk result (λ _. error ≢ BumpError.OutOfMemory) }
-    ensures errors { IfErr result (λ e. e ≡ CommandError.Memory) }
+    ensures errors { IfErr result (λ e. e ≡ Stopped.Memory) }
 {
     match error {
-        BumpError::OutOfMemory => Err(CommandError::Memory),
+        BumpError::OutOfMemory => Err(Stopped::Memory),
         BumpError::NoIdentifier | BumpError::SameIdentifier | BumpError::NumberTooLarge => Ok(()),
     }
 }
@@ -51,7 +52,7 @@ pub fn write_incremented<W: Write>(
     writer: &mut W,
     version: Option<&Version>,
     is_json: bool,
-) -> Result<(), CommandError>
+) -> Result<(), Stopped>
     ensures { OnOk result (Appends (W.contents writer.old) (W.contents writer.new)
         (incremented_text is_json (option_map (λ v. v.now) version.entry))) }
 {
@@ -75,7 +76,7 @@ fn null_text(is_json: bool) -> &'static [u8]
 fn given_identifier(alloc: Global, text: Option<&str>) -> Result<Option<Identifier>, CommandError>
     ensures given { IfOk result (λ given. IsIdentifierGiven (text_value text.entry) (option_map value_of given)) }
     ensures refused { IsErrOf result CommandError.Identifier → IsNoIdentifier (text_value text.entry) }
-    ensures errors { IfErr result (λ error. error ≡ CommandError.Identifier ⊎ error ≡ CommandError.Memory) }
+    ensures errors { IfErr result (λ error. error ≡ CommandError.Identifier ⊎ error ≡ CommandError.Stopped Stopped.Memory) }
 {
     let Some(text) = text else {
         return Ok(None);
@@ -86,6 +87,6 @@ fn given_identifier(alloc: Global, text: Option<&str>) -> Result<Option<Identifi
     match read_identifier(alloc, text.as_bytes()) {
         Ok(Some(identifier)) => Ok(Some(identifier)),
         Ok(None) => Err(CommandError::Identifier),
-        Err(_) => Err(CommandError::Memory),
+        Err(_) => Err(CommandError::Stopped(Stopped::Memory)),
     }
 }

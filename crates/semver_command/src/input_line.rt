@@ -6,7 +6,7 @@ ghost use Rattle.std.specs.Io.Buffered.{reader_remaining};
 ghost use Rattle.semver_command.specs.Input.{HasNoNewline};
 ghost use Rattle.semver_command.specs.Private.Reading.{IsLineRead};
 
-use crate::command_error::CommandError;
+use crate::stopped::Stopped;
 use std::io::{BufRead, BufReader, ErrorKind, Read};
 
 /// What was read.
@@ -24,7 +24,7 @@ pub enum InputLine {
 pub fn read_line<R: Read>(
     reader: &mut BufReader<R>,
     line: &mut Vec<u8>,
-) -> Result<InputLine, CommandError>
+) -> Result<InputLine, Stopped>
     ensures { IfOk result (λ read. IsLineRead read line.new.items
         (reader_remaining R.remaining reader.old) (reader_remaining R.remaining reader.new)) }
 {
@@ -34,8 +34,8 @@ pub fn read_line<R: Read>(
         Ok(_) if take_newline(line) => Ok(InputLine::Ended),
         Ok(_) => Ok(InputLine::Last),
         Err(error) => Err(match error.kind() {
-            ErrorKind::OutOfMemory => CommandError::Memory,
-            _ => CommandError::Read,
+            ErrorKind::OutOfMemory => Stopped::Memory,
+            _ => Stopped::Read,
         }),
     }
 }

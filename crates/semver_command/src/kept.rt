@@ -7,7 +7,7 @@ ghost use Rattle.semver_command.specs.Listed.{IsBestOf, IsBetter};
 ghost use Rattle.semver_command.specs.Private.Gathering.{Adds, IsBest, IsKept};
 
 use crate::asked::Listing;
-use crate::command_error::CommandError;
+use crate::stopped::Stopped;
 use crate::writing::write_item;
 use node_semver::Version;
 use std::alloc::Global;
@@ -47,12 +47,12 @@ impl Kept {
         version: Version,
         is_json: bool,
         writer: &mut W,
-    ) -> Result<(), CommandError>
+    ) -> Result<(), Stopped>
         ensures { OnOk result (Adds is_json (version ∷ []) self.old self.new
             (W.contents writer.old) (W.contents writer.new)) }
     {
         match self {
-            Kept::All(versions) => versions.push(version).map_err(|_| CommandError::Memory)?,
+            Kept::All(versions) => versions.push(version).map_err(|_| Stopped::Memory)?,
             Kept::Least(best) => keep_best(best, version, true),
             Kept::Greatest(best) => keep_best(best, version, false),
             Kept::Written(is_first) => {

@@ -7,8 +7,8 @@ ghost use Rattle.semver_command.specs.Answer.{ending_of};
 ghost use Rattle.semver_command.specs.Lines.{listed_text};
 ghost use Rattle.semver_command.specs.Listed.{AreInOrder};
 
-use crate::command_error::CommandError;
 use crate::ending::Ending;
+use crate::stopped::Stopped;
 use crate::writing::{write_end, write_item};
 use node_semver::Version;
 use std::alloc::Global;
@@ -30,7 +30,7 @@ pub fn write_list<W: Write>(
     writer: &mut W,
     versions: &[Version],
     is_json: bool,
-) -> Result<Ending, CommandError>
+) -> Result<Ending, Stopped>
     ensures { IfOk result (λ ending. (ending ≡ ending_of versions.now)
         × Appends (W.contents writer.old) (W.contents writer.new) (listed_text is_json versions.now)) }
 {

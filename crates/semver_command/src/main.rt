@@ -25,6 +25,7 @@ mod ranges;
 mod refused_text;
 mod reply;
 mod set_lines;
+mod stopped;
 mod words;
 mod writing;
 mod written;
@@ -34,6 +35,7 @@ use ending::Ending;
 use reply::run;
 use std::io::{BufReader, BufWriter};
 use std::process::ExitCode;
+use stopped::Stopped;
 use words::words_of;
 
 /// How many bytes are read, or written, at once: what a pipe holds.
@@ -65,7 +67,7 @@ fn replied(rt: &HostRuntime) -> Result<Ending, CommandError> {
             let mut errors = rt.stderr();
             run(rt.alloc(), &words, &mut reader, &mut writer, &mut errors)
         },
-        _ => Err(CommandError::Memory),
+        _ => Err(CommandError::Stopped(Stopped::Memory)),
     }
 }
 

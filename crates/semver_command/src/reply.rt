@@ -1,8 +1,8 @@
 //! What the words of the command line and standard input are replied with.
-ghost use Rattle.std.specs.Prelude.{◌≡◌, IfOk, map, string_bytes};
+ghost use Rattle.std.specs.Prelude.{◌≡◌, IfOk, IsErrOf, map, string_bytes};
 ghost use Rattle.std.specs.Io.Buffered.{reader_remaining};
 ghost use Rattle.std.specs.Io.KnownBytes.{Appends};
-ghost use Rattle.semver_command.specs.Reply.{Replies};
+ghost use Rattle.semver_command.specs.Reply.{Refuses, Replies};
 
 use crate::answer::{answer, is_nothing};
 use crate::asked::read_arguments;
@@ -11,6 +11,7 @@ use crate::ending::Ending;
 use crate::explained::explain;
 use crate::gathered::flush;
 use crate::help::HELP;
+use crate::stopped::Stopped;
 use crate::writing::write_text;
 use std::alloc::Global;
 use std::io::{BufReader, Read, Write};
@@ -23,9 +24,7 @@ use std::io::{BufReader, Read, Write};
 /// # Errors
 ///
 /// - `Identifier`: there is an increment of one version, and the text after `--preid` is no identifier.
-/// - `Read`: reading from standard input failed.
-/// - `Write`: a write failed. A beginning of the text may have been written.
-/// - `Memory`: an allocation failed.
+/// - `Stopped`: reading from standard input, a write or an allocation failed. A beginning of the text may have been written.
 ///
 /// # Memory
 ///
@@ -51,9 +50,11 @@ pub fn run<R: Read, W: Write, E: Write>(
     writer: &mut W,
     errors: &mut E,
 ) -> Result<Ending, CommandError>
-    ensures { IfOk result (Replies (map string_bytes words.now) (reader_remaining R.remaining reader.old)
+    ensures reply { IfOk result (Replies (map string_bytes words.now) (reader_remaining R.remaining reader.old)
         (reader_remaining R.remaining reader.new) (W.contents writer.old) (W.contents writer.new)
         (E.contents errors.old) (E.contents errors.new)) }
+    ensures identifier { IsErrOf result CommandError.Identifier → Refuses (map string_bytes words.now)
+        (reader_remaining R.remaining reader.old) (reader_remaining R.remaining reader.new) }
 {
     let ending = reply(alloc, words, reader, writer, errors)?;
     flush(writer)?;
@@ -68,25 +69,27 @@ fn reply<R: Read, W: Write, E: Write>(
     writer: &mut W,
     errors: &mut E,
 ) -> Result<Ending, CommandError>
-    ensures { IfOk result (Replies (map string_bytes words.now) (reader_remaining R.remaining reader.old)
+    ensures reply { IfOk result (Replies (map string_bytes words.now) (reader_remaining R.remaining reader.old)
         (reader_remaining R.remaining reader.new) (W.contents writer.old) (W.contents writer.new)
         (E.contents errors.old) (E.contents errors.new)) }
+    ensures identifier { IsErrOf result CommandError.Identifier → Refuses (map string_bytes words.now)
+        (reader_remaining R.remaining reader.old) (reader_remaining R.remaining reader.new) }
 {
     if is_nothing(words) {
-        return help(writer);
+        return Ok(help(writer)?);
     }
     let asked = read_arguments(alloc, words)?;
     if asked.options.help {
-        return help(writer);
+        return Ok(help(writer)?);
     }
     if asked.options.explain {
-        return explain(alloc, &asked, writer, errors);
+        return Ok(explain(alloc, &asked, writer, errors)?);
     }
     answer(alloc, &asked, reader, writer)
 }
 
 /// Writes the text about the program.
-fn help<W: Write>(writer: &mut W) -> Result<Ending, CommandError>
+fn help<W: Write>(writer: &mut W) -> Result<Ending, Stopped>
     ensures { IfOk result (λ ending. (ending ≡ Ending.Written)
         × Appends (W.contents writer.old) (W.contents writer.new) HELP.now) }
 {

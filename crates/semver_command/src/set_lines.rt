@@ -10,8 +10,8 @@ ghost use Rattle.semver_command.specs.Explained as Explained;
 ghost use Rattle.semver_command.specs.Explained.{AreSetLines, IsNote};
 ghost use Rattle.semver_command.specs.Private.Explaining.{IsSetLine, Puts, releases_of};
 
-use crate::command_error::CommandError;
 use crate::opened::{Opened, opened_in};
+use crate::stopped::Stopped;
 use crate::writing::write_text;
 use node_semver::{Range, Version};
 use npm_semver::range_from_sets;
@@ -26,7 +26,7 @@ pub fn write_sets<W: Write>(
     writer: &mut W,
     range: &Range,
     include_prerelease: bool,
-) -> Result<(), CommandError>
+) -> Result<(), Stopped>
     ensures { OnOk result (Puts (AreSetLines include_prerelease range.now)
         (W.contents writer.old) (W.contents writer.new)) }
 {
@@ -40,7 +40,7 @@ fn write_lines<W: Write>(
     writer: &mut W,
     sets: &[Span<Version>],
     include_prerelease: bool,
-) -> Result<(), CommandError>
+) -> Result<(), Stopped>
     requires { AllByRecursion IsRangeSet sets.now }
     ensures { OnOk result (Puts (AreSetLines include_prerelease sets.now)
         (W.contents writer.old) (W.contents writer.new)) }
@@ -57,7 +57,7 @@ fn write_set<W: Write>(
     writer: &mut W,
     set: &Span<Version>,
     include_prerelease: bool,
-) -> Result<(), CommandError>
+) -> Result<(), Stopped>
     requires { IsRangeSet set.now }
     ensures { OnOk result (Puts (IsSetLine include_prerelease set.now) (W.contents writer.old) (W.contents writer.new)) }
 {
@@ -68,7 +68,7 @@ fn write_set<W: Write>(
 }
 
 /// Writes a line of comparators and a note.
-fn write_line<W: Write>(writer: &mut W, comparators: &[u8], note: &[u8]) -> Result<(), CommandError>
+fn write_line<W: Write>(writer: &mut W, comparators: &[u8], note: &[u8]) -> Result<(), Stopped>
     ensures { OnOk result (Appends (W.contents writer.old) (W.contents writer.new)
         (comparators.now ++ (codes "  " ++ (note.now ++ codes "\n")))) }
 {

@@ -1,5 +1,6 @@
 //! The words after the program's name.
 use crate::command_error::CommandError;
+use crate::stopped::Stopped;
 use command_lines::word_bytes;
 use std::alloc::Global;
 use std::env::Env;
@@ -13,7 +14,7 @@ pub fn words_of<E: Env>(alloc: Global, env: &E) -> Result<Vec<String>, CommandEr
             break;
         };
         match String::from_utf8(bytes) {
-            Ok(word) => words.push(word).map_err(|_| CommandError::Memory)?,
+            Ok(word) => words.push(word).map_err(|_| Stopped::Memory)?,
             Err(_) => return Err(CommandError::NoUtf8(place)),
         }
     }

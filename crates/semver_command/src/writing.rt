@@ -4,27 +4,23 @@ ghost use Rattle.std.specs.Io.KnownBytes.{Appends};
 ghost use Rattle.semver_texts.specs.Print.{version_text};
 ghost use Rattle.semver_command.specs.Lines.{array_end, array_mark, end_text, item_text, string_text};
 
-use crate::command_error::CommandError;
+use crate::stopped::Stopped;
 use node_semver::Version;
 use std::alloc::Global;
 use std::io::Write;
 
 /// Writes a text.
-pub fn write_text<W: Write>(writer: &mut W, text: &[u8]) -> Result<(), CommandError>
+pub fn write_text<W: Write>(writer: &mut W, text: &[u8]) -> Result<(), Stopped>
     ensures { OnOk result (Appends (W.contents writer.old) (W.contents writer.new) text.now) }
 {
     match writer.write_all(text) {
         Ok(()) => Ok(()),
-        Err(_) => Err(CommandError::Write),
+        Err(_) => Err(Stopped::Write),
     }
 }
 
 /// Writes a version.
-fn write_version<W: Write>(
-    alloc: Global,
-    writer: &mut W,
-    version: &Version,
-) -> Result<(), CommandError>
+fn write_version<W: Write>(alloc: Global, writer: &mut W, version: &Version) -> Result<(), Stopped>
     ensures { OnOk result (Appends (W.contents writer.old) (W.contents writer.new) (version_text version.now)) }
 {
     let text = format!(in alloc; "{version}")?;
@@ -32,11 +28,7 @@ fn write_version<W: Write>(
 }
 
 /// Writes a version as a string of JSON.
-fn write_string<W: Write>(
-    alloc: Global,
-    writer: &mut W,
-    version: &Version,
-) -> Result<(), CommandError>
+fn write_string<W: Write>(alloc: Global, writer: &mut W, version: &Version) -> Result<(), Stopped>
     ensures { OnOk result (Appends (W.contents writer.old) (W.contents writer.new) (string_text version.now)) }
 {
     write_text(writer, b"\"")?;
@@ -65,7 +57,7 @@ pub fn write_item<W: Write>(
     version: &Version,
     is_json: bool,
     is_first: bool,
-) -> Result<(), CommandError>
+) -> Result<(), Stopped>
     ensures { OnOk result (Appends (W.contents writer.old) (W.contents writer.new)
         (item_text is_json is_first version.now)) }
 {
@@ -78,11 +70,7 @@ pub fn write_item<W: Write>(
 }
 
 /// Writes the text after the last version, also if there is none.
-pub fn write_end<W: Write>(
-    writer: &mut W,
-    is_json: bool,
-    is_empty: bool,
-) -> Result<(), CommandError>
+pub fn write_end<W: Write>(writer: &mut W, is_json: bool, is_empty: bool) -> Result<(), Stopped>
     ensures { OnOk result (Appends (W.contents writer.old) (W.contents writer.new) (end_text is_json is_empty)) }
 {
     if is_json {

@@ -162,10 +162,8 @@ fn has_intersection_and_difference(
     below: &Option<Pair>,
     above: &Option<Pair>,
 ) -> bool {
-    let difference = one.difference(other);
-    are_ends(one.common(other), common)
-        && are_ends(difference.0, below)
-        && are_ends(difference.1, above)
+    let rest = one.rest(other);
+    are_ends(one.common(other), common) && are_ends(rest.0, below) && are_ends(rest.1, above)
 }
 
 #[test]

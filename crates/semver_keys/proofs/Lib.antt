@@ -2,6 +2,7 @@
 pub mod Growing
 pub mod NumberSteps
 pub mod IdentifierSteps
+pub mod KeyLengths
 pub mod NumberRules
 pub mod IdentifierRules
 pub mod VersionSteps

@@ -1,7 +1,12 @@
 -- The version that bytes are the key of.
-use Rattle.std.proofs.Common.{◌≡◌, ◌<◌, ◌^◌, ◌++◌, ℕ, List, [], sym, ap, ◌∙◌}
+use Rattle.std.proofs.Common.{◌≡◌, ◌<◌, ◌^◌, ◌++◌, ℕ, List, [], ◌∷◌, arith, refl, sym, ap, ◌∙◌}
+use Rattle.std.proofs.lemmas.List.{append-nil}
+use Rattle.std.specs.Ordering.{ordering_then}
+use Rattle.std.specs.declared.cmp.Ordering.{Ordering}
+use Rattle.std.specs.declared.cmp.Ordering.TheVariants.{Less, Equal, Greater}
 use Rattle.std.proofs.Common.{Option, Some, None, Result, Ok, Err, IfOk, IfSome, IfNone}
 use Rattle.semver_texts.specs.IdentifierValue.{IdentifierValue}
+use Rattle.semver_texts.specs.Comparison.{version_cmp}
 use Rattle.semver_texts.specs.Lemmas.Public.{Equal-version}
 use Rattle.semver_texts.specs.Order.{IsSame}
 use Rattle.semver_texts.specs.Version.{VersionValue, without_build}
@@ -10,8 +15,10 @@ use Rattle.semver_versions.specs.VersionSteps.{IsVersion}
 use Rattle.semver_keys.specs.IdentifierKey.{prerelease_key}
 use Rattle.semver_keys.specs.NumberKey.{number_key}
 use Rattle.semver_keys.specs.VersionKey.{HasWords, version_key}
+use Rattle.semver_keys.specs.KeyOrder.{key_cmp}
 use Rattle.semver_keys.specs.Lemmas.CutOrder.{versions-order}
-use Rattle.semver_keys.specs.VersionOfKey.{IsNoKey, IsVersionOfKey}
+use Rattle.semver_keys.specs.Lemmas.VersionOrder.{version-order}
+use Rattle.semver_keys.specs.VersionOfKey.{IsKeyOfRelease, IsNoKey, IsVersionOfKey}
 use Rattle.semver_keys.specs.Private.Reading.{BeginsWithNoNumber, BeginsWithNoTriple, IsNumberRead, IsOfNoPrerelease, IsPrereleaseOf, IsTripleRead}
 use Rattle.semver_keys.proofs.IdentifierReading.{words-of}
 use Rattle.semver_keys.proofs.Parted.{number-parted, same-tied}
@@ -73,6 +80,31 @@ same-version w v s b = λ i. record {
 pub read-back : (v w : VersionValue) → IsVersion v → IsVersionOfKey (version_key v) w → w ≡ without_build v
 read-back v w h k = same-version w v
     (Equal-version w v (sym (versions-order w v k.words (words-of_version v h)) ∙ same-tied _ _ k.key_is)) k.build
+
+-- ---- keys of releases, and keys that begin another
+
+-- after the three numbers of a release stands 255
+pub after-triple : (key : List ℕ) (t : Triple) (rest : List ℕ) → IsTripleRead key t rest → IsKeyOfRelease key
+    → rest ≡ 255 ∷ []
+unfolding version_key prerelease_key
+after-triple key t rest read is =
+    let v = is.version in
+    let one = number-parted v.major t.major _ _ is.words.major read.major (is.key_is ∙ sym read.whole) in
+    let two = number-parted v.minor t.minor _ _ is.words.minor read.minor one.1 in
+    let three = number-parted v.patch t.patch _ _ is.words.patch read.patch two.1 in
+    sym three.1 ∙ ap prerelease_key is.release
+
+-- bytes that are the same as none are none
+nothing-more : (o : Ordering) (rest : List ℕ) → ordering_then o (key_cmp rest []) ≡ Equal → rest ≡ []
+nothing-more o [] e = refl
+nothing-more Less (b ∷ bs) e = absurd (grind (arith, e))
+nothing-more Equal (b ∷ bs) e = absurd (grind (arith, e))
+nothing-more Greater (b ∷ bs) e = absurd (grind (arith, e))
+
+pub no-key-begins : (v w : VersionValue) (rest : List ℕ) → HasWords v → HasWords w
+    → version_key w ≡ version_key v ++ rest → rest ≡ []
+no-key-begins v w rest h k e = nothing-more (version_cmp v w) rest (sym (version-order v w rest [] h k)
+    ∙ same-tied _ _ (sym e ∙ sym (append-nil (version_key w))))
 
 -- ---- results
 

@@ -13,3 +13,10 @@ pub record IsVersionOfKey (key : List ℕ) (v : VersionValue) : Type 0 where
 -- they are the key of no version: of no numbers of 64 bits and identifiers with texts in UTF-8
 abbrev pub IsNoKey : List ℕ → Type 0
 IsNoKey key = (v : VersionValue) → IsVersion v → version_key v ≢ key
+
+-- they are the key of a release of three numbers of 64 bits
+pub record IsKeyOfRelease (key : List ℕ) : Type 0 where
+  pub version : VersionValue
+  pub words : HasWords version
+  pub release : version.pre_release ≡ []
+  pub key_is : version_key version ≡ key

@@ -1,5 +1,6 @@
 //! The keys of cuts.
-ghost use Rattle.std.specs.Prelude.{◌≡◌, IfOk, OnOk};
+ghost use Rattle.std.specs.Prelude.{◌≡◌, IfOk, IsOk, OnOk};
+ghost use Rattle.semver_cuts.specs.declared.cut.Cut.TheVariants.{Start};
 ghost use Rattle.semver_keys.specs.CutKey as Keys;
 ghost use Rattle.semver_keys.specs.CutKey.{HasCutWords};
 
@@ -27,6 +28,7 @@ use std::alloc::{AllocError, Global};
 pub fn cut_key(alloc: Global, cut: &Cut<Version>) -> Result<Vec<u8>, AllocError>
     ensures key { IfOk result (λ key. key.items ≡ Keys.cut_key cut.now) }
     ensures words { OnOk result (HasCutWords cut.now) }
+    ensures start { cut.now ≡ Start → IsOk result }
 {
     match cut {
         Cut::Start => Ok(Vec::new(alloc)),

@@ -17,6 +17,10 @@ mod number;
 mod read;
 mod version;
 
+/// The most bytes of the key of a version that a text writes. A text has at most 256, and that of `0.0.0a.a.a` and so on, as
+/// long as it may be, has a key of so many.
+pub const MAX_KEY_LENGTH: usize = 382;
+
 pub use cut::cut_key;
 pub use interval::{KeyInterval, range_intervals, range_intervals_with_prereleases};
 pub use read::version_of_key;

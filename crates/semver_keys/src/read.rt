@@ -1,8 +1,8 @@
 //! The versions of keys.
-ghost use Rattle.std.specs.Prelude.{◌≡◌, ◌↔◌, ◌∷◌, [], IfNone, IfOk, IfSome, IsTrue};
+ghost use Rattle.std.specs.Prelude.{◌≡◌, ◌↔◌, ◌∷◌, [], IfNone, IfOk, IfSome, IsOk, IsTrue};
 ghost use Rattle.semver_texts.specs.Identifier.{values_of};
 ghost use Rattle.semver_keys.specs.Private.Reading.{AreIdentifiersOf, BeginsWithNoTriple, IsOfNoIdentifiers, IsOfNoPrerelease, IsPrereleaseOf, IsTripleRead};
-ghost use Rattle.semver_keys.specs.VersionOfKey.{IsNoKey, IsVersionOfKey};
+ghost use Rattle.semver_keys.specs.VersionOfKey.{IsKeyOfRelease, IsNoKey, IsVersionOfKey};
 
 mod identifier;
 mod number;
@@ -36,6 +36,7 @@ use std::alloc::{AllocError, Global};
 pub fn version_of_key(alloc: Global, key: &[u8]) -> Result<Option<Version>, AllocError>
     ensures version { IfOk result (λ found. IfSome found (IsVersionOfKey key.now)) }
     ensures none { IfOk result (λ found. IfNone found (IsNoKey key.now)) }
+    ensures release { IsKeyOfRelease key.now → IsOk result }
 {
     let Some((triple, rest)) = read_triple(key) else {
         return Ok(None);
@@ -73,6 +74,7 @@ fn read_triple(key: &[u8]) -> Option<(Triple, &[u8])>
 fn read_prerelease(alloc: Global, key: &[u8]) -> Result<Option<Vec<Identifier>>, AllocError>
     ensures read { IfOk result (λ found. IfSome found (λ v. IsPrereleaseOf key.now (values_of v.items))) }
     ensures none { IfOk result (λ found. IfNone found (IsOfNoPrerelease key.now)) }
+    ensures release { key.now ≡ 255 ∷ [] → IsOk result }
 {
     if is_byte(key, 255) {
         return Ok(Some(Vec::new(alloc)));

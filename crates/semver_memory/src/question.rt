@@ -112,8 +112,8 @@ fn share_a_cut() -> bool {
         return false;
     };
     let common = one.common(&other) == Some((&Cut::Before(2), &Cut::After(3)));
-    let difference = one.difference(&other) == (Some((&Cut::Before(1), &Cut::Before(2))), None);
-    common && difference && one.contains(&1) && !other.contains(&1)
+    let rest = one.rest(&other) == (Some((&Cut::Before(1), &Cut::Before(2))), None);
+    common && rest && one.contains(&1) && !other.contains(&1)
 }
 
 /// Returns `true` if two spans that lie apart cover a part of one of them, and the part does not cover the two.

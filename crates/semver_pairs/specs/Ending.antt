@@ -1,7 +1,5 @@
 -- How the program ends.
-use Rattle.std.specs.Prelude.{ℕ, List, [], ◌++◌, codes}
-use Rattle.semver_pairs.specs.declared.exit.Line.{Line}
-use Rattle.semver_pairs.specs.declared.exit.Line.TheVariants as Lines
+use Rattle.std.specs.Prelude.{ℕ, List, ◌++◌, codes}
 use Rattle.semver_pairs.specs.declared.run_error.RunError.{RunError}
 use Rattle.semver_pairs.specs.declared.run_error.RunError.TheVariants.{Endless, Memory, Read, Write}
 
@@ -15,9 +13,3 @@ error_text Endless = codes "input does not end"
 -- the line on standard error for each error: `semver_pairs: read failed`
 abbrev pub error_line : RunError → List ℕ
 error_line error = codes "semver_pairs: " ++ error_text error
-
--- what a line prints
-abbrev pub line_of : Line → List ℕ
-line_of Lines.Empty = []
-line_of Lines.Arguments = codes "semver_pairs: takes no arguments"
-line_of (Lines.Stopped error) = error_line error.now

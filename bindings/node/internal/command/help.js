@@ -17,7 +17,8 @@ Options:
                       Example: semver --range '^1.2 || 3.x' 1.1.0 1.4.2 3.0.1
   -i, --inc, --increment [LEVEL]
                       Write the version after an increment: major, minor, patch, premajor, preminor, prepatch or
-                      prerelease. The default is patch. Of one version only, and with no range.
+                      prerelease, or null if there is none. The default is patch. Of one version only, and with no
+                      range.
                       Example: semver --inc minor 1.2.3
   --preid IDENTIFIER  Begin a new prerelease with this identifier.
                       Example: semver --inc prerelease --preid beta 1.2.3
@@ -49,9 +50,10 @@ Options:
                       A version, also if it looks like an option.
   -h, -?, --help      Write this text.
 
-The exit status is 0 if a version was written, 1 if none is valid and satisfies all ranges, and 2 if the program
-could not do what it was asked for, with a line on standard error. With --explain it is 1 if a RANGE is not valid;
-standard error then has a mark where it is wrong.
+The exit status is 0 if a version was written, or null for an increment, and 1 if none is valid and satisfies all
+ranges. With --explain it is 1 if a RANGE is not valid; standard error then has a mark where it is wrong. It is 1
+too, with a line on standard error, if --inc is given several versions or a range, or --explain a version. After
+any other error it is 2, with a line on standard error.
 `;
 
 module.exports = { HELP };

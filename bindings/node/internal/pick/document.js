@@ -7,18 +7,22 @@ const { own } = require('./members.js');
 
 // A text that JSON writes as it is.
 const PLAIN = /^[\w .+<>=~^|*-]*$/;
-const LONE_SURROGATE = /\\ud[89a-f]/i;
+// Half a character, which UTF-8 cannot write.
+const HALF = /[\ud800-\udbff](?![\udc00-\udfff])|(?<![\ud800-\udbff])[\udc00-\udfff]/g;
 
-// The form of a time in which registries write it: `2024-03-01T12:00:00.000Z`.
-const TIME_LENGTH = 24;
-const DAY_LENGTH = 10;
+// The form of a time in which registries write it: `2024-03-01T12:00:00.000Z`. Other times, and the last days of a month, which it
+// may not have, are written anew.
+const PLAIN_TIME = /^\d{4}-(?:0[1-9]|1[0-2])-(?:0[1-9]|1\d|2[0-8])T(?:[01]\d|2[0-3]):[0-5]\d:[0-5]\d\.\d{3}Z$/;
 // It is no time, so the library never takes it to be in time.
 const NO_TIME = '"-"';
 // The first and the last time that have four digits for the year.
 const FIRST = Date.parse('0000-01-01T00:00:00.000Z');
 const LAST = Date.parse('9999-12-31T23:59:59.999Z');
 
-const quoted = (text) => (PLAIN.test(text) ? `"${text}"` : JSON.stringify(text));
+const wellFormed = (text) => text.replace(HALF, '\ufffd');
+const quoted = (text) => (PLAIN.test(text) ? `"${text}"` : JSON.stringify(wellFormed(text)));
+// Whether a key can be written, and so whether a version can be picked by it.
+const isWritten = (key) => PLAIN.test(key) || wellFormed(key) === key;
 
 // The text of a time in milliseconds.
 const textOfTime = (time) => new Date(Math.min(Math.max(time, FIRST), LAST)).toISOString();
@@ -50,9 +54,8 @@ function versionsText(versions, keys, known) {
     let text = '';
     for (const key of keys) {
         const manifest = own(versions, key);
-        const name = quoted(key);
-        if (manifest && !LONE_SURROGATE.test(name)) {
-            text += `${text && ','}${name}:${manifestText(manifest, known)}`;
+        if (manifest && isWritten(key)) {
+            text += `${text && ','}${quoted(key)}:${manifestText(manifest, known)}`;
         }
     }
     return text;
@@ -69,7 +72,7 @@ function timeText(time, before) {
     if (before === null) {
         return '';
     }
-    const isPlain = time.length === TIME_LENGTH && time[DAY_LENGTH] === 'T' && time[TIME_LENGTH - 1] === 'Z';
+    const isPlain = typeof time === 'string' && PLAIN_TIME.test(time);
     return `"${isPlain ? time : textOfTime(instant)}"`;
 }
 
@@ -77,7 +80,7 @@ function timesText(times, keys, before) {
     let text = '';
     for (const key of keys) {
         const time = own(times, key);
-        const instant = time ? timeText(time, before) : '';
+        const instant = time && isWritten(key) ? timeText(time, before) : '';
         if (instant) {
             text += `${text && ','}${quoted(key)}:${instant}`;
         }

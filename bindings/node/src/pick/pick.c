@@ -85,11 +85,13 @@ static napi_value picked_of(napi_env env, const struct text *texts, const npm_pi
     if (picked.length <= KEY) {
         return marked(env, room, &picked);
     }
-    longer = malloc(1 + picked.length);
+    size_t length = picked.length;
+    longer = malloc(1 + length);
     if (longer == NULL) {
         return out_of_memory(env);
     }
-    status = call(texts, options, longer + 1, picked.length, &picked);
+    status = call(texts, options, longer + 1, length, &picked);
+    picked.length = length;
     napi_value result = status == NPM_PICK_OK ? marked(env, longer, &picked) : status_of(env, status);
     free(longer);
     return result;

@@ -56,6 +56,11 @@ class Picked(typing.NamedTuple):
     is_major: bool
 
 
+def _shown(text: str) -> str:
+    """The text for a terminal: a character that cannot be printed by its number, as repr has it."""
+    return "".join(c if c.isprintable() else c.encode("unicode_escape").decode("ascii") for c in text)
+
+
 class PickError(LookupError):
     """There is no version to be picked.
 
@@ -81,7 +86,7 @@ class PickError(LookupError):
         self._package = name
 
     def __str__(self) -> str:
-        return f"{self._package}{self._package and '@'}{self.wanted}: {_FAULTS[self.kind][1]}"
+        return f"{_shown(self._package)}{self._package and '@'}{_shown(self.wanted)}: {_FAULTS[self.kind][1]}"
 
 
 Picked.__module__ = PickError.__module__ = "node_semver"

@@ -28,6 +28,7 @@ LONG = "1.2.3-" + ".".join("a" * 20 for _ in range(11))  # its print needs more 
 VERSION, WANTED, OTHER = Version("1.2.3-rc.4+b.18446744073709551616"), Range("^1.2.3-rc.4 || >=3"), Range("<3.1.0-a.b")
 ASKED: List[Union[Version, str]] = [VERSION, "3.2.1-rc.4", "3.2.1"]
 SETS, EVERY = WANTED.sets, Range.parse_npm("*")
+hash(WANTED)
 LONGEST, MANY = Version("1.2.3" + "a" * 251), "||".join(f"^{n}.2.3-rc.{n}" for n in range(40))
 
 
@@ -92,6 +93,9 @@ CALLS: List[Tuple[Callable[[], object], int]] = [
     (lambda: pickle.loads(pickle.dumps(WANTED)), 4),
     (lambda: refused(lambda: pickle.dumps(LONGEST)), 3),
     (lambda: refused(lambda: Version("1.2")), 1),
+    (lambda: hash(VERSION), 1),
+    (lambda: hash(LONGEST), 1),
+    (lambda: hash(Range("^1.2.3-rc.4 || >=3")), 10),
     (lambda: refused(lambda: Version("1.2.9007199254740992")), 2),
     (lambda: refused(lambda: Range("latest")), 1),
     (lambda: refused(lambda: "no" in WANTED), 1),
@@ -105,7 +109,7 @@ PLAIN_CALLS: List[Callable[[], object]] = [
     lambda: VERSION in WANTED,
     lambda: WANTED.contains(VERSION),
     lambda: VERSION.compare_build(LONGEST),
-    lambda: (hash(VERSION), hash(WANTED)),
+    lambda: hash(WANTED),  # it is kept
     lambda: (VERSION == LONGEST, VERSION < LONGEST, WANTED == OTHER),
     lambda: VERSION.is_prerelease,
     lambda: refused(lambda: WANTED.sql("key", "")),

@@ -36,6 +36,10 @@ static const struct statement statements[] = {
     {"select group_concat(hex(lower) || '-' || hex(upper), ' ') from semver_intervals('1.2.3-rc.4 || ^3')",
      "01020302726300010400-0102030272630001040000 030000FF-040000010000 01020302726300010400-0102030272630001040000"},
     {"select count(*) from semver_intervals('^1 foo')", "semver_intervals: no range: NoValidRanges at byte 3"},
+    {"select range || max_bytes from semver_intervals('^1.2.3-rc.4', 99) where range = '^1.2.3-rc.4'", "^1.2.3-rc.499"},
+    {"select count(*) from semver_intervals", "semver_intervals: no range is given"},
+    {"select semver_satisfies('^1', '1.2.3', 1)", "semver_satisfies: no range: MaxLengthError at byte 1"},
+    {"select semver_satisfies('^1', '1.2.3', 2)", "1"},
 };
 
 static int passed, failed;
@@ -118,8 +122,8 @@ static size_t refuse_each(const char *extension, const struct statement *stateme
 /* A million alternatives `1`, and then `2`. */
 static void run_long(const char *extension) {
     static const struct statement asked[] = {
-        {"select semver_satisfies(replace(hex(zeroblob(1000000)), '00', '1||') || '2', '2.5.0')", "1"},
-        {"select semver_satisfies(replace(hex(zeroblob(1000000)), '00', '1||') || '2', '3.0.0')", "0"},
+        {"select semver_satisfies(replace(hex(zeroblob(1000000)), '00', '1||') || '2', '2.5.0', 9000000)", "1"},
+        {"select semver_satisfies(replace(hex(zeroblob(1000000)), '00', '1||') || '2', '3.0.0', 9000000)", "0"},
     };
     for (size_t i = 0; i < sizeof asked / sizeof asked[0]; i++) {
         run_refused(extension, &asked[i], 0, false);

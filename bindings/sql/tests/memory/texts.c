@@ -44,7 +44,7 @@ static char ask_satisfies(struct text range, struct text version) {
     node_semver_range read = NODE_SEMVER_EMPTY;
     struct failure failure;
     bool answer = false;
-    bool is_made = read_range(range, &read, &failure) && satisfies_text(&read, version, &answer, &failure);
+    bool is_made = read_range(range, MAX_RANGE_BYTES, &read, &failure) && satisfies_text(&read, version, &answer, &failure);
     node_semver_range_free(read);
     return told(is_made, answer, &failure);
 }
@@ -55,7 +55,7 @@ static char ask_intervals(struct text range, struct text version) {
     struct failure failure;
     char said = 'y';
     (void)version;
-    bool is_made = intervals_of_text(range, &intervals, &failure);
+    bool is_made = intervals_of_text(range, MAX_RANGE_BYTES, &intervals, &failure);
     for (size_t place = 0; is_made && place < node_semver_intervals_count(&intervals); place++) {
         struct key lower = {0}, upper = {0};
         if (!lower_key(&intervals, place, &lower)) {

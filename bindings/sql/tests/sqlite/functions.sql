@@ -13,7 +13,8 @@ select count(*) from semver_intervals('*');
 -- what has a NULL is NULL, and what has no range has no interval
 select semver_key(null), semver_is_prerelease(null), semver_satisfies(null, '1.2.3'), semver_satisfies('^1', null);
 select count(*) from semver_intervals(null);
-select count(*) from semver_intervals;
+select count(*) from semver_intervals('^1', null);
+select semver_satisfies('^1', '1.2.3', null);
 -- an order by key is that of the standard
 select group_concat(version, ' ') from (select column1 as version from (values ('1.0.0'), ('1.0.0-rc.1'), ('1.0.0-beta.11'),
     ('1.0.0-beta.2'), ('1.0.0-beta'), ('1.0.0-alpha.beta'), ('1.0.0-alpha.1'), ('1.0.0-alpha')) order by semver_key(column1));
@@ -42,6 +43,22 @@ select lower from semver_intervals('>=9007199254740992');
 -- a bad range that no row is asked about is not read; and one that follows a good one is
 select count(*) from (select '1.2.3' as version where 1 = 0) where semver_satisfies('^1 foo', version);
 select semver_satisfies(column1, '1.2.3') from (values ('^1'), ('^2'), ('^1'), ('^1 foo'));
+-- without a range there is an error, and no empty table
+select count(*) from semver_intervals;
+select count(*) from semver_intervals where range like '^1';
+select count(*) from semver_intervals where max_bytes = 9;
+-- a range has at most 65536 bytes, unless an argument says more; a blank before a comparator counts
+select semver_satisfies(printf('%65536s', '^1'), '1.2.3'), (select count(*) from semver_intervals(printf('%65536s', '^1')));
+select semver_satisfies(printf('%65537s', '^1'), '1.2.3');
+select count(*) from semver_intervals(printf('%65537s', '^1'));
+select semver_satisfies(printf('%65537s', '^1'), '1.2.3', 65537), (select count(*) from semver_intervals(printf('%65537s', '^1'), 65537));
+select semver_satisfies('^1', '1.2.3', 2), (select count(*) from semver_intervals('^1', 2));
+select semver_satisfies('^1', '1.2.3', 1);
+select count(*) from semver_intervals('^1', 1);
+select semver_satisfies('^1', '1.2.3', -1);
+select semver_satisfies('^1', '1.2.3', 'many');
+-- the limit is that of the row, also for a range that is kept
+select semver_satisfies('^1', '1.2.3', column1) from (values (3), (2), (1));
 -- wrong numbers of arguments
 select semver_key();
 select semver_satisfies('^1');
@@ -55,6 +72,35 @@ explain query plan select p.version from semver_intervals('^1') i cross join pac
     and semver_is_prerelease(p.version) = i.prereleases and semver_key(p.version) >= i.lower and semver_key(p.version) < i.upper;
 select p.version from semver_intervals('^1') i cross join packages p on p.name = 'one'
     and semver_is_prerelease(p.version) = i.prereleases and semver_key(p.version) >= i.lower and semver_key(p.version) < i.upper;
+-- the arguments are columns of each row: SQLite tests each condition but the one that gives the range
+select range, max_bytes, typeof(max_bytes) from semver_intervals('^1');
+select range, max_bytes from semver_intervals('^1 || ^3', 100);
+create table asked (range text);
+insert into asked values ('^1'), ('1.2.3 || ^3');
+select a.range, hex(i.lower) from asked a join semver_intervals(a.range) i on i.range = a.range;
+select hex(i.lower) from semver_intervals('^1') i join asked a on i.range = a.range;
+select a.range, hex(i.lower) from asked a join semver_intervals i on i.range = a.range where a.range = '^1';
+select count(*) from asked a join semver_intervals(a.range) i on i.range <> a.range;
+select hex(lower) from semver_intervals where range is '^1';
+select count(*) from semver_intervals where range is null;
+select count(*) from semver_intervals('^1') where range is null;
+select count(*) from semver_intervals where range in ('^1', '^2', '^3 || ^5');
+select count(*) from semver_intervals where range = '^1' or range = '^2 || ^4';
+select count(*) from asked a left join semver_intervals(nullif(a.range, '^1')) i;
+select hex(lower), range, typeof(range) from semver_intervals(x'5e31');
+select hex(lower), range, typeof(range) from semver_intervals(1);
 -- and the table of intervals is no table of the database
 create virtual table other using semver_intervals;
 insert into semver_intervals values (x'', x'', 0);
+-- the collation: the order of SemVer, in which builds count for nothing; texts that are no versions come first, by their bytes
+select group_concat(column1, ' ') from (select column1 from (values ('1.10.0'), ('1.9.0'), ('1.9.0-rc.2'), ('1.9.0-rc.10'), ('v1.0.0'),
+    ('1.9.0-rc'), ('latest'), ('10.0.0'), ('1.9'), ('')) order by column1 collate semver);
+select '1.2.3+a' = '1.2.3+b' collate semver, '1.2.3' < '1.2.10' collate semver, '1.2.3' < '1.2.10';
+select max(column1 collate semver), min(column1 collate semver) from (values ('1.9.0'), ('1.10.0'), ('1.9.0-a'));
+select '1.2.3' > 'v9' collate semver, '' < '1.2.3' collate semver, 'b' > 'a' collate semver, null = '1' collate semver;
+create table sorted (version text primary key collate semver);
+insert into sorted values ('1.10.0'), ('1.9.0'), ('1.9.0-rc.1');
+insert into sorted values ('1.9.0+build');
+select group_concat(version, ' ') from (select version from sorted order by version desc);
+explain query plan select version from sorted where version > '1.9' order by version;
+select group_concat(version, ' ') from (select version from sorted where version > '1.9.0-rc.1' order by version);

@@ -157,6 +157,18 @@ pub another_type_is_a_fault : IsFileFault installed (osv_of (item (element (code
     (Some (fault_at (codes "a") 0 (Some (id_text (codes "O"))) Faults.Type))
 another_type_is_a_fault is_version told = refl
 
+-- in a range without events no version can be
+pub no_event_is_a_fault : IsFileFault installed (osv_of (item (element (codes "npm")
+    (item (object (member (codes "events") (array no_items) (member (codes "type") (string (codes "SEMVER")) no_members)))
+    no_items)) no_items)) (Some (fault_at (codes "a") 0 (Some (id_text (codes "O"))) Faults.NoStart))
+no_event_is_a_fault is_version told = refl
+
+-- nor in an element with commits alone
+pub commits_are_no_versions : IsFileFault installed (osv_of (item (element (codes "npm")
+    (item (up_to (codes "GIT") (codes "2.0.0")) no_items)) no_items))
+    (Some (fault_at (codes "a") 0 (Some (id_text (codes "O"))) Faults.NoVersion))
+commits_are_no_versions is_version told = refl
+
 -- the second of a list has no `id`
 pub a_fault_has_its_place : IsFileFault installed (array (item in_osvs (item (only (codes "affected")
     (array (item (element (codes "npm") no_items) no_items))) no_items)))
@@ -219,6 +231,12 @@ no_advisory_under_any_name is_version told = refl
 pub osvs_form_under_a_name : IsFileFault [] (only (codes "vulns") (array (item (osv_of no_items) no_items)))
     (Some (fault_at (codes "vulns") 0 (Some (id_text (codes "O"))) Faults.OsvUnderName))
 osvs_form_under_a_name is_version told = refl
+
+-- nor in that of an answer of OSV's service: `{"vulns": [{"id": "O", "modified": ""}]}`
+pub no_member_under_any_name : IsFileFault [] (only (codes "vulns") (array (item (object (member (codes "id") (string (codes "O"))
+    (member (codes "modified") (string []) no_members))) no_items)))
+    (Some (fault_at (codes "vulns") 0 (Some (id_text (codes "O"))) Faults.NoMember))
+no_member_under_any_name is_version told = refl
 
 -- of `[{"id": 1, "title": 1}]` under `a` the title is a fault if `a` is installed
 abbrev untitled : Data

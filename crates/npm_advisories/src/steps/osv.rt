@@ -1,20 +1,21 @@
 //! Where in an OSV object a fault is.
-ghost use Rattle.std.specs.Prelude.{◌≡◌, ◌++◌, [], IfOk, OnOk, codes, is_some};
-ghost use Rattle.std.specs.Option.{option_or};
+ghost use Rattle.std.specs.Prelude.{◌≡◌, ◌++◌, [], IfOk, OnOk, is_some};
 ghost use Rattle.serde_json.specs.View.{items_view, view};
 ghost use Rattle.json_places.specs.Steps.{steps_seen};
 ghost use Rattle.npm_advisories.specs.FaultSteps as FaultSteps;
 ghost use Rattle.npm_advisories.specs.FaultSteps.{steps_among};
-ghost use Rattle.npm_advisory_files.specs.Faults.{first_fault, items_fault};
+ghost use Rattle.npm_advisory_files.specs.Faults.{first_fault};
 ghost use Rattle.npm_advisory_files.specs.OsvFaults as Faults;
 ghost use Rattle.npm_advisory_files.specs.Index.{has_name};
 ghost use Rattle.npm_advisory_files.specs.Private.VersionTest.{is_version};
-ghost use Rattle.npm_advisory_files.specs.declared.fault.FaultKind.TheVariants as Kinds;
 
 use crate::Result;
 use crate::steps::push_member;
 use json_places::Step;
-use npm_advisory_files::osv::affected::{has_versions, range_of, spans_of_range, spans_of_ranges};
+use npm_advisory_files::osv::affected::{
+    has_versions, range_of, spans_of_range, spans_of_ranges, spans_of_versions,
+};
+use npm_advisory_files::osv::events;
 use npm_advisory_files::osv::events::has_fault;
 use npm_advisory_files::osv::packages::npm_name;
 use npm_advisory_files::{FaultKind, Names, is_refused, items_at, listed_at};
@@ -81,8 +82,7 @@ fn has_affected_fault(alloc: Global, names: &Names<'_>, one: &Value) -> Result<b
 
 /// Whether the ranges or the versions of an element of `affected` have a fault.
 fn has_own_fault(alloc: Global, one: &Value) -> Result<bool>
-    ensures { IfOk result (λ has. has ≡ is_some (option_or (Faults.ranges_fault is_version (view one.now))
-        (items_fault (codes "versions") Kinds.Versions (view one.now)))) }
+    ensures { IfOk result (λ has. has ≡ is_some (Faults.element_fault is_version (view one.now))) }
 {
     match range_of(alloc, one) {
         Ok(_) => Ok(false),
@@ -98,12 +98,50 @@ fn push_in_affected<'v>(alloc: Global, steps: &mut Vec<Step<'v>>, one: &'v Value
     if npm_name(one).is_err() {
         return push_member(steps, one, "package");
     }
-    if !has_ranges_fault(alloc, one)? {
-        steps.push(Step::Member("versions"))?;
-        return Ok(());
+    if has_ranges_fault(alloc, one)? {
+        steps.push(Step::Member("ranges"))?;
+        return push_ranges(alloc, steps, listed_at(one, "ranges"));
     }
-    steps.push(Step::Member("ranges"))?;
-    push_ranges(alloc, steps, listed_at(one, "ranges"))
+    if has_versions_fault(alloc, one)? {
+        steps.push(Step::Member("versions"))?;
+        return push_version(steps, listed_at(one, "versions"));
+    }
+    Ok(())
+}
+
+/// Whether the versions of an element of `affected` have a fault.
+fn has_versions_fault(alloc: Global, one: &Value) -> Result<bool>
+    ensures { IfOk result (λ has. has ≡ is_some (Faults.versions_fault (view one.now))) }
+{
+    match items_at(one, "versions", FaultKind::Versions) {
+        Ok(versions) => have_versions_fault(alloc, versions),
+        Err(_) => Ok(true),
+    }
+}
+
+/// Whether one of these versions has a fault.
+fn have_versions_fault(alloc: Global, versions: &[Value]) -> Result<bool>
+    ensures { IfOk result (λ have. have
+        ≡ is_some (first_fault Faults.version_text_fault (items_view versions.now))) }
+{
+    match spans_of_versions(alloc, versions) {
+        Ok(_) => Ok(false),
+        Err(unread) => is_refused(unread),
+    }
+}
+
+/// Adds the step to the first of these versions that has a fault.
+fn push_version<'v>(steps: &mut Vec<Step<'v>>, versions: &'v [Value]) -> Result<()>
+    ensures { OnOk result (steps_seen steps.new.items ≡ steps_seen steps.old.items
+        ++ steps_among Faults.version_text_fault (λ value. []) 0 (items_view versions.now)) }
+{
+    for position in 0..versions.len() {
+        if !versions[position].is_string() {
+            steps.push(Step::Item(position))?;
+            return Ok(());
+        }
+    }
+    Ok(())
 }
 
 /// Whether the ranges of an element of `affected` have a fault.
@@ -150,8 +188,21 @@ fn push_in_range<'v>(alloc: Global, steps: &mut Vec<Step<'v>>, range: &'v Value)
     if has_versions(range).is_err() {
         return push_member(steps, range, "type");
     }
+    if !has_events_fault(alloc, range)? {
+        return push_member(steps, range, "events");
+    }
     steps.push(Step::Member("events"))?;
     push_event(alloc, steps, listed_at(range, "events"))
+}
+
+/// Whether `events` of a range is no list, or one of them has a fault.
+fn has_events_fault(alloc: Global, range: &Value) -> Result<bool>
+    ensures { IfOk result (λ has. has ≡ is_some (Faults.events_fault is_version (view range.now))) }
+{
+    match items_at(range, "events", FaultKind::Events) {
+        Ok(events) => events::have_fault(alloc, events),
+        Err(_) => Ok(true),
+    }
 }
 
 /// Adds the step to the first of these events that has a fault.

@@ -6,7 +6,7 @@ use std::alloc::Global;
 
 // A text, and its fault: its kind, the first installed package that the advisory is about, if there is one, its place and its
 // id. Those with no fault are read.
-const TEXTS: [(&str, &str); 21] = [
+const TEXTS: [(&str, &str); 22] = [
     ("[1]", "Advisory  0"),
     (
         r#"[{"id": "O", "affected": []}, {"id": 1, "affected": [{"package": {"ecosystem": "npm", "name": "a"}}]}]"#,
@@ -21,7 +21,7 @@ const TEXTS: [(&str, &str); 21] = [
         "Withdrawn a 0 O",
     ),
     (
-        r#"{"id": "O", "withdrawn": null, "affected": [{"package": {"ecosystem": "npm", "name": "b"}}]}"#,
+        r#"{"id": "O", "withdrawn": null, "affected": [{"package": {"ecosystem": "npm", "name": "b"}, "versions": ["2.0.0"]}]}"#,
         "",
     ),
     (
@@ -74,10 +74,15 @@ const TEXTS: [(&str, &str); 21] = [
         r#"{"id": "O", "affected": [{"package": {"ecosystem": "npm"}}]}"#,
         "Package  0 O",
     ),
+    // A package that is affected, and not in which versions.
+    (
+        r#"{"id": "O", "affected": [{"package": {"ecosystem": "npm", "name": "a"}}]}"#,
+        "NoVersion a 0 O",
+    ),
 ];
 
 // Members of an element of `affected`, and the fault.
-const MEMBERS: [(&str, &str); 13] = [
+const MEMBERS: [(&str, &str); 31] = [
     (r#""ranges": {}"#, "Ranges a 0 O"),
     (r#""ranges": [{"events": []}]"#, "Type a 0 O"),
     (
@@ -119,6 +124,59 @@ const MEMBERS: [(&str, &str); 13] = [
     // The error has the first of two faults.
     (r#""ranges": [{"type": 1}], "versions": 1"#, "Type a 0 O"),
     (r#""versions": "1.0.0""#, "Versions a 0 O"),
+    // A range in which no version can be: the OSV schema wants an `introduced` event.
+    (r#""ranges": [{"type": "SEMVER"}]"#, "NoStart a 0 O"),
+    (
+        r#""ranges": [{"type": "SEMVER", "events": null}]"#,
+        "NoStart a 0 O",
+    ),
+    (
+        r#""ranges": [{"type": "SEMVER", "events": []}]"#,
+        "NoStart a 0 O",
+    ),
+    (
+        r#""ranges": [{"type": "ECOSYSTEM", "events": [{"fixed": "4.17.21"}]}]"#,
+        "NoStart a 0 O",
+    ),
+    (
+        r#""ranges": [{"type": "SEMVER", "events": [{"limit": "1.5.0"}, {"last_affected": "1.0.0"}]}]"#,
+        "NoStart a 0 O",
+    ),
+    (
+        r#""ranges": [{"type": "SEMVER", "events": [{"introduced": "0"}]}, {"type": "SEMVER", "events": []}]"#,
+        "NoStart a 0 O",
+    ),
+    // The texts of events come first.
+    (
+        r#""ranges": [{"type": "SEMVER", "events": [{"fixed": "1"}]}]"#,
+        "Event a 0 O",
+    ),
+    // Neither ranges of versions nor versions.
+    (r#""ranges": null"#, "NoVersion a 0 O"),
+    (r#""ranges": [], "versions": []"#, "NoVersion a 0 O"),
+    (r#""versions": null"#, "NoVersion a 0 O"),
+    (
+        r#""ranges": [{"type": "GIT", "events": [{"introduced": "0"}]}]"#,
+        "NoVersion a 0 O",
+    ),
+    (
+        r#""ranges": [{"type": "GIT"}, {"type": "GIT"}], "versions": []"#,
+        "NoVersion a 0 O",
+    ),
+    // Nor a text that is one.
+    (
+        r#""versions": ["4.17.x", ">=1.0.0 <2.0.0"]"#,
+        "NoVersion a 0 O",
+    ),
+    (r#""versions": ["4.17.x", "=1.0.0"]"#, ""),
+    (r#""versions": ["", " v1.0.0 "]"#, ""),
+    // Items of `versions` that are no strings.
+    (r#""versions": [4.17]"#, "VersionText a 0 O"),
+    (
+        r#""versions": ["1.0.0", {"version": "4.17.20"}]"#,
+        "VersionText a 0 O",
+    ),
+    (r#""versions": ["1.0.0", null]"#, "VersionText a 0 O"),
 ];
 
 #[test]

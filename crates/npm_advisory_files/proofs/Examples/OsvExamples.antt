@@ -1,5 +1,5 @@
 -- Which versions some OSV ranges have, and which they have not.
-use Rattle.std.proofs.Common.{◌≡◌, ◌∙◌, ◌∷◌, [], List, Some, ap, arith, codes, inl, inr, length, refl, subst, sym}
+use Rattle.std.proofs.Common.{◌≡◌, ◌∙◌, ◌⊎◌, ◌∷◌, [], List, Some, ap, arith, codes, inl, inr, length, refl, subst, sym}
 use lib.Utf8.{encode}
 use Rattle.std.specs.Str.{chars}
 use Rattle.semver_cuts.specs.Ends.{IsCutAtMost, IsCutBelow}
@@ -10,7 +10,7 @@ use Rattle.node_semver.specs.Ranges.{AnyByRecursion}
 use Rattle.node_semver.specs.Versions.{IsVersionText, VersionValue, least_of, release, version_cmp}
 use Rattle.npm_texts.specs.InstalledVersions.{bare}
 use Rattle.npm_advisory_files.specs.ReadVersions.{IsReadAs, by_npm}
-use Rattle.npm_advisory_files.specs.OsvRanges.{Begins, EndsAt, EventValue, Introduces, IsDoubtful, IsInEvents, IsInOsv}
+use Rattle.npm_advisory_files.specs.OsvRanges.{Begins, EndsAt, EventValue, IsDoubtful, IsInEvents, IsInOsv, IsIntroducedAt}
 use Rattle.npm_advisory_files.specs.OsvRanges.{IsReachedBefore, LimitsAt, fixed, introduced, last_affected, limit}
 
 one : IsVersionText (codes "1.0.0") (release 1 0 0)
@@ -26,12 +26,16 @@ two = is-version_in _ _ (omega arith) refl
 abbrev events : List EventValue
 events = introduced (codes "1.0.0") ∷ fixed (codes "2.0.0") ∷ []
 
-introduced_at_one : (cut : Cut VersionValue) → AnyByRecursion (λ event. Introduces event cut) events
-    → cut ≡ Before (release 1 0 0)
-introduced_at_one cut (inl (inl zero)) = absurd (cc zero.0)
-introduced_at_one cut (inl (inr at)) = at.2 ∙ ap Before (one_reading _ at.0 (release 1 0 0) at.1 one)
-introduced_at_one cut (inr (inl none)) = absurd none
-introduced_at_one cut (inr (inr none)) = absurd none
+-- the fault is introduced at 1.0.0, and goes on behind it
+introduced_at_one : (cut : Cut VersionValue) → IsIntroducedAt events cut
+    → (cut ≡ Before (release 1 0 0)) ⊎ (cut ≡ After (release 1 0 0))
+introduced_at_one cut (inl (inl (inl zero))) = absurd (cc zero.0)
+introduced_at_one cut (inl (inl (inr at))) = inl (at.2 ∙ ap Before (one_reading _ at.0 (release 1 0 0) at.1 one))
+introduced_at_one cut (inl (inr (inl none))) = absurd none
+introduced_at_one cut (inl (inr (inr none))) = absurd none
+introduced_at_one cut (inr (inl behind)) = inr (behind.3 ∙ ap After (one_reading _ behind.0 (release 1 0 0) behind.1 one))
+introduced_at_one cut (inr (inr (inl none))) = absurd none
+introduced_at_one cut (inr (inr (inr none))) = absurd none
 
 ended_at_two : (cut : Cut VersionValue) → AnyByRecursion (λ event. EndsAt event cut) events
     → cut ≡ Before (release 2 0 0)
@@ -45,19 +49,22 @@ no_limit cut (inl none) = none
 no_limit cut (inr (inl none)) = none
 no_limit cut (inr (inr none)) = none
 
-no_doubt : (v : VersionValue) → ¬ IsDoubtful (λ cut. AnyByRecursion (λ event. Introduces event cut) events)
+no_doubt : (v : VersionValue) → ¬ IsDoubtful (IsIntroducedAt events)
     (λ cut. AnyByRecursion (λ event. EndsAt event cut) events) v
-no_doubt v is =
-    let at : Before v ≡ Before (release 1 0 0) = introduced_at_one (Before v) is.introduced in
-    let same : v ≡ release 1 0 0 = cc at in
-    elim (subst (λ w. IsCutAtMost version_cmp (Before (release 2 0 0)) (After w)) same
-    (subst (λ c. IsCutAtMost version_cmp c (After v)) (ended_at_two is.end is.ended) is.here)) [
-      | inl less ↦ cc less
-      | inr equal ↦ cc equal
-    ]
+no_doubt v is = elim (introduced_at_one (Before v) is.introduced) [
+  | inl at ↦
+      let same : v ≡ release 1 0 0 = cc at in
+      elim (subst (λ w. IsCutAtMost version_cmp (Before (release 2 0 0)) (After w)) same
+      (subst (λ c. IsCutAtMost version_cmp c (After v)) (ended_at_two is.end is.ended) is.here)) [
+        | inl less ↦ cc less
+        | inr equal ↦ cc equal
+      ]
+  | inr behind ↦ cc behind
+]
 
-begins_at_one : (cut : Cut VersionValue) → Begins (λ cut. AnyByRecursion (λ event. Introduces event cut) events)
-    (λ cut. AnyByRecursion (λ event. EndsAt event cut) events) cut → cut ≡ Before (release 1 0 0)
+begins_at_one : (cut : Cut VersionValue) → Begins (IsIntroducedAt events)
+    (λ cut. AnyByRecursion (λ event. EndsAt event cut) events) cut
+    → (cut ≡ Before (release 1 0 0)) ⊎ (cut ≡ After (release 1 0 0))
 begins_at_one cut (inl here) = introduced_at_one cut here
 begins_at_one cut (inr again) = absurd (no_doubt again.0 again.1)
 
@@ -66,7 +73,7 @@ between : (v : VersionValue) → IsCutAtMost version_cmp (Before (release 1 0 0)
     → IsCutBelow version_cmp (Before v) (Before (release 2 0 0)) → IsInEvents events v
 between v from before = record {
   from = Before (release 1 0 0);
-  begins = inl (inl (inr (release 1 0 0, one, refl)));
+  begins = inl (inl (inl (inr (release 1 0 0, one, refl))));
   reached = from;
   lasts = λ end some later. subst (IsCutBelow version_cmp (Before v)) (sym (ended_at_two end some)) before;
   limited = inl no_limit;
@@ -83,16 +90,23 @@ pub a_prerelease_of_the_fixed_version_is_hit : IsInEvents events (least_of 2 0 0
 a_prerelease_of_the_fixed_version_is_hit = between (least_of 2 0 0) (inl refl) refl
 
 pub an_earlier_version_is_not_hit : ¬ IsInEvents events (release 0 9 0)
-an_earlier_version_is_not_hit is =
-    elim (subst (λ c. IsCutAtMost version_cmp c (Before (release 0 9 0))) (begins_at_one is.from is.begins) is.reached) [
-      | inl less ↦ cc less
-      | inr equal ↦ cc equal
-    ]
+an_earlier_version_is_not_hit is = elim (begins_at_one is.from is.begins) [
+  | inl at ↦ elim (subst (λ c. IsCutAtMost version_cmp c (Before (release 0 9 0))) at is.reached) [
+    | inl less ↦ cc less
+    | inr equal ↦ cc equal
+  ]
+  | inr behind ↦ elim (subst (λ c. IsCutAtMost version_cmp c (Before (release 0 9 0))) behind is.reached) [
+    | inl less ↦ cc less
+    | inr equal ↦ cc equal
+  ]
+]
 
 pub the_fixed_version_is_not_hit : ¬ IsInEvents events (release 2 0 0)
 the_fixed_version_is_not_hit is =
-    let later : IsCutBelow version_cmp is.from (Before (release 2 0 0)) =
-    subst (λ c. IsCutBelow version_cmp c (Before (release 2 0 0))) (sym (begins_at_one is.from is.begins)) refl in
+    let later : IsCutBelow version_cmp is.from (Before (release 2 0 0)) = elim (begins_at_one is.from is.begins) [
+      | inl at ↦ subst (λ c. IsCutBelow version_cmp c (Before (release 2 0 0))) (sym at) refl
+      | inr behind ↦ subst (λ c. IsCutBelow version_cmp c (Before (release 2 0 0))) (sym behind) refl
+    ] in
     cc (is.lasts (Before (release 2 0 0)) (inr (inl (release 2 0 0, two, refl))) later)
 
 -- ---- `last_affected` 2.0.0
@@ -107,7 +121,7 @@ until_two = introduced (codes "1.0.0") ∷ last_affected (codes "2.0.0") ∷ []
 pub the_last_affected_version_is_hit : IsInEvents until_two (release 2 0 0)
 the_last_affected_version_is_hit = record {
   from = Before (release 1 0 0);
-  begins = inl (inl (inr (release 1 0 0, one, refl)));
+  begins = inl (inl (inl (inr (release 1 0 0, one, refl))));
   reached = inl refl;
   lasts = λ end some later. elim some [
     | inl none ↦ absurd none
@@ -127,13 +141,13 @@ the_last_affected_version_is_hit = record {
 
 -- `introduced` 1.0.0 and 2.0.0, and `last_affected` 2.0.0: the end may be that of 1.0.0 alone
 abbrev doubtful : List EventValue
-doubtful = introduced (codes "1.0.0") ∷ last_affected (codes "2.0.0") ∷ introduced (codes "2.0.0") ∷ []
+doubtful = introduced (codes "1.0.0") ∷ introduced (codes "2.0.0") ∷ last_affected (codes "2.0.0") ∷ []
 
 ended_once : (cut : Cut VersionValue) → AnyByRecursion (λ event. EndsAt event cut) doubtful
     → cut ≡ After (release 2 0 0)
 ended_once cut (inl none) = absurd none
-ended_once cut (inr (inl at)) = last_at_two cut at
-ended_once cut (inr (inr (inl none))) = absurd none
+ended_once cut (inr (inl none)) = absurd none
+ended_once cut (inr (inr (inl at))) = last_at_two cut at
 ended_once cut (inr (inr (inr none))) = absurd none
 
 pub a_later_version_is_hit_where_an_end_is_doubtful : IsInEvents doubtful (release 2 5 0)
@@ -142,14 +156,14 @@ a_later_version_is_hit_where_an_end_is_doubtful = record {
   begins = inr (
     release 2 0 0,
     record {
-      introduced = inr (inr (inl (inr (release 2 0 0, two, refl))));
+      introduced = inl (inr (inl (inr (release 2 0 0, two, refl))));
       end = After (release 2 0 0);
-      ended = inr (inl (release 2 0 0, two, refl));
+      ended = inr (inr (inl (release 2 0 0, two, refl)));
       later = refl;
       here = inr refl;
       reached = record {
         from = Before (release 1 0 0);
-        introduced = inl (inr (release 1 0 0, one, refl));
+        introduced = inl (inl (inr (release 1 0 0, one, refl)));
         before = refl;
         lasts = λ end some later.
             subst (IsCutBelow version_cmp (Before (release 2 0 0))) (sym (ended_once end some)) refl;
@@ -176,15 +190,17 @@ a_later_version_is_hit_where_an_end_is_doubtful = record {
 abbrev alone : List EventValue
 alone = introduced (codes "2.0.0") ∷ last_affected (codes "2.0.0") ∷ []
 
-introduced_at_two : (cut : Cut VersionValue) → AnyByRecursion (λ event. Introduces event cut) alone
-    → cut ≡ Before (release 2 0 0)
-introduced_at_two cut (inl (inl zero)) = absurd (cc zero.0)
-introduced_at_two cut (inl (inr at)) = at.2 ∙ ap Before (one_reading _ at.0 (release 2 0 0) at.1 two)
-introduced_at_two cut (inr (inl none)) = absurd none
-introduced_at_two cut (inr (inr none)) = absurd none
+introduced_at_two : (cut : Cut VersionValue) → IsIntroducedAt alone cut → cut ≡ Before (release 2 0 0)
+introduced_at_two cut (inl (inl (inl zero))) = absurd (cc zero.0)
+introduced_at_two cut (inl (inl (inr at))) = at.2 ∙ ap Before (one_reading _ at.0 (release 2 0 0) at.1 two)
+introduced_at_two cut (inl (inr (inl none))) = absurd none
+introduced_at_two cut (inl (inr (inr none))) = absurd none
+introduced_at_two cut (inr (inl behind)) = absurd (cc behind.2)
+introduced_at_two cut (inr (inr (inl none))) = absurd none
+introduced_at_two cut (inr (inr (inr none))) = absurd none
 
 -- no other fault is introduced before it
-never_reached : ¬ IsReachedBefore (λ cut. AnyByRecursion (λ event. Introduces event cut) alone)
+never_reached : ¬ IsReachedBefore (IsIntroducedAt alone)
     (λ cut. AnyByRecursion (λ event. EndsAt event cut) alone) (Before (release 2 0 0))
 never_reached is = cc (subst (λ c. IsCutBelow version_cmp c (Before (release 2 0 0)))
     (introduced_at_two is.from is.introduced) is.before)
@@ -197,9 +213,43 @@ a_version_alone_has_no_later_one is = elim is.begins [
       cc (is.lasts (After (release 2 0 0)) (inr (inl (release 2 0 0, two, refl))) later)
   | inr again ↦
       let at : Before again.0 ≡ Before (release 2 0 0) = introduced_at_two (Before again.0) again.1.introduced in
-      never_reached (subst (IsReachedBefore (λ cut. AnyByRecursion (λ event. Introduces event cut) alone)
+      never_reached (subst (IsReachedBefore (IsIntroducedAt alone)
       (λ cut. AnyByRecursion (λ event. EndsAt event cut) alone)) at again.1.reached)
 ]
+
+-- Listed the other way, the end comes before what is introduced: `last_affected` 1.0.0, `introduced` 1.0.0, and then
+-- `last_affected` 2.0.0
+abbrev turned : List EventValue
+turned = last_affected (codes "1.0.0") ∷ introduced (codes "1.0.0") ∷ last_affected (codes "2.0.0") ∷ []
+
+pub a_later_version_is_hit_where_an_end_is_listed_first : IsInEvents turned (release 1 5 0)
+a_later_version_is_hit_where_an_end_is_listed_first = record {
+  from = After (release 1 0 0);
+  begins = inl (inr (inr (inl (release 1 0 0, one, refl, refl))));
+  reached = inl refl;
+  lasts = λ end some later. elim some [
+    | inl at ↦
+        let here : end ≡ After (release 1 0 0) = at.2 ∙ ap After (one_reading _ at.0 (release 1 0 0) at.1 one) in
+        absurd (cc (subst (IsCutBelow version_cmp (After (release 1 0 0))) here later))
+    | inr rest ↦ elim rest [
+      | inl none ↦ absurd none
+      | inr more ↦ elim more [
+        | inl at ↦ subst (IsCutBelow version_cmp (Before (release 1 5 0))) (sym (last_at_two end at)) refl
+        | inr none ↦ absurd none
+      ]
+    ]
+  ];
+  limited = inl (λ cut some. elim some [
+    | inl none ↦ none
+    | inr rest ↦ elim rest [
+      | inl none ↦ none
+      | inr more ↦ elim more [
+        | inl none ↦ none
+        | inr none ↦ none
+      ]
+    ]
+  ]);
+}
 
 -- ---- `introduced` 1.0.0 and `limit` 2.0.0
 
@@ -216,7 +266,7 @@ limit_at_two cut (inr (inr none)) = absurd none
 pub a_version_before_a_limit_is_hit : IsInEvents limited_at_two (release 1 5 0)
 a_version_before_a_limit_is_hit = record {
   from = Before (release 1 0 0);
-  begins = inl (inl (inr (release 1 0 0, one, refl)));
+  begins = inl (inl (inl (inr (release 1 0 0, one, refl))));
   reached = inl refl;
   lasts = λ end some later. absurd (elim some [
     | inl none ↦ none

@@ -8,7 +8,8 @@ use Rattle.node_semver.specs.Cuts.{After, Before, Cut, End}
 use Rattle.node_semver.specs.Ranges.{AnyByRecursion, IsRangeCut}
 use Rattle.node_semver.specs.Versions.{VersionValue, version_cmp}
 use Rattle.npm_advisory_files.specs.OsvFaults.{has_place}
-use Rattle.npm_advisory_files.specs.OsvRanges.{EndsAt, EventValue, Introduces, IsBeforeLimits, IsBetween, IsDoubtful, Lasts}
+use Rattle.npm_advisory_files.specs.OsvRanges.{EndsAt, EventValue, GoesOn, GoesOnBehind, Introduces, IsBeforeLimits, IsBetween}
+use Rattle.npm_advisory_files.specs.OsvRanges.{IsDoubtful, IsIntroducedAt, Lasts}
 use Rattle.npm_advisory_files.specs.OsvRanges.{LimitsAt, fixed, introduced, last_affected, limit}
 use Rattle.npm_advisory_files.specs.Private.VersionTest.{is_version}
 use Rattle.npm_advisory_files.specs.declared.fault.FaultKind.{FaultKind}
@@ -61,6 +62,24 @@ pub record AreMarks (events : List EventValue) (marks : Marks) : Type 0 where
   pub starts : AreCuts Introduces events marks.starts.items
   pub ends : AreCuts EndsAt events marks.ends.items
   pub limits : AreCuts LimitsAt events marks.limits.items
+
+-- these are the cuts behind versions where faults go on, and each of them can be an end of a range
+pub record AreGoingOn (events : List EventValue) (cuts : List (Cut VersionValue)) : Type 0 where
+  pub same : (cut : Cut VersionValue) → GoesOn events cut ↔ Contains cuts cut
+  pub each : (cut : Cut VersionValue) → Contains cuts cut → IsRangeCut cut
+
+-- this is such a cut of an event, or there is none
+abbrev pub IsGoingOn : Option EventValue → (others : List EventValue) → Option (Cut VersionValue) → Type 0
+IsGoingOn None others cut = cut ≡ None
+IsGoingOn (Some event) others None = (cut : Cut VersionValue) → ¬ GoesOnBehind event others cut
+IsGoingOn (Some event) others (Some cut) = GoesOnBehind event others cut × IsRangeCut cut
+
+-- the marks are those of the events, and behind versions where faults go on
+pub record AreRangeMarks (events : List EventValue) (marks : Marks) : Type 0 where
+  pub starts : (cut : Cut VersionValue) → IsIntroducedAt events cut ↔ Contains marks.starts.items cut
+  pub ends : AreCuts EndsAt events marks.ends.items
+  pub limits : AreCuts LimitsAt events marks.limits.items
+  pub cuts : (cut : Cut VersionValue) → Contains marks.starts.items cut → IsRangeCut cut
 
 -- each cut of the marks can be an end of a range
 pub record HasRangeCuts (marks : Marks) : Type 0 where

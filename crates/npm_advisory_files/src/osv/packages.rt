@@ -11,6 +11,7 @@ use crate::Result;
 use crate::fault::FaultKind;
 use crate::member::text_at;
 use crate::names::Names;
+use crate::severity::is_word;
 use serde_json::Value;
 
 /// The elements of `affected`, which say which packages an OSV object is about.
@@ -98,7 +99,7 @@ pub fn npm_name(one: &Value) -> Result<Option<&str>, FaultKind>
         return Ok(None);
     }
     match (text_at(package, "ecosystem"), text_at(package, "name")) {
-        (Some("npm"), Some(name)) => Ok(Some(name)),
+        (Some(ecosystem), Some(name)) if is_word(ecosystem, "npm") => Ok(Some(name)),
         (Some(_), Some(_)) => Ok(None),
         _ => Err(FaultKind::Package),
     }

@@ -64,16 +64,16 @@ no_slash (b ∷ text) none zero small is = let never = rw is at none in cc never
 no_slash (b ∷ text) none (suc i) small is = no_slash text (both_true (not (b == 47)) _ none) i (omega (arith, small)) is
 
 nowhere_found : IsFound packages (codes "a") (codes "node_modules/p") None
-nowhere_found = above _ (codes "node_modules") None (inr refl)
+nowhere_found = above _ (codes "node_modules") None (inr (inr refl))
     (record { inside = refl; name = codes "p"; one_part = no_slash (codes "p") refl; whole = inl refl })
-    (above _ [] None (inl refl)
+    (above _ [] None (inr (inl refl))
     (record {
       inside = refl;
       name = codes "node_modules";
       one_part = no_slash (codes "node_modules") refl;
       whole = inr (refl, (λ no. cc no), refl);
     })
-    (nowhere _ (inr refl) (inl refl)))
+    (nowhere _ (inr (inr refl)) (inl refl)))
 
 -- ---- the findings
 

@@ -21,6 +21,18 @@ slashes_at_the_start = by-written _ _
 pub a_dot_after_a_slash : IsByPatterns (codes "w") (one (codes "/./w")) IsNot
 a_dot_after_a_slash = by-written _ _
 
+pub up_after_a_folder : IsByPatterns (codes "w") (one (codes "a/../w")) Unread
+up_after_a_folder = by-written _ _
+
+pub up_at_the_start : IsByPatterns (codes "../w") (one (codes "../*")) Is
+up_at_the_start = by-written _ _
+
+pub two_slashes : IsByPatterns (codes "a/w") (one (codes "a//w")) Unread
+two_slashes = by-written _ _
+
+pub a_mark_for_any_letter : IsByPatterns (codes "w") (one (codes "?")) Unread
+a_mark_for_any_letter = by-written _ _
+
 pub another_folder : IsByPatterns (codes "v") (one (codes "w")) IsNot
 another_folder = by-written _ _
 

@@ -6,7 +6,8 @@ use Rattle.std.specs.Option.{option_map_or}
 use Rattle.serde_json.specs.Data.{Data, Items, item, no_items}
 use Rattle.serde_json.specs.Find.{as_str}
 use Rattle.npm_texts.specs.Texts.{rest_after, without_end}
-use Rattle.npm_lock.specs.PatternGrammar.{is_glob_byte}
+use Rattle.npm_lock.specs.PatternGrammar.{is_glob_byte, is_left_out, parts_of, turns}
+use Rattle.npm_packages.specs.Folders.{below_up}
 use Rattle.npm_lock.specs.Workspaces.{pattern_of, patterns_of, texts_of}
 use Rattle.npm_lock.specs.declared.workspace.Workspace.{Workspace}
 use Rattle.npm_lock.specs.declared.workspace.Workspace.TheVariants.{Is, IsNot, Unread}
@@ -28,6 +29,14 @@ is_whole stem = (length stem == 0) || ends_with nat_eq stem (codes "/")
 abbrev pub is_read : (pattern : List ℕ) → Bool
 is_read pattern = not (has_glob_byte (stem_of pattern))
     && (if ends_with nat_eq pattern (codes "*") then is_whole (stem_of pattern) else not (is_whole (stem_of pattern)))
+
+-- the pattern is read, and matches the paths that it says
+abbrev pub is_literal : (pattern : List ℕ) → Bool
+is_literal pattern = is_read pattern && not (turns (parts_of pattern))
+
+-- Parts of a pattern, of which each `..` at the start leads up if `may_lead_up`: one is empty, or another `..`.
+abbrev pub are_turned : (may_lead_up : Bool) → (parts : List (List ℕ)) → Bool
+are_turned may_lead_up parts = list_any is_left_out (if may_lead_up then below_up parts else parts)
 
 -- A part begins with a dot: `.git` in `a/.git`. `is_start` says that a part begins at the first byte.
 abbrev pub has_dot_part : (is_start : Bool) → (path : List ℕ) → Bool
@@ -80,7 +89,11 @@ abbrev pub read_patterns : (root : Data) → Option (List (List ℕ))
 read_patterns root = option_map_or (λ patterns. if has_unread patterns then None else Some (texts_of patterns))
     (patterns_of root) (Some [])
 
--- whether the folder is a workspace, by these patterns. If one is not read, that is not known.
+-- one of them is not read, or matches other paths than it says
+abbrev pub has_unknown : Items → Bool
+has_unknown patterns = any_item (λ pattern. not (is_such is_literal pattern)) patterns
+
+-- whether the folder is a workspace, by these patterns, if that is known
 abbrev pub by_patterns : (folder : List ℕ) → Items → Workspace
-by_patterns folder patterns = if has_unread patterns then Unread
+by_patterns folder patterns = if has_unknown patterns then Unread
     else (if has_matched folder patterns then Is else IsNot)

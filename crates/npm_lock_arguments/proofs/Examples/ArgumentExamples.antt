@@ -4,7 +4,7 @@ use Rattle.command_options.specs.Given.{is_among}
 use Rattle.command_options.specs.declared.given.Shown.TheVariants.{Help, Version}
 use Rattle.npm_advisory_files.specs.declared.severity.Severity.TheVariants.{High}
 use Rattle.npm_lock.specs.declared.problem.Kind.TheVariants.{Engine, Invalid, Missing, PeerLocal}
-use Rattle.npm_lock_arguments.specs.Arguments.{ArgumentsValue, asked_by, files_of, many_files, no_kind, no_severity, no_value, read_arguments, second_input, unknown_option}
+use Rattle.npm_lock_arguments.specs.Arguments.{ArgumentsValue, asked_by, files_of, many_files, no_kind, no_severity, no_value, read_arguments, second_input, twice, unknown_option}
 use Rattle.npm_lock_arguments.specs.Arguments.{kind_words, kinds_of}
 use Rattle.npm_lock_file_checks.specs.Kinds.{has}
 use Rattle.npm_lock_reports.specs.declared.format.ReportFormat.TheVariants.{Json}
@@ -124,6 +124,16 @@ a_file_with_an_equals_sign = refl
 pub a_word_with_a_value_is_a_value : read_arguments (codes "--manifest" ∷ codes "--node=20" ∷ [])
     ≡ Ok (record nothing_asked { manifest = Some (codes "--node=20") })
 a_word_with_a_value_is_a_value = refl
+
+-- ---- a file that is read is given once
+
+pub two_files_of_advisories : read_arguments (codes "--advisories" ∷ codes "a.json" ∷ codes "--advisories=b.json" ∷ [])
+    ≡ Err (twice (codes "--advisories"))
+two_files_of_advisories = refl
+
+pub two_manifests : read_arguments (codes "--manifest" ∷ codes "a" ∷ codes "a.json" ∷ codes "--manifest" ∷ codes "a" ∷ [])
+    ≡ Err (twice (codes "--manifest"))
+two_manifests = refl
 
 -- ---- the last of two
 

@@ -32,6 +32,13 @@ pub another_version : sentence (record {
 }) ≡ codes "a 1.0.0 does not satisfy ^2, which b 3.0.0 asks for (node_modules/b)"
 another_version = refl
 
+-- a line begins with no command to a runner
+pub a_command : sentence (record {
+  kind = Missing;
+  dependency = record (on_a [] None (codes "1") None) { name = codes "::error::b" };
+}) ≡ codes "\\x3a:error::b is not installed, so nothing satisfies 1, which the root asks for"
+a_command = refl
+
 -- packages without a version, and the empty spec
 pub no_version : sentence (record { kind = PeerLocal; dependency = on_a (codes "b") None [] None })
     ≡ codes "a is installed inside the package that has it as a peer: \"\", which b asks for"

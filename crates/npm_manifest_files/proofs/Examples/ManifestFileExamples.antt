@@ -1,12 +1,12 @@
 -- What the definitions say of manifests on disk.
-use Rattle.std.proofs.Common.{◌≡◌, ◌∷◌, ℕ, List, [], Result, Ok, codes, refl}
+use Rattle.std.proofs.Common.{◌≡◌, ◌∷◌, ℕ, List, [], Result, Ok, ap, arith, codes, length, refl}
 use Rattle.serde_json.specs.Data.{Data, member, no_members, object, string}
 use Rattle.serde_json.specs.View.{view}
 use Rattle.serde_json.specs.declared.value.Value.{Value}
 use Rattle.npm_lock_reports.specs.Unread.{manifest_in, workspaces_on_disk}
 use Rattle.npm_manifest_files.specs.Linked.{AreRead, LinkedValue, no_folder, nothing_loaded, one_more, without_workspaces}
 use Rattle.npm_manifest_files.specs.ManifestFile.{path_of}
-use Rattle.npm_manifest_files.specs.Paths.{folder_of}
+use Rattle.npm_manifest_files.specs.Paths.{IsBelow, folder_of, path_of_folder}
 use Rattle.npm_manifest_files.specs.WorkspaceName.{folder_name, workspace_name}
 use Rattle.npm_manifest_files.specs.declared.linked.Found.{Found}
 use Rattle.npm_manifest_files.specs.declared.linked.Found.TheVariants.{Manifest, Nothing, Unread}
@@ -62,3 +62,24 @@ the_folder_of_a_file_of_the_root = refl
 
 pub the_folder_of_a_name : folder_of (codes "package.json") ≡ codes "."
 the_folder_of_a_name = refl
+
+pub the_folder_of_a_file_below_the_root : path_of_folder (folder_of (codes "/package.json")) ≡ codes "/"
+the_folder_of_a_file_below_the_root = refl
+
+-- ---- paths below a folder
+
+pub a_folder_in_it_is_below : IsBelow (codes "/p/project") (codes "/p/project/w")
+a_folder_in_it_is_below = record { rest = codes "w"; more = λ none. cc none; whole = refl }
+
+pub each_path_is_below_the_root : IsBelow (codes "/") (codes "/p")
+each_path_is_below_the_root = record { rest = codes "p"; more = λ none. cc none; whole = refl }
+
+pub a_name_that_begins_alike_is_not : ¬ IsBelow (codes "/p") (codes "/p-x")
+a_name_that_begins_alike_is_not below =
+    let dash : ℕ = 45 in
+    let slash : ℕ = 47 in
+    let same : dash ≡ slash = cc below.whole in
+    omega (arith, same)
+
+pub nor_is_the_folder_itself : ¬ IsBelow (codes "/p") (codes "/p")
+nor_is_the_folder_itself below = omega (arith, ap (λ path. length path) below.whole)

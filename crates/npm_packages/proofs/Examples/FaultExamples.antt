@@ -1,8 +1,9 @@
 -- What the definitions say of values that are no lock file.
 use Rattle.std.proofs.Common.{◌≡◌, List, ℕ, None, Some, codes, false, refl, true}
 use Rattle.std.specs.Float.Ieee.{eq, of_int}
-use Rattle.serde_json.specs.Data.{Data, Num, array, boolean, member, no_items, no_members, null, number, object, unsigned}
-use Rattle.npm_packages.specs.Faults.{group_fault, groups_fault, has_format, lock_fault, package_fault}
+use Rattle.serde_json.specs.Data.{Data, Num, array, boolean, member, no_items, no_members, null, number, object, string, unsigned}
+use Rattle.npm_packages.specs.Faults.{group_fault, groups_fault, has_format, has_patterns, lock_fault, package_fault}
+use Rattle.npm_packages.specs.Folders.{is_folder}
 use Rattle.npm_packages.specs.declared.fault.Fault.TheVariants as Faults
 
 -- ---- faults
@@ -25,6 +26,56 @@ null_is_no_group = refl
 pub false_is_a_fault : group_fault (object (member (codes "dependencies") (boolean false) no_members))
     (codes "dependencies") ≡ Some Faults.Dependencies
 false_is_a_fault = refl
+
+-- ---- folders
+
+pub a_package_is_in_a_folder : is_folder (codes "node_modules/@s/a/node_modules/b") ≡ true
+a_package_is_in_a_folder = refl
+
+pub the_root_is_a_folder : is_folder (codes "") ≡ true
+the_root_is_a_folder = refl
+
+pub a_folder_may_lead_up_first : is_folder (codes "../../x/..a") ≡ true
+a_folder_may_lead_up_first = refl
+
+pub a_folder_does_not_turn : is_folder (codes "a/../b") ≡ false
+a_folder_does_not_turn = refl
+
+pub a_folder_has_no_slash_at_its_end : is_folder (codes "node_modules/a/") ≡ false
+a_folder_has_no_slash_at_its_end = refl
+
+pub a_folder_has_no_dot : is_folder (codes "./a") ≡ false
+a_folder_has_no_dot = refl
+
+pub a_folder_has_no_backslash : is_folder (codes "node_modules\\a") ≡ false
+a_folder_has_no_backslash = refl
+
+-- a lock file with a package in this folder
+abbrev with_folder : (folder : List ℕ) → Data
+with_folder folder = object (member (codes "lockfileVersion") (number (unsigned 3))
+    (member (codes "packages") (object (member folder (object no_members) no_members)) no_members))
+
+pub a_wrong_folder_is_a_fault : lock_fault (with_folder (codes "node_modules/lodash/")) ≡ Some Faults.Folder
+unfolding eq of_int
+a_wrong_folder_is_a_fault = refl
+
+-- ---- workspaces
+
+abbrev with_workspaces : (said : Data) → Data
+with_workspaces said = object (member (codes "workspaces") said no_members)
+
+pub a_list_has_patterns : has_patterns (with_workspaces (array no_items)) ≡ true
+a_list_has_patterns = refl
+
+pub an_object_may_have_them : has_patterns (with_workspaces (object (member (codes "packages") (array no_items) no_members)))
+    ≡ true
+an_object_may_have_them = refl
+
+pub a_text_has_none : has_patterns (with_workspaces (string (codes "packages/*"))) ≡ false
+a_text_has_none = refl
+
+pub null_has_none : has_patterns (with_workspaces null) ≡ false
+null_has_none = refl
 
 -- ---- the first fault counts
 

@@ -1,5 +1,8 @@
 -- Worked rows of the definitions: the dependencies of manifests, and the notes about them.
 use Rattle.std.proofs.Common.{◌≡◌, ℕ, List, [], ◌∷◌, Some, None, codes, false, refl, true}
+use lib.Utf8.{encode}
+use Rattle.std.specs.Str.{chars}
+use Rattle.npm_texts.specs.WhiteSpace.{trimmed}
 use Rattle.serde_json.specs.Data.{Data, member, no_members, null, object, string}
 use Rattle.npm_pick_mirrors.specs.Asks.{AskValue, manifest_asks}
 use Rattle.npm_pick_mirrors.specs.Mirror.{absent_of, kept_of, request_of, texts_for}
@@ -22,6 +25,7 @@ no_object_asks_for_nothing = refl
 
 pub an_alias_asks_for_what_it_names : request_of (ask (codes "a") (codes "npm:b@^1"))
     ≡ Some (record { name = codes "b"; text = codes "^1" })
+unfolding trimmed chars encode
 an_alias_asks_for_what_it_names = refl
 
 pub a_repository_asks_no_registry : request_of (ask (codes "a") (codes "github:b/a")) ≡ None
@@ -32,6 +36,19 @@ it_is_said = refl
 
 pub of_a_range_nothing_is_said : ask_notes (ask (codes "a") (codes "^1")) ≡ []
 of_a_range_nothing_is_said = refl
+
+pub of_an_override_it_is_said : ask_notes (record { name = codes "a"; spec = codes "^1"; is_overridden = true })
+    ≡ codes "overrides are not read: a (^1)" ∷ []
+of_an_override_it_is_said = refl
+
+pub of_an_override_alone : ask_notes (record { name = codes "a"; spec = codes "github:b/a"; is_overridden = true })
+    ≡ codes "overrides are not read: a (github:b/a)" ∷ []
+of_an_override_alone = refl
+
+pub white_space_is_not_asked_for : request_of (ask (codes "a") (codes "npm:b@next "))
+    ≡ Some (record { name = codes "b"; text = codes "next" })
+unfolding trimmed chars encode
+white_space_is_not_asked_for = refl
 
 pub an_override_is_not_read : request_of (record { name = codes "a"; spec = codes "^1"; is_overridden = true }) ≡ None
 an_override_is_not_read = refl

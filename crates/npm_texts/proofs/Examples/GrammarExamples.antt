@@ -1,10 +1,10 @@
 -- What the grammar of specs says of some texts. Each row is computed, and means what it says by the law that the functions
 -- and the grammar agree.
-use Rattle.std.proofs.Common.{◌≡◌, ◌∷◌, ℕ, List, [], Some, codes, inl, map, refl}
+use Rattle.std.proofs.Common.{◌≡◌, ◌∷◌, ℕ, List, [], Some, codes, map, refl}
 use Rattle.std.specs.List.{AllByRecursion}
 use Rattle.npm_texts.specs.RangeText.{spec_of}
 use Rattle.npm_texts.specs.SpecGrammar.{IsAliasOf, IsLocation, IsSpec, alias, archive, both, from_dot, in_registry, location}
-use Rattle.npm_texts.specs.SpecGrammar.{refused}
+use Rattle.npm_texts.specs.SpecGrammar.{refused, tar_gz, tgz}
 use Rattle.npm_texts.proofs.Specs.SpecReading.{named-as_written, no-location, spec-written, value-written}
 
 -- ---- ranges and tags
@@ -21,6 +21,16 @@ a_tag = spec-written _
 -- a `:` makes a URL only after a scheme
 pub a_colon_in_a_range : IsSpec (codes "^1 || a:b") (in_registry (codes "^1 || a:b"))
 a_colon_in_a_range = spec-written _
+
+-- a `:` after a host that npm does not know, and what is no end of an archive
+pub another_host : IsSpec (codes "^1 || git@x.y:z") (in_registry (codes "^1 || git@x.y:z"))
+another_host = spec-written _
+
+pub a_user_alone : IsSpec (codes "x@y:z") (in_registry (codes "x@y:z"))
+a_user_alone = spec-written _
+
+pub no_archive : IsSpec (codes "a.targz") (in_registry (codes "a.targz"))
+no_archive = spec-written _
 
 -- ---- aliases
 
@@ -55,7 +65,8 @@ all-located (text ∷ texts) h = (value-written text location (cc h), all-locate
 abbrev some_locations : List (List ℕ)
 some_locations =
     codes "." ∷ codes "../a" ∷ codes "a/b" ∷ codes "github:a" ∷ codes "git+ssh:a" ∷ codes "git@gist.github.com:11081aaa281"
-    ∷ codes "workspace:*" ∷ codes "npx:a@^1" ∷ codes "a-1.0.0.tgz" ∷ codes "a.tar.gz" ∷ codes "a.tar" ∷ []
+    ∷ codes "workspace:*" ∷ codes "npx:a@^1" ∷ codes "a-1.0.0.tgz" ∷ codes "a.tar.gz" ∷ codes "a.tar" ∷ codes "b.TGZ"
+    ∷ codes "b.tar-gz" ∷ codes "b.tAr gZ" ∷ codes "^1 || git@gist.github.com:a" ∷ []
 
 pub locations : AllByRecursion (λ (text : List ℕ). IsSpec text location) some_locations
 locations = all-located some_locations refl
@@ -86,4 +97,9 @@ folder_by_hand : IsLocation (codes "./a.tgz")
 folder_by_hand = from_dot (codes "/a.tgz") refl
 
 archive_by_hand : IsLocation (codes "./a.tgz")
-archive_by_hand = archive (codes "./a") (codes ".tgz") refl (inl refl)
+archive_by_hand = archive (codes "./a") (codes ".tgz") refl (tgz refl)
+
+-- any character of ASCII does for the second dot
+another_dot_by_hand : IsLocation (codes "a.Tar-GZ")
+another_dot_by_hand =
+    archive (codes "a") (codes ".Tar-GZ") refl (tar_gz (codes ".Tar") (codes "GZ") 45 refl refl refl refl)

@@ -9,9 +9,10 @@ use Rattle.std.proofs.Math.Seq.{drop-append_seam}
 use Rattle.std.specs.Char.{is_ascii_alphabetic}
 use Rattle.std.specs.List.{before_first, ends_with, list_any, position_or_len, starts_with}
 use Rattle.npm_texts.specs.RangeText.{all_letters, begins_url, ends_archive, has_scheme, is_elsewhere}
-use Rattle.npm_texts.specs.SpecGrammar.{AreSome, HasNo, IsArchiveEnd, IsLocation, IsScheme, is_at_sign, is_colon, is_slash}
-use Rattle.npm_texts.specs.SpecGrammar.{archive, from_dot, git, letters, url, user, with_slash}
+use Rattle.npm_texts.specs.SpecGrammar.{AreSome, HasNo, IsLocation, IsScheme, archive, is_colon, is_slash}
+use Rattle.npm_texts.specs.SpecGrammar.{from_dot, gist, git, letters, url, with_slash}
 use Rattle.npm_texts.specs.Texts.{rest_after}
+use Rattle.npm_texts.proofs.Specs.Archives.{archive-again, archive-takes}
 use Rattle.npm_texts.proofs.Specs.Splits.{Split, all-none, before-first, first, none, position-inside, position-none}
 use Rattle.npm_texts.proofs.Specs.Splits.{some-Decides, split}
 
@@ -44,7 +45,7 @@ letters-no_colon text are = all-none is_ascii_alphabetic is_colon letter-no_colo
 scheme-no_colon : (text : List ℕ) → IsScheme text → HasNo is_colon text
 scheme-no_colon text (letters are) = letters-no_colon text are
 scheme-no_colon text (git protocol whole are) = rw whole (letters-no_colon protocol are)
-scheme-no_colon text (user has no_colon) = no_colon
+scheme-no_colon text (gist user whole no_colon) = no_colon
 
 letters-takes : (text : List ℕ) → all_letters (unwrap_or (rest_after (codes "git+") text) text) ≡ true → IsScheme text
 letters-takes text h = elim (cases_Bool (starts_with nat_eq text (codes "git+"))) [
@@ -58,9 +59,9 @@ letters-takes text h = elim (cases_Bool (starts_with nat_eq text (codes "git+"))
 
 scheme-takes : (text : List ℕ) → begins_url text ≡ true → HasNo is_colon text → IsScheme text
 scheme-takes text h no_colon = elim (or_cases (all_letters (unwrap_or (rest_after (codes "git+") text) text))
-    (list_any is_at_sign text) h) [
+    (ends_with nat_eq text (codes "@gist.github.com")) h) [
       | inl are ↦ letters-takes text are
-      | inr has ↦ user has no_colon
+      | inr is ↦ let found = (ends text (codes "@gist.github.com")).0 is in gist found.0 found.1 no_colon
     ]
 
 letters-again : (text : List ℕ) → AreSome is_ascii_alphabetic text
@@ -74,13 +75,15 @@ letters-again text are = elim (cases_Bool (starts_with nat_eq text (codes "git+"
 ]
 
 scheme-again : (text : List ℕ) → IsScheme text → begins_url text ≡ true
-scheme-again text (letters are) = or_left _ (list_any is_at_sign text) (letters-again text are)
+scheme-again text (letters are) =
+    or_left _ (ends_with nat_eq text (codes "@gist.github.com")) (letters-again text are)
 scheme-again text (git protocol whole are) =
     let given : rest_after (codes "git+") text ≡ Some protocol =
     ap (rest_after (codes "git+")) whole ∙ rest-again (codes "git+") protocol in
-    or_left _ (list_any is_at_sign text) (rw given ((some-Decides is_ascii_alphabetic protocol).1 are))
-scheme-again text (user has no_colon) =
-    or_right (all_letters (unwrap_or (rest_after (codes "git+") text) text)) (list_any is_at_sign text) has
+    or_left _ (ends_with nat_eq text (codes "@gist.github.com")) (rw given ((some-Decides is_ascii_alphabetic protocol).1 are))
+scheme-again text (gist user whole no_colon) =
+    or_right (all_letters (unwrap_or (rest_after (codes "git+") text) text))
+    (ends_with nat_eq text (codes "@gist.github.com")) ((ends text (codes "@gist.github.com")).1 (user, whole))
 
 -- ---- URLs
 
@@ -105,31 +108,6 @@ url-again scheme rest is =
     (begins_url (before_first is_colon (scheme ++ (58 ∷ rest))))
     (ap not (position-inside is_colon 58 rest refl scheme no_colon))
     (ap begins_url (before-first is_colon 58 rest refl scheme no_colon) ∙ scheme-again scheme is)
-
--- ---- archives
-
-archive-takes : (text : List ℕ) → ends_archive text ≡ true → IsLocation text
-archive-takes text h = elim (or_cases (ends_with nat_eq text (codes ".tgz") || ends_with nat_eq text (codes ".tar.gz"))
-    (ends_with nat_eq text (codes ".tar")) h) [
-      | inl two ↦ elim (or_cases (ends_with nat_eq text (codes ".tgz")) (ends_with nat_eq text (codes ".tar.gz")) two) [
-        | inl is ↦ let found = (ends text (codes ".tgz")).0 is in archive found.0 (codes ".tgz") found.1 (inl refl)
-        | inr is ↦
-            let found = (ends text (codes ".tar.gz")).0 is in
-            archive found.0 (codes ".tar.gz") found.1 (inr (inl refl))
-      ]
-      | inr is ↦ let found = (ends text (codes ".tar")).0 is in archive found.0 (codes ".tar") found.1 (inr (inr refl))
-    ]
-
-archive-again : (text start end : List ℕ) → text ≡ start ++ end → IsArchiveEnd end → ends_archive text ≡ true
-archive-again text start end whole (inl is) =
-    let one = (ends text (codes ".tgz")).1 (start, whole ∙ ap (λ (l : List ℕ). start ++ l) is) in
-    or_left _ (ends_with nat_eq text (codes ".tar")) (or_left _ (ends_with nat_eq text (codes ".tar.gz")) one)
-archive-again text start end whole (inr (inl is)) =
-    let one = (ends text (codes ".tar.gz")).1 (start, whole ∙ ap (λ (l : List ℕ). start ++ l) is) in
-    or_left _ (ends_with nat_eq text (codes ".tar")) (or_right (ends_with nat_eq text (codes ".tgz")) _ one)
-archive-again text start end whole (inr (inr is)) =
-    or_right (ends_with nat_eq text (codes ".tgz") || ends_with nat_eq text (codes ".tar.gz")) _
-    ((ends text (codes ".tar")).1 (start, whole ∙ ap (λ (l : List ℕ). start ++ l) is))
 
 -- ---- locations
 

@@ -53,7 +53,7 @@ impl<T: Ord> Span<T> {
     /// `Before(1)` up to `Before(9)` without `Before(3)` up to `Before(5)` is `Before(1)` up to `Before(3)` and
     /// `Before(5)` up to `Before(9)`. `Before(3)` up to `Before(5)` without `Before(1)` up to `Before(9)` is `None` and
     /// `None`.
-    pub fn difference<'a>(
+    pub fn rest<'a>(
         &'a self,
         other: &'a Span<T>,
     ) -> (

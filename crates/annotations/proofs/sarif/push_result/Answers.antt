@@ -1,6 +1,6 @@
 -- Eleven parts, one after the other.
 use Rattle.std.proofs.Common.{codes, decimal, refl}
-use Rattle.annotations.specs.Escapes.{json_string}
+use Rattle.annotations.specs.Escapes.{json_string, message_string}
 use Rattle.annotations.specs.Findings.{finding_value, level_word}
 use Rattle.annotations.specs.Sarif.{location_text}
 use Rattle.annotations.proofs.Parts.{eleven}
@@ -11,11 +11,11 @@ returns c = let finding = c.args.finding.now in
     eleven c.extend_from_slice-7.result c.extend_from_slice-7.new.self.items c.push_location.new.out.items
     c.args.out.now.items (codes "{\"ruleId\":") (json_string finding.rule.now) (codes ",\"ruleIndex\":")
     (decimal finding.rule_index) (codes ",\"level\":\"") (level_word finding.level) (codes "\",\"message\":{\"text\":")
-    (json_string finding.message.items) (codes "},\"locations\":[") (location_text (finding_value finding)) (codes "]}")
+    (message_string finding.message.items) (codes "},\"locations\":[") (location_text (finding_value finding)) (codes "]}")
     (rw (
       c.in_ok-push_location.ensures,
       c.in_ok-extend_from_slice-6.ensures.items,
-      c.in_ok-push_json-2.ensures,
+      c.in_ok-push_message.ensures,
       c.deref.ensures.value,
       c.in_ok-extend_from_slice-5.ensures.items,
       c.in_ok-extend_from_slice-4.ensures.items,

@@ -1,5 +1,5 @@
 -- The byte at the offset is no white space, and a value begins with it after a mark.
-use Rattle.std.proofs.Common.{◌≡◌, ◌<◌, ◌∙◌, ◌∷◌, arith, drop, false, get_or, length, rules, sym}
+use Rattle.std.proofs.Common.{◌≡◌, ◌<◌, ◌∙◌, ◌∷◌, drop, false, get_or, length, rules, sym}
 use Rattle.std.proofs.lemmas.Option.{slice_get-get_or}
 use Rattle.json.specs.Lex.{tokens}
 use Rattle.json.specs.Reads.{token_of}

@@ -31,32 +31,32 @@ module _ (packages : Data) (folder : List ℕ) (is_installed : Bool) (name : Lis
 
 pub returns-in_default : goal.returns-in_default
 returns-in_default c =
-    let found = rw c.in_default.is at c.in_ok-found.ensures.found in
+    let found = rw c.in_default.is at c.find.ensures.found in
     elim c.if-asked.branch [
       | then-asked w ↦ rw w.result-is (missing found w.if-asked.true)
       | else-asked w ↦ rw w.result-is (absent found w.if-asked.false)
     ]
 
 pub returns-then-is_local_peer : goal.returns-then-is_local_peer
-returns-then-is_local_peer c = local_peer (package_value c.in-Some.found) (rw c.in-Some.is at c.in_ok-found.ensures.found)
+returns-then-is_local_peer c = local_peer (package_value c.in-Some.found) (rw c.in-Some.is at c.find.ensures.found)
     (is_local _ _ _ _ _ _ _ (sym c.is_local_peer.ensures ∙ c.if-is_local_peer.true)
-    (rw c.in-Some.is at c.in_ok-found.ensures.own))
+    (rw c.in-Some.is at c.find.ensures.own))
 
 pub returns-in-Valid : goal.returns-in-Valid
-returns-in-Valid c = valid (package_value c.in-Some.found) (rw c.in-Some.is at c.in_ok-found.ensures.found)
+returns-in-Valid c = valid (package_value c.in-Some.found) (rw c.in-Some.is at c.find.ensures.found)
     (not_local _ _ _ _ _ _ _ (sym c.is_local_peer.ensures ∙ c.if-is_local_peer.false)
-    (rw c.in-Some.is at c.in_ok-found.ensures.own))
+    (rw c.in-Some.is at c.find.ensures.own))
     (rw c.in-Valid.is at c.in_ok-verdict_on.ensures)
 
 pub returns-in-Unchecked : goal.returns-in-Unchecked
 returns-in-Unchecked c =
-    unchecked (package_value c.in-Some.found) _ (rw c.in-Some.is at c.in_ok-found.ensures.found)
+    unchecked (package_value c.in-Some.found) _ (rw c.in-Some.is at c.find.ensures.found)
     (not_local _ _ _ _ _ _ _ (sym c.is_local_peer.ensures ∙ c.if-is_local_peer.false)
-    (rw c.in-Some.is at c.in_ok-found.ensures.own))
+    (rw c.in-Some.is at c.find.ensures.own))
     (rw c.in-Unchecked.is at c.in_ok-verdict_on.ensures)
 
 pub returns-in-Invalid : goal.returns-in-Invalid
-returns-in-Invalid c = invalid (package_value c.in-Some.found) (rw c.in-Some.is at c.in_ok-found.ensures.found)
+returns-in-Invalid c = invalid (package_value c.in-Some.found) (rw c.in-Some.is at c.find.ensures.found)
     (not_local _ _ _ _ _ _ _ (sym c.is_local_peer.ensures ∙ c.if-is_local_peer.false)
-    (rw c.in-Some.is at c.in_ok-found.ensures.own))
+    (rw c.in-Some.is at c.find.ensures.own))
     (rw c.in-Invalid.is at c.in_ok-verdict_on.ensures)

@@ -5,9 +5,9 @@ use Rattle.npm_lock_faults.specs.FaultPaths.{among_entries, among_members}
 use Rattle.npm_lock_faults.proofs.version_one.+paths.Given as goal
 
 abbrev pub invariant-below_fault_path-loop-key : goal.invariant-below_fault_path-loop-key
-invariant-below_fault_path-loop-key l = among_members (members_view l.initial.key-iterator)
-    ≡ among_members (members_view l.key-iterator)
+invariant-below_fault_path-loop-key l = among_members l.folder (members_view l.initial.key-iterator)
+    ≡ among_members l.folder (members_view l.key-iterator)
 
 abbrev pub invariant-named_fault_path-loop-name : goal.invariant-named_fault_path-loop-name
-invariant-named_fault_path-loop-name l = among_entries (members_view l.initial.name-iterator)
-    ≡ among_entries (members_view l.name-iterator)
+invariant-named_fault_path-loop-name l = among_entries l.folder (members_view l.initial.name-iterator)
+    ≡ among_entries l.folder (members_view l.name-iterator)

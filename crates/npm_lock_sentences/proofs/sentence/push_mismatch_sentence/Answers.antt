@@ -2,7 +2,7 @@
 use Rattle.std.proofs.Common.{◌≡◌, ◌∙◌, ◌++◌, ℕ, List, append_assoc, codes, option_map, refl, string_bytes}
 use Rattle.npm_manifests.specs.Mismatches.{group_text, mismatch_value}
 use Rattle.npm_lock_sentences.specs.Sentence.{manifest_words, mismatch_sentence, spec_words}
-use Rattle.command_lines.specs.Shown.{shown}
+use Rattle.command_lines.specs.Shown.{shown_first}
 use Rattle.npm_lock_sentences.proofs.Parts.{last, seen}
 use Rattle.npm_lock_sentences.proofs.sentence.push_mismatch_sentence.Goals as goal
 
@@ -16,7 +16,7 @@ returns c =
     let spec = seen c.as_ref.result c.args.mismatch.now.spec c.as_ref.ensures.value in
     let locked = seen c.as_ref-2.result c.args.mismatch.now.locked c.as_ref-2.ensures.value in
     let joint : c.push_side-2.new.line.items ++ codes " in the lock file"
-    ≡ (((((((((c.args.line.now.items ++ shown (string_bytes c.args.mismatch.now.name)) ++ codes " in ")
+    ≡ (((((((((c.args.line.now.items ++ shown_first (string_bytes c.args.mismatch.now.name)) ++ codes " in ")
     ++ group_text c.args.mismatch.now.group) ++ codes " is ")
     ++ spec_words (option_map string_bytes c.args.mismatch.now.spec)) ++ codes " in ")
     ++ manifest_words (string_bytes c.args.mismatch.now.from)) ++ codes ", and ")
@@ -35,10 +35,10 @@ returns c =
       c.as_bytes.ensures.value,
       c.as_str-2.ensures,
       c.in_ok-extend_from_slice.ensures.items,
-      c.in_ok-push_shown.ensures,
+      c.in_ok-push_shown_first.ensures,
       c.as_str.ensures.value,
     ) refl in
-    let all = joint ∙ regroup c.args.line.now.items (shown (string_bytes c.args.mismatch.now.name)) (codes " in ")
+    let all = joint ∙ regroup c.args.line.now.items (shown_first (string_bytes c.args.mismatch.now.name)) (codes " in ")
     (group_text c.args.mismatch.now.group) (codes " is ") (spec_words
     (option_map string_bytes c.args.mismatch.now.spec))
     (codes " in ") (manifest_words (string_bytes c.args.mismatch.now.from)) (codes ", and ")

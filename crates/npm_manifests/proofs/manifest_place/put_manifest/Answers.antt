@@ -13,4 +13,4 @@ returns-in-Some c =
     is_object_of _ _ (sym c.as_object_mut.ensures.value ∙ ap (option_map (λ m. members_view m.now.entries))
     c.in-Some.is) in
     on_ok c.put_inside.result c.put_inside.ensures (λ is. rw
-    (lock, view-Object c.put_inside.new.members, is, c.in_ok-made.ensures) refl)
+    (view-Object c.put_inside.new.members, is, c.in_ok-made.ensures, lock) refl)

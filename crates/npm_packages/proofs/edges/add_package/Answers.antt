@@ -33,14 +33,14 @@ loop-name-preserved c =
     c.overridden-changed.ensures
     ∙ ap (λ rule. changed_by rule c.args.asker.folder.now (asked_value c.in-Some.asked.now))
     (c.requires.rules c.in-Some.name.now.now) in
-    let here = edge_value c.in_ok-edge_of.field-0 in
+    let here = edge_value c.edge_of.result in
     let pushed : map edge_value c.push.new.self.items ≡ map edge_value c.loop-name.edges.items ++ (here ∷ []) =
     ap (map edge_value) c.in_ok-push.ensures.items ∙ map-append edge_value c.loop-name.edges.items _ in
     record {
       asked = asked.1;
       found = λ later are.
           let all = c.loop-name.invariant.found (here ∷ later)
-          (rw c.in-Some.ensures.steps (c.in_ok-edge_of.ensures c.is_installed-is_installed.result _ asked.0 changed, are))
+          (rw c.in-Some.ensures.steps (c.edge_of.ensures c.is_installed-is_installed.result _ asked.0 changed, are))
           in (
             all.0,
             all.1,

@@ -28,4 +28,4 @@ made packages folder asker is_installed name before changed found to version sam
 
 pub returns : goal.returns
 returns c = λ is_installed before asked same.
-    made _ _ _ is_installed _ before _ _ _ _ same c.folder_of.ensures c.found_version.ensures asked c.in_ok-found.ensures.found
+    made _ _ _ is_installed _ before _ _ _ _ same c.folder_of.ensures c.found_version.ensures asked c.find-found.ensures.found

@@ -1,5 +1,5 @@
 -- The fault of a member after members that have none is that of the lock file.
-use Rattle.std.proofs.Common.{◌≡◌, ◌∙◌, true, Some, ap, codes}
+use Rattle.std.proofs.Common.{◌≡◌, ◌∙◌, ℕ, List, true, Some, ap, codes, string_bytes}
 use Rattle.std.proofs.Common.{refl}
 use Rattle.std.proofs.Common.{rules, sym}
 use Rattle.std.specs.Result.{result_err}
@@ -24,11 +24,13 @@ returns-in_err-check_member-clause-refused c =
     let at : get (codes "packages") (view c.args.lock.now) ≡ Some (view c.in_ok-packages.packages.now) = search rules in
     let is : as_object (view c.in_ok-packages.packages.now) ≡ Some (members_view c.in_ok-members.members.now.entries) =
     search rules in
-    let entries : c.into_iter-member-iterator.result ≡ c.in_ok-members.members.now.entries = cc in
+    let entries : c.into_iter-folder-iterator.result ≡ c.in_ok-members.members.now.entries = cc in
     let here : Faults.member_fault (object (members_view c.in_ok-members.members.now.entries))
-    (view c.in-Some.member.now)
-    ≡ Some c.in_err-check_member.field-0.0 = sym c.check_member.ensures ∙ ap result_err c.in_err-check_member.was in
-    let first = rw (entries, c.in-Some.ensures.steps) at c.loop-member.invariant in
+    (string_bytes c.in-Some.folder.now) (view c.in-Some.member.now) ≡ Some c.in_err-check_member.field-0.0 =
+    ap (λ (f : List ℕ). Faults.member_fault (object (members_view c.in_ok-members.members.now.entries)) f
+    (view c.in-Some.member.now)) (sym c.as_str.ensures.value)
+    ∙ sym c.check_member.ensures ∙ ap result_err c.in_err-check_member.was in
+    let first = rw (entries, c.in-Some.ensures.steps) at c.loop-folder.invariant in
     let fault : Faults.lock_fault (view c.args.lock.now) ≡ Some c.in_err-check_member.field-0.0 = refused
     (view c.args.lock.now) (view c.in_ok-packages.packages.now)
     (members_view c.in_ok-members.members.now.entries) _ format at is (first ∙ (rw here refl)) in

@@ -5,6 +5,6 @@ use Rattle.npm_packages.specs.Faults as Faults
 use Rattle.npm_packages.specs.PackageValue.{packages_data}
 use Rattle.npm_packages.proofs.fault.lock_of.Given as goal
 
-abbrev pub invariant-loop-member : goal.invariant-loop-member
-invariant-loop-member l = Faults.members_fault (packages_data l.lock) (members_view l.initial.member-iterator)
-    ≡ Faults.members_fault (packages_data l.lock) (members_view l.member-iterator)
+abbrev pub invariant-loop-folder : goal.invariant-loop-folder
+invariant-loop-folder l = Faults.members_fault (packages_data l.lock) (members_view l.initial.folder-iterator)
+    ≡ Faults.members_fault (packages_data l.lock) (members_view l.folder-iterator)

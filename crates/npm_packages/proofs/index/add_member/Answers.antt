@@ -2,7 +2,7 @@
 use Rattle.std.proofs.Common.{◌∙◌, sym}
 use Rattle.std.proofs.lemmas.Result.{on_ok_weaker}
 use Rattle.npm_packages.specs.PackageValue.{packages_data}
-use Rattle.npm_packages.proofs.Fronts.{same_place}
+use Rattle.npm_packages.proofs.Fronts.{plain_end, same_place}
 use Rattle.npm_packages.proofs.Indexing.{is_more, none_in, none_there}
 use Rattle.npm_packages.proofs.index.add_member.Goals as goal
 
@@ -12,6 +12,7 @@ returns-in-Some-inside c =
     on_ok_weaker c.add.result
     (λ added. is_more (packages_data c.args.lock) c.args.placed.folder.now c.end_of-name.result.now _ c.args.places.now
     c.add.new.places added c.end_of-name.ensures here (record {
+      plain = plain_end c.args.placed.folder.now c.end_of-name.result.now c.end_of-name.ensures;
       no_modules = sym c.is_modules.ensures ∙ c.if-not-is_modules.true;
       found = rw here at (sym (rw c.in-Some.is at c.found_at.ensures));
     })) c.add.ensures

@@ -1,5 +1,5 @@
 -- The package has a document, or none.
-use Rattle.std.proofs.Common.{◌∙◌, None, Ok, Some, ap, map, string_bytes}
+use Rattle.std.proofs.Common.{◌∙◌, None, Ok, Some, ap, map, refl, string_bytes}
 use Rattle.std.proofs.lemmas.Fn.{says_at}
 use Rattle.std.specs.Fn.{FnReturnsAt}
 use Rattle.npm_pick_mirrors.proofs.Mirrors.{absent_added, kept_added}
@@ -20,4 +20,4 @@ returns-in-Ok-None-clause-added g c =
     (map string_bytes c.args.texts.now) _ _ c.add_absent.result gives c.add_absent.ensures.added
 
 pub returns-in-Err-clause-failed : goal.returns-in-Err-clause-failed
-returns-in-Err-clause-failed g c = (c.args.name.now, says_at g.F.Fn c.load.ensures c.in-Err.is)
+returns-in-Err-clause-failed g c = (c.args.name.now, refl, says_at g.F.Fn c.load.ensures c.in-Err.is)

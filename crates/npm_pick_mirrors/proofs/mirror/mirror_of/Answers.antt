@@ -4,7 +4,7 @@ use Rattle.std.proofs.lemmas.List.{take_all}
 use Rattle.std.specs.Fn.{FnReturnsAt}
 use Rattle.npm_texts.specs.RegistrySpec.{registry_spec_value}
 use Rattle.npm_pick_mirrors.proofs.Gathering.{seen_more}
-use Rattle.npm_pick_mirrors.proofs.Mirrors.{kept_more, texts_asked}
+use Rattle.npm_pick_mirrors.proofs.Mirrors.{kept_more, needed_for_name, passed_on, texts_asked}
 use Rattle.npm_pick_mirrors.proofs.mirror.mirror_of.Goals as goal
 
 pub loop-name-init : goal.loop-name-init
@@ -35,3 +35,12 @@ returns-clause-mirror g c = record {
   are = rw (take_all c.loop-name.name-index c.deref-name-items.result.now c.loop-name-test.false)
       at c.loop-name.invariant;
 }
+
+pub returns-in_err-add_package-clause-failed : goal.returns-in_err-add_package-clause-failed
+returns-in_err-add_package-clause-failed g c =
+    let told = needed_for_name (FnReturnsAt g.F.Fn c.args.load) (map registry_spec_value c.args.requests.now)
+    c.deref-name-items.result.now c.loop-name.name-index c.name-item.result c.in_err-add_package.field-0.0
+    c.loop-name-test.true c.name-item.is (rw c.deref-name-items.ensures.value c.in_ok-names.ensures.exact)
+    (rw c.as_str-name.ensures.value at c.in_err-add_package.ensures.failed) in
+    passed_on c.from_residual-in_err-add_package.result _ _ c.from_residual-in_err-add_package.ensures.1
+    (λ error same. rw same told)

@@ -1,10 +1,10 @@
 -- The dependency is left out, or asked of no registry, or its package has no document, or one.
-use Rattle.std.proofs.Common.{◌≡◌, ◌∙◌, Err, None, Ok, Some, ap, option_map, sym}
+use Rattle.std.proofs.Common.{◌≡◌, ◌∙◌, Err, None, Ok, Some, ap, option_map, refl, sym}
 use Rattle.std.proofs.lemmas.Fn.{says_at}
 use Rattle.std.specs.Fn.{FnReturnsAt}
 use Rattle.npm_packages.specs.Edges.{edge_value}
 use Rattle.npm_texts.specs.RegistrySpec.{registry_spec, registry_spec_value}
-use Rattle.npm_pick_outdated.specs.Outdated.{elsewhere, left_out, unknown}
+use Rattle.npm_pick_outdated.specs.Outdated.{IsNeededFor, elsewhere, left_out, unknown}
 use Rattle.npm_pick_outdated.proofs.Outcomes.{known_found}
 use Rattle.npm_pick_outdated.proofs.outdated.outcome_of.Goals as goal
 
@@ -35,6 +35,10 @@ returns-in-Ok-None-clause-found g c =
 
 pub returns-in-Err-clause-failed : goal.returns-in-Err-clause-failed
 returns-in-Err-clause-failed g c =
+    let asked : registry_spec c.args.edge.name.now c.args.edge.spec.now ≡ Some (registry_spec_value c.in-Some.request) =
+    sym c.registry_spec.ensures ∙ ap (option_map registry_spec_value) c.in-Some.is in
     let gives : FnReturnsAt g.F.Fn c.args.load.now c.in-Some.request.name.now (Err c.in-Err.error) =
     says_at g.F.Fn c.load.ensures c.in-Err.is in
-    (c.in-Some.request.name.now, gives)
+    let needed : IsNeededFor c.args.all (edge_value c.args.edge) c.in-Some.request.name.now =
+    (registry_spec_value c.in-Some.request, sym c.is_passed.ensures ∙ c.if-is_passed.false, asked, refl) in
+    (c.in-Some.request.name.now, needed, gives)

@@ -1,5 +1,5 @@
 -- What is found out about the dependencies of the lock file, its lines and its counts.
-use Rattle.std.proofs.Common.{◌∙◌, Err, Some, ap, inl, map, sym}
+use Rattle.std.proofs.Common.{◌∙◌, Err, Some, ap, inl, inr, map, sym}
 use Rattle.npm_packages.specs.Edges.{edge_value}
 use Rattle.npm_pick_outdated.specs.Outdated.{outcome_value}
 use Rattle.npm_pick_reports.proofs.Replies.{compared_ending}
@@ -22,3 +22,7 @@ pub returns-in-Err-Refused-clause-failed : goal.returns-in-Err-Refused-clause-fa
 returns-in-Err-Refused-clause-failed g c =
     inl ((c.in-Err-Refused.ensures.refused c.in-Err-Refused.fault).0 (ap Err c.in-Err-Refused.field-0-is)
     ∙ ap Some (sym c.in-Err-Refused.fault-is))
+
+pub returns-in-Err-clause-failed : goal.returns-in-Err-clause-failed
+returns-in-Err-clause-failed g c =
+    inr (map edge_value c.in-Ok.edges.items, c.in-Ok.ensures.found, rw c.deref.ensures.value at c.in-Err.ensures.failed)

@@ -8,7 +8,7 @@ use Rattle.npm_advisory_files.proofs.osv.affected.range_of.Goals as goal
 pub returns-clause-range : goal.returns-clause-range
 returns-clause-range c =
     let ranges = rw c.in_ok-ranges.ensures.items at c.in_ok-spans.ensures.read in
-    let versions = rw c.in_ok-versions.ensures.items at c.in_ok-listed.ensures in
+    let versions = rw c.in_ok-versions.ensures.items at c.in_ok-listed.ensures.read in
     let both = have-either _ _ c.in_ok-spans.spans.items c.in_ok-listed.listed.items ranges versions in
     let sets = rw c.deref.ensures.value at c.in_ok-range_from_sets.ensures in
     range-of (osv_affected (view c.args.one.now)) c.append.new.self.items c.in_ok-range_from_sets.field-0

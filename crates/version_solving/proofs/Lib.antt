@@ -1,0 +1,7 @@
+pub mod OpenDemands
+pub mod Choices
+pub mod Entries
+pub mod Conflicts
+pub mod Steps
+pub mod Examples
+pub mod Missed

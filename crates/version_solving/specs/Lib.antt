@@ -1,0 +1,9 @@
+-- What the contracts of this crate say: all of it that is trusted, in reading order.
+-- `IsTheSelection` and `NoneFits` of Solving are the claims of `solve`.
+
+pub mod Solving  -- demands, candidates, selections, and which one of them is the answer
+pub mod Documents  -- the problem that documents and the demands of a root pose
+pub mod Outcomes  -- what an outcome says
+pub mod Culprits  -- demands that cannot be met together
+-- ---- not part of any public contract: what private functions compute
+pub mod Private

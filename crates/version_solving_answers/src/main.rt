@@ -1,0 +1,123 @@
+//! Solves small instances, whose answers are compared with those of another program.
+//!
+//! Each line of the input is a JSON array of three: the demands of the root; for each name its candidates, each the list of its
+//! demands; and for each range a list that has 1 for a candidate that it allows, else 0. A demand is an array of a name, a range
+//! and whether it needs the name. The program writes a line for each: `selected` and the choices `name=candidate` in their order;
+//! `none` and the culprits `name:range`; or `undecided`. It exits with status 2 if it fails.
+#![tactic(auto)]
+
+use serde_json::Value;
+use std::alloc::{AllocError, AllocGlobal, Global};
+use std::io::{BufRead, BufReader};
+use std::process::ExitCode;
+use version_solving::{
+    Candidate, Choice, Demand, Documents, Outcome, Package, Range, culprits, solve,
+};
+
+/// More than any of the instances takes.
+const STEPS: u64 = 10_000_000;
+
+fn main(rt: HostRuntime) -> ExitCode {
+    match write_answers(&rt) {
+        Ok(()) => ExitCode::from(0),
+        Err(_) => ExitCode::from(2),
+    }
+}
+
+/// Writes a line for each line of the input.
+fn write_answers(rt: &HostRuntime) -> anyhow::Result<()> {
+    for line in BufReader::new(rt.alloc(), rt.stdin())?.lines(rt.alloc()) {
+        let line = line?;
+        let instance = Value::from_str(rt.alloc(), line.as_str())?;
+        let root = demands_of(rt.alloc(), instance.get(0))?;
+        let documents = documents_of(rt.alloc(), &instance)?;
+        let text = answer_of(rt.alloc(), &root, &documents)?;
+        println!(rt; "{text}")?;
+    }
+    Ok(())
+}
+
+/// The line of an instance.
+fn answer_of(alloc: Global, root: &[Demand], documents: &Documents) -> Result<String, AllocError> {
+    match solve(alloc, root, documents, STEPS)? {
+        Outcome::Selected(choices) => selected(alloc, &choices),
+        Outcome::NoSelection => match culprits(alloc, root, documents, STEPS)? {
+            Some(demands) => none(alloc, &demands),
+            None => String::from_str(alloc, "undecided"),
+        },
+        Outcome::Undecided => String::from_str(alloc, "undecided"),
+    }
+}
+
+fn selected(alloc: Global, choices: &[Choice]) -> Result<String, AllocError> {
+    let mut text = String::from_str(alloc, "selected")?;
+    for choice in choices {
+        let shown = format!(in alloc; " {}={}", choice.name, choice.candidate)?;
+        text.push_str(&shown)?;
+    }
+    Ok(text)
+}
+
+fn none(alloc: Global, demands: &[Demand]) -> Result<String, AllocError> {
+    let mut text = String::from_str(alloc, "none")?;
+    for demand in demands {
+        let shown = format!(in alloc; " {}:{}", demand.name, demand.range)?;
+        text.push_str(&shown)?;
+    }
+    Ok(text)
+}
+
+fn documents_of(alloc: Global, instance: &Value) -> Result<Documents, AllocError> {
+    let mut packages = Vec::new(alloc);
+    for package in items_of(instance.get(1)) {
+        packages.push(package_of(alloc, package)?)?;
+    }
+    let mut ranges = Vec::new(alloc);
+    for range in items_of(instance.get(2)) {
+        ranges.push(range_of(alloc, range)?)?;
+    }
+    Ok(Documents { packages, ranges })
+}
+
+fn package_of(alloc: Global, package: &Value) -> Result<Package, AllocError> {
+    let mut candidates = Vec::new(alloc);
+    for candidate in items_of(Some(package)) {
+        let demands = demands_of(alloc, Some(candidate))?;
+        candidates.push(Candidate { demands })?;
+    }
+    Ok(Package { candidates })
+}
+
+fn range_of(alloc: Global, range: &Value) -> Result<Range, AllocError> {
+    let mut allowed = Vec::new(alloc);
+    for candidate in items_of(Some(range)) {
+        allowed.push(number_of(Some(candidate)) == 1)?;
+    }
+    Ok(Range { allowed })
+}
+
+fn demands_of(alloc: Global, list: Option<&Value>) -> Result<Vec<Demand>, AllocError> {
+    let mut demands = Vec::new(alloc);
+    for demand in items_of(list) {
+        demands.push(Demand {
+            name: number_of(demand.get(0)),
+            range: number_of(demand.get(1)),
+            needed: demand.get(2).and_then(Value::as_bool).unwrap_or(false),
+        })?;
+    }
+    Ok(demands)
+}
+
+fn items_of(list: Option<&Value>) -> &[Value] {
+    match list.and_then(Value::as_array) {
+        Some(items) => items.as_slice(),
+        None => &[],
+    }
+}
+
+fn number_of(value: Option<&Value>) -> usize {
+    match value.and_then(Value::as_u64) {
+        Some(number) => number as usize,
+        None => 0,
+    }
+}

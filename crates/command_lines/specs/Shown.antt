@@ -6,11 +6,11 @@ use Rattle.std.specs.List.{flat_map}
 abbrev pub digit : ℕ → ℕ
 digit number = if nat_lt number 10 then 48 + number else 97 + (number - 10)
 
--- A byte of a text. A quotation mark and a backslash have a backslash in front, and a byte that is no printable ASCII
--- is written by its number: `\x1b`.
+-- A byte of a text. A quotation mark and a backslash have a backslash in front. A byte that is no printable ASCII is
+-- written by its number, `\x1b`, and so is `[`: GitHub's runner takes `##[..]` for a command wherever it stands in a line.
 abbrev pub shown_byte : ℕ → List ℕ
 shown_byte byte = if byte == 34 || byte == 92 then 92 ∷ byte ∷ []
-    else if nat_lt byte 32 || nat_lt 126 byte then 92 ∷ 120 ∷ digit (byte / 16) ∷ digit (byte % 16) ∷ []
+    else if nat_lt byte 32 || nat_lt 126 byte || byte == 91 then 92 ∷ 120 ∷ digit (byte / 16) ∷ digit (byte % 16) ∷ []
     else byte ∷ []
 
 -- a byte by its number: `\x3a`

@@ -28,7 +28,7 @@ impl ShownByte {
     {
         if byte == b'"' || byte == b'\\' {
             ShownByte::Marked([b'\\', byte])
-        } else if byte < 32 || 126 < byte {
+        } else if byte < 32 || 126 < byte || byte == b'[' {
             ShownByte::Numbered([b'\\', b'x', digit(byte / 16), digit(byte % 16)])
         } else {
             ShownByte::Plain([byte])

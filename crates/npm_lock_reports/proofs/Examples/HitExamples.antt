@@ -38,7 +38,7 @@ pub no_version_is_offered : offer_words None None ≡ codes "; each later releas
 no_version_is_offered = refl
 
 -- an id may hold what a terminal must not read, or be no whole number
-pub an_escape_sequence : id_words (string (27 ∷ codes "[2J")) ≡ codes "\\x1b[2J"
+pub an_escape_sequence : id_words (string (27 ∷ codes "[2J")) ≡ codes "\\x1b\\x5b2J"
 an_escape_sequence = refl
 
 pub a_negative_number : (z : ℤ) → id_words (number (negative z)) ≡ codes "an advisory"

@@ -42,5 +42,5 @@ pub a_workspace : subject_of asked (codes "a.json") (Load Loads.Memory) ≡ []
 a_workspace = refl
 
 -- an escape sequence, and what would end the quotation
-pub a_name_that_a_terminal_must_not_read : quoted (27 ∷ codes "[2J\"") ≡ codes "\"\\x1b[2J\\\"\""
+pub a_name_that_a_terminal_must_not_read : quoted (27 ∷ codes "[2J\"") ≡ codes "\"\\x1b\\x5b2J\\\"\""
 a_name_that_a_terminal_must_not_read = refl

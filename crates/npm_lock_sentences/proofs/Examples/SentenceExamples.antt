@@ -70,7 +70,7 @@ pub an_override : reason Override ≡ codes ": overrides that are not read"
 an_override = refl
 
 -- an escape sequence, a newline and U+009B do not reach a terminal
-pub control_characters : shown (27 ∷ codes "[2J" ++ (10 ∷ 194 ∷ 155 ∷ 127 ∷ [])) ≡ codes "\\x1b[2J\\x0a\\xc2\\x9b\\x7f"
+pub control_characters : shown (27 ∷ codes "[2J" ++ (10 ∷ 194 ∷ 155 ∷ 127 ∷ [])) ≡ codes "\\x1b\\x5b2J\\x0a\\xc2\\x9b\\x7f"
 control_characters = refl
 
 -- a file cannot hold an escape that a reader takes for one of the program

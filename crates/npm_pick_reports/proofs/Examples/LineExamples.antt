@@ -12,7 +12,7 @@ use Rattle.npm_pick_reports.specs.PickedLine.{picked_line}
 pub printable_ascii_is_written_as_it_is : shown (codes "a b~") ≡ codes "a b~"
 printable_ascii_is_written_as_it_is = refl
 
-pub an_escape_is_written_by_its_number : shown (27 ∷ codes "[2J") ≡ codes "\\x1b[2J"
+pub an_escape_is_written_by_its_number : shown (27 ∷ codes "[2J") ≡ codes "\\x1b\\x5b2J"
 an_escape_is_written_by_its_number = refl
 
 pub a_quotation_mark_has_a_backslash : quoted (34 ∷ []) ≡ codes "\"\\\"\""

@@ -21,6 +21,17 @@ pub white_space_outside_ascii_goes : bare (194 ∷ 160 ∷ (codes "v" ++ (239 �
 unfolding bare chars encode
 white_space_outside_ascii_goes = refl
 
+-- U+2029, the separator of paragraphs
+pub separators_of_paragraphs_go : bare (226 ∷ 128 ∷ 169 ∷ (codes "v" ++ (226 ∷ 128 ∷ 169 ∷ (codes "=1.2.3" ++ (226 ∷ 128 ∷ 169 ∷ [])))))
+    ≡ codes "1.2.3"
+unfolding bare chars encode
+separators_of_paragraphs_go = refl
+
+-- U+202A is no white space
+pub other_marks_stay : bare (codes "1.2.3" ++ (226 ∷ 128 ∷ 170 ∷ [])) ≡ codes "1.2.3" ++ (226 ∷ 128 ∷ 170 ∷ [])
+unfolding bare chars encode
+other_marks_stay = refl
+
 pub white_space_inside_stays : bare (codes "1.2.3 +b") ≡ codes "1.2.3 +b"
 unfolding bare chars encode
 white_space_inside_stays = refl

@@ -17,8 +17,8 @@ import sys
 import tempfile
 import zipfile
 
-# The libraries of the GNU C library, which each policy of manylinux allows. Some allow others too, as those of C++ and X11, which
-# nothing here needs.
+# The libraries of the GNU C library, which each policy of manylinux allows. Policies allow others too, as those of C++ and
+# X11, which nothing here needs.
 ALLOWED = {"libc.so.6", "libm.so.6", "libpthread.so.0", "libdl.so.2", "librt.so.1", "ld-linux-x86-64.so.2"}
 # The lowest tag that there is for this processor.
 OLDEST = (2, 5)
@@ -122,6 +122,9 @@ def write_tagged(wheel, folder):
             text = re.sub(r"(?m)^(Tag: [^-\n]+-[^-\n]+-).*$", rf"\g<1>{platform}", file.read())
         with open(path, "w", encoding="utf-8") as file:
             file.write(text)
+        # `wheel unpack` gives each file the mode that umask says. The same wheel comes out whatever it says.
+        for path in glob.glob(os.path.join(unpacked, "**"), recursive=True):
+            os.chmod(path, 0o755 if os.path.isdir(path) else 0o644)
         os.makedirs(folder, exist_ok=True)
         run(sys.executable, "-m", "wheel", "pack", "--dest-dir", folder, unpacked)
 

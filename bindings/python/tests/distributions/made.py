@@ -2,6 +2,7 @@
 """The wheel and the source distribution that are tested, in the folder that DISTRIBUTIONS names, and how commands are run."""
 
 import os
+import re
 import subprocess
 import sys
 from email.message import Message
@@ -38,8 +39,8 @@ PRINTED = f"True 1.9.0 {VERSION}\nno node_semver\nno node-semver\n"
 
 
 def run(folder: str, *words: str, **named: str) -> Tuple[int, str]:
-    """Runs a command in a folder, with none of the variables that setup.py reads but those named: its status and what it writes."""
-    given = {key: value for key, value in os.environ.items() if key not in ("CFLAGS", "PYTHONPATH") and "NODE_SEMVER" not in key}
+    """Runs a command in a folder, with no other variables for builds than these: its status, and what it writes."""
+    given = {key: value for key, value in os.environ.items() if not re.match("CFLAGS$|PYTHONPATH$|NODE_SEMVER_", key)}
     done = subprocess.run(
         words, cwd=folder, env={**given, **named}, stdout=subprocess.PIPE, stderr=subprocess.STDOUT, text=True
     )

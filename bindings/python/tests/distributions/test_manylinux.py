@@ -83,7 +83,8 @@ class Manylinux(unittest.TestCase):
             path = os.path.join(self.room, library)
             with open(path + ".map", "w", encoding="utf-8") as file:
                 file.write(script)
-            self.compile(path, code, f"-Wl,-soname,{library}", *([f"-Wl,--version-script={path}.map"] if script else []), *words)
+            versioned = [f"-Wl,--version-script={path}.map"] if script else []
+            self.compile(path, code, f"-Wl,-soname,{library}", *versioned, *words)
             libraries.append(path)
         made = os.path.join(self.room, "part.so")
         self.compile(made, calls or "int no_call;", "-Wl,--no-as-needed", *libraries, *words)

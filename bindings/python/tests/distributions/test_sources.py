@@ -2,6 +2,7 @@
 """The source distribution: it has nothing built, its build says what is missing, and with that it makes the wheel."""
 
 import os
+import re
 import shutil
 import tarfile
 import tempfile
@@ -15,7 +16,7 @@ from made import PACKAGE, PRINTED, PROGRAM, PYTHON, ROOT, SOURCES, VERSION, WHEE
 NAME = f"denimscree_semver-{VERSION}"
 C_PACKAGE = os.path.join(ROOT, "bindings", "c")
 # What a build leaves in the folder, and what belongs to git.
-LEFT_OUT = {"build", "dist", "__pycache__", ".mypy_cache", ".gitignore", "denimscree_semver.egg-info"}
+LEFT_OUT = re.compile(r"build|dist|__pycache__|\.mypy_cache|\.gitignore|.*\.egg-info")
 # How the build is run.
 BUILDS = {
     "pip": [PYTHON, "-m", "pip", "wheel", "--no-build-isolation", "--no-index", "--no-deps", "-w", "made", SOURCES],
@@ -27,8 +28,8 @@ def names_below(folder: str) -> Set[str]:
     """The paths of all files below a folder, but for those that are left out."""
     found = set()
     for at, folders, names in os.walk(folder):
-        folders[:] = [name for name in folders if name not in LEFT_OUT]
-        found |= {os.path.relpath(os.path.join(at, name), folder) for name in names if name not in LEFT_OUT}
+        folders[:] = [name for name in folders if not LEFT_OUT.fullmatch(name)]
+        found |= {os.path.relpath(os.path.join(at, name), folder) for name in names if not LEFT_OUT.fullmatch(name)}
     return found
 
 
@@ -70,7 +71,8 @@ class Sources(unittest.TestCase):
         self.assertEqual(status, 0, said)
         [again] = glob(os.path.join(self.room, "again", "*"))
         with tarfile.open(again) as archive, tarfile.open(SOURCES) as first:
-            self.assertEqual(sorted(archive.getnames()), sorted(first.getnames()))
+            found, wanted = ({member.name for member in it if member.isfile()} for it in (archive, first))
+        self.assertEqual(found, wanted)
 
     def test_the_metadata_is_that_of_the_wheel(self) -> None:
         with zipfile.ZipFile(WHEEL) as archive:

@@ -58,8 +58,8 @@ class Setup(unittest.TestCase):
         """Runs the build with these variables: its status, and what it writes."""
         environment = {key: value for key, value in os.environ.items() if not key.startswith("NODE_SEMVER_")}
         done = subprocess.run(
-            [sys.executable, "setup.py", "-q", "build"],
-            cwd=self.python, env={**environment, "CFLAGS": "-O0", **named}, stdout=subprocess.PIPE, stderr=subprocess.STDOUT, text=True,
+            [sys.executable, "setup.py", "-q", "build"], cwd=self.python, env={**environment, "CFLAGS": "-O0", **named},
+            stdout=subprocess.PIPE, stderr=subprocess.STDOUT, text=True,
         )  # fmt: skip
         return done.returncode, done.stdout
 

@@ -9,11 +9,10 @@ import sys
 import tarfile
 
 import archives
+import manylinux
 from versions import ROOT
 
 BINDINGS = os.path.join(ROOT, "bindings")
-# The oldest GNU C library that the native parts may need: that of manylinux_2_28.
-GLIBC = (2, 28)
 PYTHON = "/usr/bin/python3"
 
 
@@ -35,12 +34,10 @@ def copied(name, room):
 
 
 def check_glibc(path):
-    """Stops if a native part needs a newer C library, or a library beside it."""
-    symbols = run("objdump", "-T", path)
-    newest = max((tuple(map(int, it.split("."))) for it in re.findall(r"GLIBC_([0-9.]+)", symbols)), default=(0,))
-    needed = set(re.findall(r"NEEDED +(\S+)", run("objdump", "-p", path))) - {"libc.so.6", "libm.so.6", "libpthread.so.0"}
-    if newest > GLIBC or needed:
-        sys.exit(f"release: {path} needs GLIBC {newest} and {', '.join(sorted(needed)) or 'no other library'}")
+    """Stops if a native part needs a newer C library than a release may, or a library beside it."""
+    reasons = manylinux.refusals(path, manylinux.NEWEST)
+    if reasons:
+        sys.exit("release: " + "\nrelease: ".join(f"{path}: {reason}" for reason in reasons))
 
 
 # The libraries for C, each with its header, and the crates of their exports.
@@ -102,23 +99,15 @@ def node_package(room, out):
 
 
 def python_packages(room, out, date):
-    """The wheel, one for each Python from 3.10 on, and the sources, which bring the proved library."""
+    """The sources, and the wheel that is built from them: one for each Python from 3.10 on, with the tag that its parts allow."""
     at = copied("python", room)
-    os.makedirs(os.path.join(at, "lib"))
-    for name in LIBRARIES:
-        shutil.copy(os.path.join(BINDINGS, f"c/build/lib{name}.a"), os.path.join(at, "lib"))
-        shutil.copy(os.path.join(BINDINGS, f"c/include/{name}.h"), os.path.join(at, "lib"))
-    if os.path.islink(os.path.join(at, "LICENSE")) or not os.path.exists(os.path.join(at, "LICENSE")):
-        shutil.copy(os.path.join(ROOT, "LICENSE"), os.path.join(at, "LICENSE"))
-    stamp = {"SOURCE_DATE_EPOCH": str(date), "CFLAGS": "-g0"}
-    run(PYTHON, "setup.py", "-q", "sdist", "--dist-dir", os.path.join(room, "sdist"), at=at, **stamp)
-    sources = glob.glob(os.path.join(room, "sdist", "*.tar.gz"))[0]
+    built = os.path.join(room, "built")
+    stamp = {"SOURCE_DATE_EPOCH": str(date), "CFLAGS": "-g0", "NODE_SEMVER_LIBRARY": os.path.join(BINDINGS, "c/build/libnode_semver.a")}
+    run(PYTHON, "-m", "build", "--no-isolation", "--outdir", built, at=at, **stamp)
+    [sources], [wheel] = (glob.glob(os.path.join(built, f"*.{kind}")) for kind in ("tar.gz", "whl"))
     with tarfile.open(sources) as archive:
         archive.extractall(os.path.join(room, "unpacked"))
     name = os.path.basename(sources)[: -len(".tar.gz")]
     packed = archives.tar_of(os.path.join(room, "unpacked", name), date, name + "/")
     archives.write(os.path.join(out, os.path.basename(sources)), archives.gzipped(packed, date))
-    platform = f"manylinux_{GLIBC[0]}_{GLIBC[1]}_x86_64"
-    run(PYTHON, "setup.py", "-q", "bdist_wheel", "--plat-name", platform, "--dist-dir", out, at=at, **stamp)
-    for path in glob.glob(os.path.join(at, "build/released/lib*/node_semver/*.so")):
-        check_glibc(path)
+    run(PYTHON, os.path.join(ROOT, "packaging/manylinux.py"), "tag", wheel, out, **stamp)

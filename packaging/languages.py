@@ -9,6 +9,7 @@ import sys
 import tarfile
 
 import archives
+import licences
 from versions import ROOT
 
 BINDINGS = os.path.join(ROOT, "bindings")
@@ -94,11 +95,20 @@ def node_package(room, out):
     path = os.path.join(at, "package.json")
     with open(path, encoding="utf-8") as file:
         package = json.load(file)
-    package["files"] = sorted([*package["files"], "prebuilt/"])
+    archives.write(os.path.join(at, "NOTICES"), licences.notices(*LIBRARIES.values()))
+    package["files"] = sorted([*package["files"], "NOTICES", "prebuilt/"])
     # The package finds them itself, so it works where no install script is run.
     del package["scripts"]["install"]
     archives.write(path, json.dumps(package, indent=2) + "\n")
     run("npm", "pack", "--ignore-scripts", "--pack-destination", out, at=at)
+
+
+def replace(path, old, new):
+    with open(path, encoding="utf-8") as file:
+        text = file.read()
+    if text.count(old) != 1:
+        sys.exit(f"release: {path} has not once {old}")
+    archives.write(path, text.replace(old, new))
 
 
 def python_packages(room, out, date):
@@ -110,6 +120,8 @@ def python_packages(room, out, date):
         shutil.copy(os.path.join(BINDINGS, f"c/include/{name}.h"), os.path.join(at, "lib"))
     if os.path.islink(os.path.join(at, "LICENSE")) or not os.path.exists(os.path.join(at, "LICENSE")):
         shutil.copy(os.path.join(ROOT, "LICENSE"), os.path.join(at, "LICENSE"))
+    archives.write(os.path.join(at, "NOTICES"), licences.notices(*LIBRARIES.values()))
+    replace(os.path.join(at, "pyproject.toml"), 'license-files = ["LICENSE"]', 'license-files = ["LICENSE", "NOTICES"]')
     stamp = {"SOURCE_DATE_EPOCH": str(date), "CFLAGS": "-g0"}
     run(PYTHON, "setup.py", "-q", "sdist", "--dist-dir", os.path.join(room, "sdist"), at=at, **stamp)
     sources = glob.glob(os.path.join(room, "sdist", "*.tar.gz"))[0]

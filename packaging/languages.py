@@ -35,13 +35,15 @@ def copied(name, room):
     return os.path.join(room, name)
 
 
-def check_glibc(path):
-    """Stops if a native part needs a newer C library, or a library beside it."""
-    symbols = run("objdump", "-T", path)
+def check_native(path):
+    """Stops if a native part needs a newer C library, a library beside it, or a stack that can be run."""
+    symbols, headers = run("objdump", "-T", path), run("objdump", "-p", path)
     newest = max((tuple(map(int, it.split("."))) for it in re.findall(r"GLIBC_([0-9.]+)", symbols)), default=(0,))
-    needed = set(re.findall(r"NEEDED +(\S+)", run("objdump", "-p", path))) - {"libc.so.6", "libm.so.6", "libpthread.so.0"}
+    needed = set(re.findall(r"NEEDED +(\S+)", headers)) - {"libc.so.6", "libm.so.6", "libpthread.so.0"}
     if newest > GLIBC or needed:
         sys.exit(f"release: {path} needs GLIBC {newest} and {', '.join(sorted(needed)) or 'no other library'}")
+    if not re.search(r"STACK off.*\n.* flags rw-$", headers, re.M):
+        sys.exit(f"release: {path} needs a stack that can be run")
 
 
 # The libraries for C, each with its header, and the crates of their exports.
@@ -63,7 +65,7 @@ def install_c(folder):
     shutil.rmtree(stage)
     for name in LIBRARIES:
         move_pkg_config(os.path.join(folder, f"lib/pkgconfig/{name}.pc"))
-        check_glibc(os.path.join(folder, f"lib/lib{name}.so"))
+        check_native(os.path.join(folder, f"lib/lib{name}.so"))
 
 
 def move_pkg_config(path):
@@ -89,7 +91,7 @@ def node_package(room, out):
     for name in LIBRARIES:
         made = os.path.join(at, f"build/Release/{name}.node")
         run("strip", "--strip-unneeded", made)
-        check_glibc(made)
+        check_native(made)
         os.rename(made, os.path.join(to, f"{name}.node"))
     shutil.rmtree(os.path.join(at, "build"))
     path = os.path.join(at, "package.json")
@@ -133,4 +135,4 @@ def python_packages(room, out, date):
     platform = f"manylinux_{GLIBC[0]}_{GLIBC[1]}_x86_64"
     run(PYTHON, "setup.py", "-q", "bdist_wheel", "--plat-name", platform, "--dist-dir", out, at=at, **stamp)
     for path in glob.glob(os.path.join(at, "build/released/lib*/node_semver/*.so")):
-        check_glibc(path)
+        check_native(path)

@@ -6,7 +6,6 @@ import re
 import tempfile
 import unittest
 import zipfile
-from glob import glob
 from typing import List, Set
 
 from made import PACKAGE, PRINTED, PROGRAM, PYTHON, ROOT, VERSION, WHEEL, content, fields, run
@@ -66,7 +65,8 @@ class Wheel(unittest.TestCase):
             self.assertEqual(set(re.findall(r"[\w.-]+\.whl", page)), {name})
 
     def installed(self) -> Set[str]:
-        return set(glob(os.path.join(self.room, "env", "**"), recursive=True))
+        """The files and folders of the environment. (Its lib64 is a link to lib.)"""
+        return {os.path.join(at, name) for at, folders, names in os.walk(os.path.join(self.room, "env")) for name in folders + names}
 
     def test_a_fresh_environment(self) -> None:
         python = os.path.join(self.room, "env", "bin", "python")

@@ -9,6 +9,7 @@ import sys
 import tarfile
 
 import archives
+import licences
 import manylinux
 from versions import ROOT
 
@@ -33,8 +34,8 @@ def copied(name, room):
     return os.path.join(room, name)
 
 
-def check_glibc(path):
-    """Stops if a native part needs a newer C library than a release may, or a library beside it."""
+def check_native(path):
+    """Stops if a native part needs a newer C library than a release may, a library beside it, or a stack that can be run."""
     reasons = manylinux.refusals(path, manylinux.NEWEST)
     if reasons:
         sys.exit("release: " + "\nrelease: ".join(f"{path}: {reason}" for reason in reasons))
@@ -59,7 +60,7 @@ def install_c(folder):
     shutil.rmtree(stage)
     for name in LIBRARIES:
         move_pkg_config(os.path.join(folder, f"lib/pkgconfig/{name}.pc"))
-        check_glibc(os.path.join(folder, f"lib/lib{name}.so"))
+        check_native(os.path.join(folder, f"lib/lib{name}.so"))
 
 
 def move_pkg_config(path):
@@ -85,22 +86,33 @@ def node_package(room, out):
     for name in LIBRARIES:
         made = os.path.join(at, f"build/Release/{name}.node")
         run("strip", "--strip-unneeded", made)
-        check_glibc(made)
+        check_native(made)
         os.rename(made, os.path.join(to, f"{name}.node"))
     shutil.rmtree(os.path.join(at, "build"))
     path = os.path.join(at, "package.json")
     with open(path, encoding="utf-8") as file:
         package = json.load(file)
-    package["files"] = sorted([*package["files"], "prebuilt/"])
+    archives.write(os.path.join(at, "NOTICES"), licences.notices(*LIBRARIES.values()))
+    package["files"] = sorted([*package["files"], "NOTICES", "prebuilt/"])
     # The package finds them itself, so it works where no install script is run.
     del package["scripts"]["install"]
     archives.write(path, json.dumps(package, indent=2) + "\n")
     run("npm", "pack", "--ignore-scripts", "--pack-destination", out, at=at)
 
 
+def replace(path, old, new):
+    with open(path, encoding="utf-8") as file:
+        text = file.read()
+    if text.count(old) != 1:
+        sys.exit(f"release: {path} has not once {old}")
+    archives.write(path, text.replace(old, new))
+
+
 def python_packages(room, out, date):
     """The sources, and the wheel that is built from them: one for each Python from 3.10 on, with the tag that its parts allow."""
     at = copied("python", room)
+    archives.write(os.path.join(at, "NOTICES"), licences.notices(*LIBRARIES.values()))
+    replace(os.path.join(at, "setup.py"), 'license_files=["LICENSE"]', 'license_files=["LICENSE", "NOTICES"]')
     built = os.path.join(room, "built")
     stamp = {"SOURCE_DATE_EPOCH": str(date), "CFLAGS": "-g0", "NODE_SEMVER_LIBRARY": os.path.join(BINDINGS, "c/build/libnode_semver.a")}
     run(PYTHON, "-m", "build", "--no-isolation", "--outdir", built, at=at, **stamp)

@@ -40,11 +40,13 @@ def run(*words):
 
 
 def needs(path):
-    """The least C library with which a native part can be loaded, and a line for each thing that no tag allows."""
+    """The least C library with which a native part can be loaded, and a line for each thing that stands against any tag."""
     said = run("objdump", "-p", path)
     least, reasons = OLDEST, []
     if f"file format {FORMAT}\n" not in said:
         reasons.append(f"it is not {FORMAT}")
+    if not re.search(r"STACK off.*\n.* flags rw-$", said, re.M):
+        reasons.append("it needs a stack that can be run")
     for library in re.findall(r"^ +NEEDED +(\S+)$", said, re.M):
         if library not in ALLOWED:
             reasons.append(f"it needs the library {library}")

@@ -145,6 +145,10 @@ class Manylinux(unittest.TestCase):
         wheel = self.wheel("linux_i686", self.part([(C, "GLIBC_2.4")], "-m32"))
         self.assertEqual(self.tag(wheel), (1, ["made_up/part_0: it is not elf64-x86-64"], []))
 
+    def test_a_stack_that_can_be_run_is_refused(self) -> None:
+        wheel = self.wheel("linux_x86_64", self.part([(C, "GLIBC_2.4")], "-Wl,-z,execstack"))
+        self.assertEqual(self.tag(wheel), (1, ["made_up/part_0: it needs a stack that can be run"], []))
+
     def test_a_wheel_that_says_too_little_is_refused(self) -> None:
         part = self.part([(C, "GLIBC_2.14"), (C, "GLIBC_2.4")])
         for minor in (5, 9, 13):

@@ -112,7 +112,7 @@ def python_packages(room, out, date):
     """The sources, and the wheel that is built from them: one for each Python from 3.10 on, with the tag that its parts allow."""
     at = copied("python", room)
     archives.write(os.path.join(at, "NOTICES"), licences.notices(*LIBRARIES.values()))
-    replace(os.path.join(at, "setup.py"), 'license_files=["LICENSE"]', 'license_files=["LICENSE", "NOTICES"]')
+    replace(os.path.join(at, "pyproject.toml"), 'license-files = ["LICENSE"]', 'license-files = ["LICENSE", "NOTICES"]')
     built = os.path.join(room, "built")
     stamp = {"SOURCE_DATE_EPOCH": str(date), "CFLAGS": "-g0", "NODE_SEMVER_LIBRARY": os.path.join(BINDINGS, "c/build/libnode_semver.a")}
     run(PYTHON, "-m", "build", "--no-isolation", "--outdir", built, at=at, **stamp)

@@ -162,10 +162,10 @@ class NamedSources(sdist):
 os.chdir(HERE)
 setup(
     # PEP 639 has `license = "Apache-2.0"` and `license-files` in pyproject.toml. setuptools reads these from 77 on; Debian 12
-    # has 66, which refuses them, and the table that 66 reads there is deprecated in newer ones. All read these two here, and
-    # 66 writes `License: Apache-2.0`, an SPDX expression, and `License-File: LICENSE`. It cannot write `License-Expression`.
+    # has 66, which refuses them, and the table that 66 reads there is deprecated in newer ones. From this line, and from
+    # `license-files` of [tool.setuptools], since it passes over `license_files` here, 66 writes `License: Apache-2.0`, an SPDX
+    # expression, and `License-File: LICENSE`. It cannot write `License-Expression`.
     license="Apache-2.0",
-    license_files=["LICENSE"],
     ext_modules=[extension("node_semver._native", "native"), extension("node_semver._pick", "native/pick")],
     cmdclass={"build_ext": BuildAnew, "sdist": NamedSources},
     options={

@@ -6,6 +6,7 @@ from versions import LONG, MANY
 
 LEVELS = ["info", "low", "moderate", "high", "critical"]
 NAMES = [f"m{number:05}" for number in range(MANY)]
+LONGEST = 4096  # No folder of a package has more bytes.
 
 
 def text_of(value):
@@ -94,7 +95,7 @@ def overrides():
 
 
 def askers():
-    """One package that many ask for, one that is missing for many, and a package in the deepest of many folders."""
+    """One package that many ask for, one that is missing for many, and a package in the longest folder."""
     d = {"node_modules/d": {"version": "1.0.0"}}
     packages = at_root("1.0.0", dependencies={"d": "^2"})
     yield Case(lock_of({}, {**packages, **d}), [
@@ -106,7 +107,7 @@ def askers():
     yield Case(lock_of(root, {**links, **workspaces}), [
         dependency("z", "1", f"w/{name}", problem="missing") for name in NAMES
     ])
-    deep = "/".join(f"node_modules/{name}" for name in NAMES)
+    deep = "/".join(f"node_modules/{name}" for name in NAMES)[:LONGEST]
     yield Case(lock_of({}, {deep: {"version": "1.0.0", "dependencies": {"d": "2", "z": "1"}}, **d}), [
         dependency("d", "2", deep, problem="invalid", to="node_modules/d", version="1.0.0"),
         dependency("z", "1", deep, problem="missing"),
@@ -160,7 +161,7 @@ def manifest_rows():
             yield "npm_manifests::mismatches_of", [text_of(lock), text_of(asked("^1", group)), at], "nothing"
             empty = {"lockfileVersion": 3, "packages": {at: {}}}
             yield "npm_manifests::mismatches_of", [text_of(empty), text_of(asked("^2", group)), at], listed(other)
-        put = {"lockfileVersion": 3, "packages": {"": {**asked("^2", group), "link": False, "optional": False}}}
+        put = {"lockfileVersion": 3, "packages": {"": {**asked("^2", group), **dict.fromkeys(["dev", "link", "optional", "peer"], False)}}}
         lock = {"lockfileVersion": 3, "packages": {"": asked("^1", group)}}
         yield "npm_manifests::put_manifest", [text_of(lock), text_of(asked("^2", group)), ""], text_of(put)
     links = {f"node_modules/{name}": {"link": True, "resolved": f"w/{name}"} for name in NAMES}

@@ -171,7 +171,8 @@ class RefusedRun(Run):
 
 
 def refused_runs():
-    """A fault in the last of many packages, and in the innermost of packages that are each inside the one before."""
+    """A fault in the last of many packages, and in the innermost of packages that are each inside the one before, and a folder that
+    is too long."""
     many = lock_of({}, at_root("1.0.0"))
     many["packages"]["z"] = {"dependencies": {"a": "1", "last": 1}}
     names = ["packages", "z", "dependencies", "last"]
@@ -180,6 +181,9 @@ def refused_runs():
     for _ in range(DEEP):
         deep, names = {"version": "1.0.0", "dependencies": {"a": deep}}, ["dependencies", "a", *names]
     faults.append(({"lockfileVersion": 1, **deep}, "the dependencies of a package are no object", names))
+    folder = "/".join(f"node_modules/{name}" for name in NAMES)
+    too_long = "npm does not write the folder of a package so, or it has more than 4096 bytes"
+    faults.append((lock_of({}, {folder: {"version": "1.0.0"}}), too_long, ["packages", folder]))
     for lock, fault, names in faults:
         column = text_of(lock).index(f'"{names[-1]}":') + 1
         path = ", ".join(f'"{name}"' for name in names)

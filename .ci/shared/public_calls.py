@@ -15,6 +15,7 @@ SCRIPTS = {"memory_trials": "makes the calls", "node_semver_callers": "examples"
            "json_places": "runs with --format github and sarif", "annotations": "runs with --format github and sarif",
            "json_findings": "runs with --format github and sarif", "shown_places": "runs on files that are refused",
            "npm_lock_annotations": "runs with --format github and sarif, with each kind of finding",
+           "finding_pages": "no program calls it yet",
            "command_lines": "all runs", "npm_lock_sentences": "runs with --format text",
            "npm_lock_faults": "runs on lock files and manifests with faults", "npm_lock_reports": "all runs",
            "npm_advisory_files": "calls of npm_advisories",

@@ -1,0 +1,2 @@
+pub mod PageExamples
+pub mod ReportExamples

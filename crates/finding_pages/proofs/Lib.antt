@@ -1,0 +1,4 @@
+pub mod Examples
+mod Marks
+mod More
+mod Reading

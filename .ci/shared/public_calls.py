@@ -23,7 +23,8 @@ SCRIPTS = {"memory_trials": "makes the calls", "node_semver_callers": "examples"
             "npm_lock_file_checks": "all runs", "npm_lock_arguments": "all runs", "npm_lock_runs": "all runs",
            "npm_pick_errors": "runs on files that are refused", "npm_pick_outdated": "runs with --outdated",
            "npm_pick_mirrors": "runs with --keep", "npm_pick_reports": "all runs",
-           "version_solving": "runs of .ci/version_solving"}
+           "version_solving": "runs of .ci/version_solving", "named_problems": "runs of .ci/npm_resolve",
+           "npm_candidates": "runs of .ci/npm_resolve", "npm_resolve": "runs of .ci/npm_resolve"}
 
 # A function, and the call that makes it.
 THROUGH = {

@@ -1,0 +1,54 @@
+-- The versions of a document that can be chosen, in the order in which they are preferred.
+use Rattle.std.specs.Prelude.{◌≡◌, ◌&&◌, ℕ, List, [], ◌∷◌, Bool, true, false, bytes_eq, not}
+use Rattle.std.specs.List.Sorted.{IsPermutation, IsSorted, IsStable}
+use Rattle.std.specs.Option.{option_map_or}
+use Rattle.serde_json.specs.Data.{Data}
+use Rattle.serde_json.specs.View.{view}
+use Rattle.node_semver.specs.Versions.{VersionValue}
+use Rattle.npm_texts.specs.InstalledVersions.{IsInstalledVersion}
+use Rattle.npm_pick_ranks.specs.Packument.{Release, is_restricted, releases_in, tagged, versions_of}
+use Rattle.npm_pick_ranks.specs.Rank.{is_deprecated}
+use Rattle.npm_pick_ranks.specs.Times.{is_published}
+use Rattle.npm_candidates.specs.Preference.{candidate_order}
+use Rattle.npm_candidates.specs.declared.candidate.Candidate.{Candidate}
+use Rattle.npm_candidates.specs.declared.options.Options.{Options}
+
+-- the tag names this version
+abbrev pub is_tagged : (packument : Data) → (tag key : List ℕ) → Bool
+is_tagged packument tag key = option_map_or (λ named. bytes_eq named key) (tagged packument tag) false
+
+-- The key can be chosen: it is a version, it is in time, and no policy restricts it.
+pub record IsEligible (packument : Data) (options : Options) (key : List ℕ) : Type 0 where
+  pub version : VersionValue
+  pub read : IsInstalledVersion key version
+  pub published : is_published options.before packument key ≡ true
+  pub allowed : is_restricted packument key ≡ false
+
+-- the candidate of a member of `versions`
+pub record IsCandidate (packument : Data) (options : Options) (release : Release) (c : Candidate) : Type 0 where
+  pub key : c.key.now ≡ release.key
+  pub manifest : view c.manifest.now ≡ release.manifest
+  pub read : IsInstalledVersion release.key c.version
+  pub published : is_published options.before packument release.key ≡ true
+  pub allowed : is_restricted packument release.key ≡ false
+  pub deprecated : c.is_deprecated ≡ is_deprecated release.manifest
+  pub default : c.is_default ≡ (not c.is_deprecated && is_tagged packument options.default_tag.now release.key)
+
+-- the candidates of members of `versions`, one after the other
+pub data AreListed (packument : Data) (options : Options) : List Release → List Candidate → Type 0 where
+  none : AreListed packument options [] []
+  listed : (release : Release) (c : Candidate) (releases : List Release) (candidates : List Candidate)
+      → IsCandidate packument options release c → AreListed packument options releases candidates
+      → AreListed packument options (release ∷ releases) (c ∷ candidates)
+  passed : (release : Release) (releases : List Release) (candidates : List Candidate)
+      → (IsEligible packument options release.key → ⊥) → AreListed packument options releases candidates
+      → AreListed packument options (release ∷ releases) candidates
+
+-- The candidates of a document: all of `versions` that can be chosen, what is preferred first, and what is preferred alike in
+-- the order of the document
+pub record AreCandidates (packument : Data) (options : Options) (candidates : List Candidate) : Type 0 where
+  pub all : List Candidate
+  pub listed : AreListed packument options (releases_in (versions_of packument)) all
+  pub same : IsPermutation all candidates
+  pub sorted : IsSorted candidate_order candidates
+  pub stable : IsStable candidate_order all candidates

@@ -1,0 +1,70 @@
+//! A version that can be chosen, and its place among others.
+ghost use Rattle.std.specs.Prelude.{◌≡◌, Some, refl};
+ghost use Rattle.std.specs.Cmp.{eq_by_cmp_equiv, partial_equiv_from_equiv, po};
+ghost use Rattle.std.specs.Ordering.{eq_by_cmp};
+ghost use Rattle.npm_candidates.specs.Preference.{candidate_order};
+ghost use Rattle.npm_candidates.specs.Private.Orders.{candidate_total};
+
+use node_semver::{OrderedVersion, VersionRef};
+use serde_json::Value;
+use std::cmp::Ordering;
+
+/// A version of a document.
+///
+/// Of two candidates the lesser one is preferred.
+#[derive(Drop)]
+pub struct Candidate<'v> {
+    pub key: &'v str,
+    pub manifest: &'v Value,
+    pub version: VersionRef<'v>,
+    /// The default tag names it, and it is not deprecated.
+    pub is_default: bool,
+    pub is_deprecated: bool,
+}
+
+impl<'v> PartialEq for Candidate<'v> {
+    ghost eq = { eq_by_cmp candidate_order };
+
+    ghost laws = { partial_equiv_from_equiv (eq_by_cmp_equiv candidate_total) };
+
+    fn eq(&self, other: &Candidate<'v>) -> bool
+        ensures { result ≡ eq_by_cmp candidate_order self.now other.now }
+    {
+        self.cmp(other).is_eq()
+    }
+}
+
+impl<'v> Eq for Candidate<'v> {
+    ghost laws = { eq_by_cmp_equiv candidate_total };
+}
+
+impl<'v> PartialOrd for Candidate<'v> {
+    ghost partial_cmp = { λ a b. Some (candidate_order a b) };
+
+    ghost laws = { po candidate_total (λ a b. refl) };
+
+    fn partial_cmp(&self, other: &Candidate<'v>) -> Option<Ordering>
+        ensures { result ≡ Some (candidate_order self.now other.now) }
+    {
+        Some(self.cmp(other))
+    }
+}
+
+impl<'v> Ord for Candidate<'v> {
+    ghost cmp = { candidate_order };
+
+    ghost total = { candidate_total };
+
+    ghost matches_partial_cmp = { λ a b. refl };
+
+    ghost matches_eq = { λ a b. refl };
+
+    fn cmp(&self, other: &Candidate<'v>) -> Ordering
+        ensures { result ≡ candidate_order self.now other.now }
+    {
+        let version = other.version.cmp_version(&self.version);
+        let lasting = (!other.is_deprecated).cmp(&!self.is_deprecated);
+        let default = other.is_default.cmp(&self.is_default);
+        default.then(lasting.then(version))
+    }
+}

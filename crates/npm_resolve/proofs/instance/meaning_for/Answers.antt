@@ -1,0 +1,26 @@
+-- The spec asks no registry, or for the package of the name, or for another.
+use Rattle.std.proofs.Common.{◌≡◌, ◌∙◌, Some, ap, option_map, refl, sym}
+use Rattle.std.proofs.lemmas.Result.{IfOk-weaker}
+use Rattle.npm_candidates.specs.Meanings.{nothing}
+use Rattle.npm_texts.specs.RegistrySpec.{registry_spec, registry_spec_value}
+use Rattle.npm_resolve.specs.Instance.{by_text, of_another, of_none}
+use Rattle.npm_resolve.proofs.instance.meaning_for.Goals as goal
+
+pub returns-in_default : goal.returns-in_default
+returns-in_default c = (nothing, of_none (sym c.registry_spec.ensures ∙ ap (option_map registry_spec_value) c.in_default.is), refl)
+
+pub returns-then-eq : goal.returns-then-eq
+returns-then-eq c =
+    let request = registry_spec_value c.in-Some.request in
+    let found : registry_spec c.args.offer.now.name.now c.args.spec.now ≡ Some request =
+    sym c.registry_spec.ensures ∙ ap (option_map registry_spec_value) c.in-Some.is in
+    IfOk-weaker c.meaning_of.result _ _
+    (λ meaning read. (read.0, by_text request read.0 found (sym c.eq.ensures ∙ c.if-eq.true) read.1, read.2))
+    c.meaning_of.ensures
+
+pub returns-else-eq : goal.returns-else-eq
+returns-else-eq c =
+    let request = registry_spec_value c.in-Some.request in
+    let found : registry_spec c.args.offer.now.name.now c.args.spec.now ≡ Some request =
+    sym c.registry_spec.ensures ∙ ap (option_map registry_spec_value) c.in-Some.is in
+    (nothing, of_another request found (sym c.eq.ensures ∙ c.if-eq.false), refl)

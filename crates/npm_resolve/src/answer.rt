@@ -1,0 +1,34 @@
+//! What a resolver answers.
+
+use named_problems::Ask;
+
+/// A version that is selected.
+#[derive(Clone, Copy, Debug, PartialEq, Eq, Drop)]
+pub struct Chosen<'v> {
+    /// The name that is asked for.
+    pub name: &'v str,
+    /// The name of the package in the registry. It is another one for an alias.
+    pub package: &'v str,
+    /// The version, as it is written in the document.
+    pub key: &'v str,
+}
+
+/// Which versions fit together.
+#[derive(Drop)]
+pub enum Resolution<'v> {
+    /// The versions that are selected, in the order in which they are first needed.
+    Selected(Vec<Chosen<'v>>),
+    /// No selection fits. What the manifest asks for that cannot be met together, and without any one of which the others can;
+    /// `None` if that takes more steps than it may.
+    NoSelection(Option<Vec<Ask<'v>>>),
+    /// The steps were used up before either was known.
+    Undecided,
+}
+
+/// Which versions fit together, and what the manifest asks no registry for.
+#[derive(Drop)]
+pub struct Answer<'v> {
+    pub resolution: Resolution<'v>,
+    /// A folder, a repository, a URL, or an alias that npm refuses.
+    pub left_out: Vec<Ask<'v>>,
+}

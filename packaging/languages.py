@@ -9,11 +9,11 @@ import sys
 import tarfile
 
 import archives
+import licences
+import manylinux
 from versions import ROOT
 
 BINDINGS = os.path.join(ROOT, "bindings")
-# The oldest GNU C library that the native parts may need: that of manylinux_2_28.
-GLIBC = (2, 28)
 PYTHON = "/usr/bin/python3"
 
 
@@ -34,13 +34,11 @@ def copied(name, room):
     return os.path.join(room, name)
 
 
-def check_glibc(path):
-    """Stops if a native part needs a newer C library, or a library beside it."""
-    symbols = run("objdump", "-T", path)
-    newest = max((tuple(map(int, it.split("."))) for it in re.findall(r"GLIBC_([0-9.]+)", symbols)), default=(0,))
-    needed = set(re.findall(r"NEEDED +(\S+)", run("objdump", "-p", path))) - {"libc.so.6", "libm.so.6", "libpthread.so.0"}
-    if newest > GLIBC or needed:
-        sys.exit(f"release: {path} needs GLIBC {newest} and {', '.join(sorted(needed)) or 'no other library'}")
+def check_native(path):
+    """Stops if a native part needs a newer C library than a release may, a library beside it, or a stack that can be run."""
+    reasons = manylinux.refusals(path, manylinux.NEWEST)
+    if reasons:
+        sys.exit("release: " + "\nrelease: ".join(f"{path}: {reason}" for reason in reasons))
 
 
 # The libraries for C, each with its header, and the crates of their exports.
@@ -62,7 +60,7 @@ def install_c(folder):
     shutil.rmtree(stage)
     for name in LIBRARIES:
         move_pkg_config(os.path.join(folder, f"lib/pkgconfig/{name}.pc"))
-        check_glibc(os.path.join(folder, f"lib/lib{name}.so"))
+        check_native(os.path.join(folder, f"lib/lib{name}.so"))
 
 
 def move_pkg_config(path):
@@ -88,37 +86,40 @@ def node_package(room, out):
     for name in LIBRARIES:
         made = os.path.join(at, f"build/Release/{name}.node")
         run("strip", "--strip-unneeded", made)
-        check_glibc(made)
+        check_native(made)
         os.rename(made, os.path.join(to, f"{name}.node"))
     shutil.rmtree(os.path.join(at, "build"))
     path = os.path.join(at, "package.json")
     with open(path, encoding="utf-8") as file:
         package = json.load(file)
-    package["files"] = sorted([*package["files"], "prebuilt/"])
+    archives.write(os.path.join(at, "NOTICES"), licences.notices(*LIBRARIES.values()))
+    package["files"] = sorted([*package["files"], "NOTICES", "prebuilt/"])
     # The package finds them itself, so it works where no install script is run.
     del package["scripts"]["install"]
     archives.write(path, json.dumps(package, indent=2) + "\n")
     run("npm", "pack", "--ignore-scripts", "--pack-destination", out, at=at)
 
 
+def replace(path, old, new):
+    with open(path, encoding="utf-8") as file:
+        text = file.read()
+    if text.count(old) != 1:
+        sys.exit(f"release: {path} has not once {old}")
+    archives.write(path, text.replace(old, new))
+
+
 def python_packages(room, out, date):
-    """The wheel, one for each Python from 3.10 on, and the sources, which bring the proved library."""
+    """The sources, and the wheel that is built from them: one for each Python from 3.10 on, with the tag that its parts allow."""
     at = copied("python", room)
-    os.makedirs(os.path.join(at, "lib"))
-    for name in LIBRARIES:
-        shutil.copy(os.path.join(BINDINGS, f"c/build/lib{name}.a"), os.path.join(at, "lib"))
-        shutil.copy(os.path.join(BINDINGS, f"c/include/{name}.h"), os.path.join(at, "lib"))
-    if os.path.islink(os.path.join(at, "LICENSE")) or not os.path.exists(os.path.join(at, "LICENSE")):
-        shutil.copy(os.path.join(ROOT, "LICENSE"), os.path.join(at, "LICENSE"))
-    stamp = {"SOURCE_DATE_EPOCH": str(date), "CFLAGS": "-g0"}
-    run(PYTHON, "setup.py", "-q", "sdist", "--dist-dir", os.path.join(room, "sdist"), at=at, **stamp)
-    sources = glob.glob(os.path.join(room, "sdist", "*.tar.gz"))[0]
+    archives.write(os.path.join(at, "NOTICES"), licences.notices(*LIBRARIES.values()))
+    replace(os.path.join(at, "setup.py"), 'license_files=["LICENSE"]', 'license_files=["LICENSE", "NOTICES"]')
+    built = os.path.join(room, "built")
+    stamp = {"SOURCE_DATE_EPOCH": str(date), "CFLAGS": "-g0", "NODE_SEMVER_LIBRARY": os.path.join(BINDINGS, "c/build/libnode_semver.a")}
+    run(PYTHON, "-m", "build", "--no-isolation", "--outdir", built, at=at, **stamp)
+    [sources], [wheel] = (glob.glob(os.path.join(built, f"*.{kind}")) for kind in ("tar.gz", "whl"))
     with tarfile.open(sources) as archive:
         archive.extractall(os.path.join(room, "unpacked"))
     name = os.path.basename(sources)[: -len(".tar.gz")]
     packed = archives.tar_of(os.path.join(room, "unpacked", name), date, name + "/")
     archives.write(os.path.join(out, os.path.basename(sources)), archives.gzipped(packed, date))
-    platform = f"manylinux_{GLIBC[0]}_{GLIBC[1]}_x86_64"
-    run(PYTHON, "setup.py", "-q", "bdist_wheel", "--plat-name", platform, "--dist-dir", out, at=at, **stamp)
-    for path in glob.glob(os.path.join(at, "build/released/lib*/node_semver/*.so")):
-        check_glibc(path)
+    run(PYTHON, os.path.join(ROOT, "packaging/manylinux.py"), "tag", wheel, out, **stamp)

@@ -14,6 +14,8 @@ PLACES = (
     ("crates/npm_lock_arguments/src/help.rt", r'"(?:npm_lock_check )?(\d[^"\\]*)(?:\\n)?"'),
     ("crates/npm_pick_command/src/help.rt", r'"npm_pick ([^"\\]*)\\n"'),
     ("README.md", r"denimscree-semver-([0-9][0-9.]*)\.tgz"),
+    ("README.md", r"denimscree_semver-([0-9][0-9.]*)(?:-cp310|\.tar\.gz)"),
+    ("bindings/python/README.md", r"denimscree(?:_semver)?-([0-9][0-9.]*)(?:-cp310|-linux|\.tar\.gz)"),
 )
 
 

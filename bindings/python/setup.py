@@ -1,25 +1,40 @@
 # SPDX-License-Identifier: Apache-2.0
 """Builds the two extension modules on Python's limited API; pyproject.toml says the rest.
 
-NODE_SEMVER_LIBRARY names the static libraries to link, with `:` between, and NODE_SEMVER_INCLUDE the folder of their
-headers. If it does not name libnpm_pick.a, that is taken from the folder of the first. Without them they are those of the
-folder lib, which the sources of a release have, and else those of ../c, which `make` builds where a source has changed.
+NODE_SEMVER_LIBRARY names the static libraries to link, with `:` between. If it does not name libnpm_pick.a, that is taken
+from the folder of the first. Their headers are in the folder `include` beside that one, or in NODE_SEMVER_INCLUDE.
+
+Without NODE_SEMVER_LIBRARY they are those of ../c, which `make` builds where a source has changed. That is in a clone of the
+repository. The source distribution has no ../c and no library, so the build stops, and says how to get them.
+
 NODE_SEMVER_REFUSE=1 makes the build of tests/refused, in which any allocation can be made to fail.
 """
 
 import hashlib
 import os
+import re
 import subprocess
 from glob import glob
 
 from setuptools import Extension, setup
 from setuptools.command.build_ext import build_ext
+from setuptools.command.sdist import sdist
+from setuptools.errors import SetupError
 
 HERE = os.path.dirname(os.path.abspath(__file__))
 ROOT = os.path.dirname(os.path.dirname(HERE))
 C_PACKAGE = os.path.join(os.path.dirname(HERE), "c")
-RELEASED = os.path.join(HERE, "lib", "libnode_semver.a")
 PICK = "libnpm_pick.a"
+HEADERS = ("node_semver.h", "npm_pick.h")
+
+HELP = """
+This package links the proved libraries for C, libnode_semver.a and libnpm_pick.a of version {version}. The source
+distribution does not have them. There are two ways to get them:
+- From a release: unpack denimscree-{version}-linux-x86_64.tar.gz, and set NODE_SEMVER_LIBRARY to the absolute path of its
+  lib/libnode_semver.a.
+- From a clone of the repository, with the Rattle toolchain: run `make -C bindings/c all pick`, and set NODE_SEMVER_LIBRARY
+  to the absolute path of its bindings/c/build/libnode_semver.a.
+The wheel of a release needs neither these libraries nor a compiler."""
 
 # What the extension and the library call to allocate.
 ALLOCATORS = [
@@ -56,28 +71,50 @@ def build_c_library() -> str:
         with open(stamp) as file:
             before = file.read()
     all_anew = ["-B"] if before not in (None, content) else []
-    subprocess.run(["make", "-C", C_PACKAGE, *all_anew, "all", "pick"], check=True)
+    try:
+        subprocess.run(["make", "-C", C_PACKAGE, *all_anew, "all", "pick"], check=True)
+    except (OSError, subprocess.CalledProcessError) as error:
+        raise SetupError(f"the libraries for C are not built: {error}") from error
     with open(stamp, "w") as file:
         file.write(content)
     return library
 
 
-def libraries() -> list[str]:
+def missing(what: str, version: str) -> SetupError:
+    """The error that says what is missing, and how to get it."""
+    return SetupError(what + HELP.format(version=version))
+
+
+def libraries(version: str) -> list[str]:
     """The static libraries to link."""
     named = os.environ.get("NODE_SEMVER_LIBRARY")
     if named:
         found = named.split(":")
+    elif os.path.isfile(os.path.join(C_PACKAGE, "Makefile")):
+        found = [build_c_library()]
     else:
-        found = [RELEASED if os.path.exists(RELEASED) else build_c_library()]
+        raise missing("NODE_SEMVER_LIBRARY is not set.", version)
     if all(os.path.basename(path) != PICK for path in found):
         found.append(os.path.join(os.path.dirname(found[0]), PICK))
+    for path in found:
+        if not os.path.isfile(path):
+            raise missing(f"There is no library {os.path.abspath(path)}.", version)
     return found
 
 
-def include() -> str:
-    """The folder of node_semver.h and npm_pick.h."""
-    folder = os.path.dirname(RELEASED) if os.path.exists(RELEASED) else os.path.join(C_PACKAGE, "include")
-    return os.environ.get("NODE_SEMVER_INCLUDE", folder)
+def include(library: str, version: str) -> str:
+    """The folder of the headers of a library, which must be of this version."""
+    beside = os.path.join(os.path.dirname(os.path.dirname(os.path.abspath(library))), "include")
+    folder = os.environ.get("NODE_SEMVER_INCLUDE") or beside
+    for name in HEADERS:
+        path = os.path.join(folder, name)
+        if not os.path.isfile(path):
+            raise missing(f"There is no header {os.path.abspath(path)}.", version)
+        with open(path, encoding="utf-8") as file:
+            found = re.search(r'^#define \w+_LIBRARY_VERSION "(.*)"', file.read(), re.M)
+        if found is None or found[1] != version:
+            raise missing(f"{os.path.abspath(path)} is of version {found and found[1]}.", version)
+    return folder
 
 
 REFUSE = bool(os.environ.get("NODE_SEMVER_REFUSE"))
@@ -92,7 +129,6 @@ def extension(name: str, folder: str) -> Extension:
     return Extension(
         name,
         sources,
-        include_dirs=[include()],
         extra_compile_args=["-std=c99", "-fvisibility=hidden", "-Wall", "-Wextra"],
         extra_link_args=link,
         py_limited_api=True,
@@ -104,15 +140,34 @@ class BuildAnew(build_ext):
 
     def run(self) -> None:
         self.force = True
+        version = self.distribution.get_version()
+        found = libraries(version)
+        folder = include(found[0], version)
         for made in self.extensions:
-            made.extra_objects = libraries()
+            made.extra_objects = found
+            made.include_dirs = [folder]
         super().run()
+
+
+class NamedSources(sdist):
+    """Writes `_` for the `-` in the name of the archive, as PEP 625 asks. setuptools itself does from 69.3 on."""
+
+    def make_distribution(self) -> None:
+        metadata = self.distribution.metadata
+        name = f"{metadata.get_name().replace('-', '_')}-{metadata.get_version()}"
+        self.distribution.get_fullname = lambda: name
+        super().make_distribution()
 
 
 os.chdir(HERE)
 setup(
+    # PEP 639 has `license = "Apache-2.0"` and `license-files` in pyproject.toml. setuptools reads these from 77 on; Debian 12
+    # has 66, which refuses them, and the table that 66 reads there is deprecated in newer ones. All read these two here, and
+    # 66 writes `License: Apache-2.0`, an SPDX expression, and `License-File: LICENSE`. It cannot write `License-Expression`.
+    license="Apache-2.0",
+    license_files=["LICENSE"],
     ext_modules=[extension("node_semver._native", "native"), extension("node_semver._pick", "native/pick")],
-    cmdclass={"build_ext": BuildAnew},
+    cmdclass={"build_ext": BuildAnew, "sdist": NamedSources},
     options={
         "bdist_wheel": {"py_limited_api": "cp310"},
         "build": {"build_base": "build/refused" if REFUSE else "build/released"},

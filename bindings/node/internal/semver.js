@@ -145,9 +145,21 @@ function refusal(text, isLoose) {
     return place < 0 ? `Invalid Version: ${text}` : `Invalid ${['major', 'minor', 'patch'][place]} version`;
 }
 
+// What the texts of versions have before the patch, for small numbers, from when it is first asked for: to join the parts of a text
+// is most of what `inc` takes.
+const [MAJORS, MINORS] = [32, 64];
+const heads = new Array(MAJORS * MINORS);
+
+function headOf(major, minor) {
+    // A user may have put other values into a SemVer, so these must be numbers, and not only have their texts.
+    const isSmall = typeof major === 'number' && (major & MAJORS - 1) === major
+        && typeof minor === 'number' && (minor & MINORS - 1) === minor;
+    return isSmall ? heads[major * MINORS + minor] ??= `${major}.${minor}.` : `${major}.${minor}.`;
+}
+
 // The text of a SemVer as its fields stand, which a user may have changed.
 function textWithoutBuild({ major, minor, patch, prerelease }) {
-    const triple = `${major}.${minor}.${patch}`;
+    const triple = `${headOf(major, minor)}${patch}`;
     return prerelease.length === 0 ? triple : `${triple}-${prerelease.join('.')}`;
 }
 const textOf = (semVer) => `${textWithoutBuild(semVer)}${semVer.build.length ? `+${semVer.build.join('.')}` : ''}`;

@@ -111,6 +111,23 @@ test('a package that was installed without its scripts says what to do', () => w
     }
 }));
 
+// A Node that says that it is another one.
+const FOREIGN = {
+    'linux on arm64': "Object.defineProperty(process, 'arch', { value: 'arm64' });",
+    'darwin on x64': "Object.defineProperty(process, 'platform', { value: 'darwin' });",
+    'linux on x64 without glibc': "process.report.getReport = () => ({ header: {} });",
+};
+test('a machine that the package is not for is named', () => withCopy((room) => {
+    for (const [machine, script] of Object.entries(FOREIGN)) {
+        fs.writeFileSync(path.join(room, 'foreign.js'), script);
+        for (const module of ['', '/pick.js']) {
+            const text = said(room + module, '--require', path.join(room, 'foreign.js'));
+            assert.ok(text.includes(`is not loaded. It is for linux on x64 with glibc, and this Node is for ${machine}. (`), text);
+            assert.ok(text.includes("code: 'MODULE_NOT_FOUND'") && !text.includes('npm rebuild'), text);
+        }
+    }
+}));
+
 const prebuilt = `prebuilt/${process.platform}-${process.arch}`;
 const uses = (room) => spawnSync(process.execPath, ['-e', `
     const semver = require(${JSON.stringify(room)});
@@ -142,11 +159,24 @@ test('each name can be imported by a module', () => {
         import semver, * as all from '${name}';
         import pick from '${name}/pick';
         import minVersion_ from '${name}/ranges/min-version.js';
+        import { ${names.map((name) => `${name} as ${name}_of_preload`).join(', ')} } from '${name}/preload';
+        import * as classes from '${name}/classes';
         const names = { ${names.join(', ')} };
         console.log(Object.keys(names).every((name) => names[name] === semver[name] && all[name] === semver[name]), satisfies('1.9.0', '^1.2'),
-            typeof pick, minVersion_ === minVersion);
+            typeof pick, minVersion_ === minVersion, parse_of_preload === parse, ['SemVer', 'Range', 'Comparator'].every((name) =>
+                classes[name] === semver[name]));
     `], { cwd: root, encoding: 'utf8' });
-    assert.strictEqual(stdout, 'true true function true\n', stderr);
+    assert.strictEqual(stdout, 'true true function true true true\n', stderr);
+});
+
+test('each file of a function or a class can be imported by a module', async () => {
+    for (const folder of ['functions', 'ranges', 'classes']) {
+        for (const file of fs.readdirSync(path.join(root, folder)).filter((file) => file.endsWith('.js'))) {
+            for (const place of [`${folder}/${file}`, `${folder}/${path.parse(file).name}`]) {
+                assert.strictEqual((await import(`${name}/${place}`)).default, require(`${name}/${place}`), place);
+            }
+        }
+    }
 });
 
 // Debian's package esbuild.
@@ -157,6 +187,7 @@ test('a bundle that leaves the package out', () => {
         fs.symlinkSync(root, path.join(room, 'node_modules', name));
         fs.writeFileSync(path.join(room, 'app.js'), `import { satisfies } from '${name}';\nconsole.log(satisfies('1.9.0', '^1.2'));\n`);
         const bundle = (...more) => {
+            fs.rmSync(path.join(room, 'out'), { recursive: true, force: true });
             const words = ['app.js', '--bundle', '--platform=node', '--outfile=out/app.js', '--log-level=error', ...more];
             const { status, stderr, error } = spawnSync('esbuild', words, { cwd: room, encoding: 'utf8' });
             assert.strictEqual(error, undefined, 'there is no esbuild: apt-get install esbuild');
@@ -164,6 +195,9 @@ test('a bundle that leaves the package out', () => {
             return spawnSync(process.execPath, ['out/app.js'], { cwd: room, encoding: 'utf8' });
         };
         assert.strictEqual(bundle(`--external:${name}`).stdout, 'true\n');
+        fs.writeFileSync(path.join(room, 'package.json'), '{"type": "module"}');
+        assert.strictEqual(bundle(`--external:${name}`, '--format=esm').stdout, 'true\n');
+        fs.rmSync(path.join(room, 'package.json'));
         const text = bundle().stderr;
         assert.ok(text.includes('a bundler has to leave this package out'), text);
     } finally {

@@ -293,6 +293,30 @@ describe('SemVers are compared as with npm', () => {
             assert.deepStrictEqual(ours, theirs, inspect(field));
         }
     });
+    test('texts of fields that a user has set', () => {
+        const texts = () => ({ valueOf: () => 7, toString: () => '8' });
+        const fields = [0, -0, 1, 31, 32, 63, 64, 65, 2047, 2 ** 31, 2 ** 32, 2 ** 32 + 1, -1, -32, 1.5, NaN, Infinity, '1', '01', '',
+            1n, 31n, true, false, null, undefined, [], [5], {}, texts, texts(), new Number(3), Symbol('a')];
+        for (const major of fields) {
+            for (const minor of fields) {
+                const made = (s) => outcome(() => Object.assign(new s.SemVer('1.2.3'), { major, minor }).format());
+                assert.strictEqual(made(semver), made(npm), inspect([major, minor]));
+                const raised = (s, ...words) => outcome(() => Object.assign(new s.SemVer('1.2.3-a.1'), { major, minor }).inc(...words));
+                for (const words of [['major'], ['minor'], ['patch'], ['prerelease', 'a'], ['preminor']]) {
+                    assert.strictEqual(raised(semver, ...words), raised(npm, ...words), inspect([major, minor, words]));
+                }
+            }
+        }
+    });
+    test('texts of small numbers and of large ones', () => {
+        for (let major = 0; major < 70; major++) {
+            for (let minor = 0; minor < 140; minor++) {
+                const [version, text] = [new semver.SemVer('0.0.0'), `${major}.${minor}.5`];
+                assert.strictEqual(Object.assign(version, { major, minor, patch: 5 }).format(), text);
+                assert.strictEqual(new semver.SemVer(text).inc('patch').raw, `${major}.${minor}.6`);
+            }
+        }
+    });
 });
 
 describe('parseRange is as with npm', () => {

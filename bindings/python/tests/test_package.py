@@ -16,7 +16,7 @@ class Package(unittest.TestCase):
     def distribution(self) -> importlib.metadata.Distribution:
         """What was installed together with the package."""
         folder = os.path.dirname(os.path.dirname(os.path.abspath(node_semver.__file__)))
-        [found] = importlib.metadata.distributions(name="node_semver", path=[folder])
+        [found] = importlib.metadata.distributions(name="denimscree-semver", path=[folder])
         return found
 
     def test_the_licence(self) -> None:

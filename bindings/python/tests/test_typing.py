@@ -9,6 +9,7 @@ import subprocess
 import sys
 import tempfile
 import unittest
+from glob import glob
 
 import node_semver
 
@@ -71,6 +72,7 @@ class Typing(unittest.TestCase):
         example = os.path.join(os.path.dirname(HERE), "examples", "installed.py")
         files = [os.path.join(HERE, name) for name in sorted(os.listdir(HERE)) if name.endswith(".py")]
         files += [os.path.join(HERE, "refused", "test_refused.py"), os.path.join(HERE, "setup", "test_setup.py")]
+        files += sorted(glob(os.path.join(HERE, "distributions", "*.py")))
         self.accepts("mypy", "--strict", example, *files)
 
 

@@ -79,11 +79,20 @@ pub fn versions(alloc: Global, text: &str) -> Result<(Version, Version), SemverE
     let read: Version = Version::parse(alloc, text)?;
     let made: Result<Version, AllocError> = Version::with_pre_release(alloc, 1, 2, 3, 4);
     let copied: Result<Version, AllocError> = read.clone();
-    match (made, copied) {
-        (Ok(made), Ok(copied)) if !made.is_prerelease() => Ok((copied, made)),
-        (Ok(made), _) => Ok((read, made)),
-        (Err(_), _) => Ok((Version::new(alloc, 0, 0, 0), read)),
+    let made: Version = match made {
+        Ok(made) => made,
+        Err(_) => Version::new(alloc, 0, 0, 0),
+    };
+    match copied {
+        Ok(copied) => Ok((copied, made)),
+        Err(_) => Ok((read, made)),
     }
+}
+
+/// Whether a version is no prerelease.
+pub fn is_release(version: &Version) -> bool {
+    let is_prerelease: bool = version.is_prerelease();
+    !is_prerelease
 }
 
 /// Whether a version satisfies a range, asked in each way.

@@ -1,7 +1,9 @@
 -- Texts that are added one after the other.
 use Rattle.std.proofs.Common.{◌≡◌, ◌∙◌, ◌++◌, ℕ, List, Option, Some, None, Result, Ok, Err, OnOk, String, Global, ap}
-use Rattle.std.proofs.Common.{if◌then◌else◌, is_ok, option_map, string_bytes}
+use Rattle.std.proofs.Common.{◌∷◌, [], arith, if◌then◌else◌, is_ok, length, option_map, refl, string_bytes, true}
+use Rattle.std.proofs.lemmas.Bool.{eqb-true}
 use Rattle.std.specs.Option.{option_copied}
+use Rattle.std.specs.Prelude.{◌==◌}
 use denote.Ref.{Bor}
 
 -- what a reference points to
@@ -21,3 +23,8 @@ pub then_same : {T E : Type 0} (r : Result T E) (new made whole : List ℕ) → 
     → OnOk r (new ≡ whole)
 then_same (Ok x) new made whole is same = is ∙ same
 then_same (Err e) new made whole is same = tt
+
+-- a text without a byte is empty
+pub no_bytes : (text : List ℕ) → (length text == 0) ≡ true → text ≡ []
+no_bytes [] is = refl
+no_bytes (byte ∷ text) is = absurd (omega (arith, eqb-true (length (byte ∷ text)) 0 is))

@@ -77,10 +77,14 @@ control_characters = refl
 pub a_backslash : shown (codes "\\x1b\"") ≡ codes "\\\\x1b\\\""
 a_backslash = refl
 
-pub printable : shown (codes " ~@^!#$%&'()*+,-./:;<=>?[]_`{|}") ≡ codes " ~@^!#$%&'()*+,-./:;<=>?[]_`{|}"
+pub printable : shown (codes " ~@^!#$%&'()*+,-./:;<=>?]_`{|}") ≡ codes " ~@^!#$%&'()*+,-./:;<=>?]_`{|}"
 printable = refl
 
-pub a_bracket_and_a_quotation_mark : shown (codes "[\"a\"]") ≡ codes "[\\\"a\\\"]"
+-- a runner of GitHub reads no command
+pub a_bracket : shown (codes "a ##[error]b") ≡ codes "a ##\\x5berror]b"
+a_bracket = refl
+
+pub a_bracket_and_a_quotation_mark : shown (codes "[\"a\"]") ≡ codes "\\x5b\\\"a\\\"]"
 a_bracket_and_a_quotation_mark = refl
 
 -- the last and the first byte that are no printable ASCII

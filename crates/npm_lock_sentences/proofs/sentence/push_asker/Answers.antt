@@ -1,15 +1,8 @@
 -- The root has no folder.
-use Rattle.std.proofs.Common.{◌≡◌, ◌∙◌, ◌++◌, ◌∷◌, [], ℕ, List, ap, arith, codes, length, option_map, refl}
-use Rattle.std.proofs.Common.{string_bytes, sym, true}
-use Rattle.std.proofs.lemmas.Bool.{eqb-true}
-use Rattle.std.specs.Prelude.{◌==◌}
+use Rattle.std.proofs.Common.{◌≡◌, ◌∙◌, ◌++◌, ap, codes, option_map, refl, string_bytes, sym}
 use Rattle.npm_lock_sentences.specs.Sentence.{asker}
-use Rattle.npm_lock_sentences.proofs.Parts.{last}
+use Rattle.npm_lock_sentences.proofs.Parts.{last, no_bytes}
 use Rattle.npm_lock_sentences.proofs.sentence.push_asker.Goals as goal
-
-no_bytes : (folder : List ℕ) → (length folder == 0) ≡ true → folder ≡ []
-no_bytes [] is = refl
-no_bytes (byte ∷ folder) is = absurd (omega (arith, eqb-true (length (byte ∷ folder)) 0 is))
 
 pub returns-then-is_empty : goal.returns-then-is_empty
 returns-then-is_empty c =

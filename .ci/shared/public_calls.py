@@ -21,6 +21,8 @@ SCRIPTS = {"memory_trials": "makes the calls", "node_semver_callers": "examples"
            "npm_advisory_files": "calls of npm_advisories",
            "npm_manifest_files": "runs with --manifest",
             "npm_lock_file_checks": "all runs", "npm_lock_arguments": "all runs", "npm_lock_runs": "all runs",
+           "npm_lock_exceptions": "runs with --exceptions", "advisory_exceptions": "runs with --exceptions",
+           "advisory_exception_files": "runs with --exceptions",
            "npm_pick_errors": "runs on files that are refused", "npm_pick_outdated": "runs with --outdated",
            "npm_pick_mirrors": "runs with --keep", "npm_pick_reports": "all runs",
            "version_solving": "runs of .ci/version_solving", "named_problems": "runs of .ci/npm_resolve",

@@ -1,0 +1,3 @@
+pub mod Examples
+pub mod Listing
+pub mod Years

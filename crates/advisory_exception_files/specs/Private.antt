@@ -1,0 +1,4 @@
+-- What private functions are said to compute.
+
+pub mod Keys  -- whose keys they are
+pub mod Parts  -- the parts of an exception

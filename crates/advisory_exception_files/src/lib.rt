@@ -1,0 +1,15 @@
+//! Files of exceptions to security advisories, in TOML.
+//!
+//! Apart from `advisory_exceptions`, so that a crate that uses exceptions is proved without the reader of TOML.
+#![tactic(auto)]
+
+mod day;
+mod error;
+mod item;
+mod keys;
+mod read;
+#[cfg(test)]
+mod tests;
+
+pub use day::day_at;
+pub use read::read_exceptions;

@@ -1,0 +1,3 @@
+-- What the contracts of advisory_exceptions say.
+
+pub mod Exceptions  -- an exception, and when it is over

@@ -94,7 +94,7 @@ parts_in place members = with_parts place (text_at (codes "id") members) (text_a
 
 -- a table that has no other key
 abbrev pub checked_parts : (place : ℕ) → (unknown : Option (List ℕ)) → Members → Result ExceptionValue FaultValue
-checked_parts place (Some key) members = Err (no_such_exception_key place key)
+checked_parts place (Some key) _ = Err (no_such_exception_key place key)
 checked_parts place None members = parts_in place members
 
 abbrev pub in_table : (place : ℕ) → Option Members → Result ExceptionValue FaultValue
@@ -127,7 +127,7 @@ value_read None = Ok []
 value_read (Some value) = list_read (as_array value)
 
 abbrev pub checked_read : (unknown : Option (List ℕ)) → Members → Result (List ExceptionValue) FaultValue
-checked_read (Some key) members = Err (no_such_key key)
+checked_read (Some key) _ = Err (no_such_key key)
 checked_read None members = value_read (get_member (codes "exceptions") members)
 
 -- the exceptions of a file with these values

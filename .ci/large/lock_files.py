@@ -7,6 +7,7 @@ from versions import LONG, MANY
 LEVELS = ["info", "low", "moderate", "high", "critical"]
 NAMES = [f"m{number:05}" for number in range(MANY)]
 LONGEST = 4096  # No folder of a package has more bytes.
+NESTED = "/".join(f"node_modules/{name}" for name in NAMES)  # Each package inside the one before.
 
 
 def text_of(value):
@@ -107,7 +108,7 @@ def askers():
     yield Case(lock_of(root, {**links, **workspaces}), [
         dependency("z", "1", f"w/{name}", problem="missing") for name in NAMES
     ])
-    deep = "/".join(f"node_modules/{name}" for name in NAMES)[:LONGEST]
+    deep = NESTED[:LONGEST]
     yield Case(lock_of({}, {deep: {"version": "1.0.0", "dependencies": {"d": "2", "z": "1"}}, **d}), [
         dependency("d", "2", deep, problem="invalid", to="node_modules/d", version="1.0.0"),
         dependency("z", "1", deep, problem="missing"),

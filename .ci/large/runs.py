@@ -2,7 +2,7 @@
 import os
 
 from findings import Finding, at_dependency, at_mismatch, at_package, github, sarif
-from lock_files import GROUPS, LEVELS, NAMES, asked, at_root, audits, cases, lock_of, mismatch, osv_audits, text_of
+from lock_files import GROUPS, LEVELS, NAMES, NESTED, asked, at_root, audits, cases, lock_of, mismatch, osv_audits, text_of
 from ranges import alternatives
 from versions import LONG, MANY
 
@@ -181,9 +181,8 @@ def refused_runs():
     for _ in range(DEEP):
         deep, names = {"version": "1.0.0", "dependencies": {"a": deep}}, ["dependencies", "a", *names]
     faults.append(({"lockfileVersion": 1, **deep}, "the dependencies of a package are no object", names))
-    folder = "/".join(f"node_modules/{name}" for name in NAMES)
     too_long = "npm does not write the folder of a package so, or it has more than 4096 bytes"
-    faults.append((lock_of({}, {folder: {"version": "1.0.0"}}), too_long, ["packages", folder]))
+    faults.append((lock_of({}, {NESTED: {"version": "1.0.0"}}), too_long, ["packages", NESTED]))
     for lock, fault, names in faults:
         column = text_of(lock).index(f'"{names[-1]}":') + 1
         path = ", ".join(f'"{name}"' for name in names)

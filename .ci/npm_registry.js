@@ -1,7 +1,8 @@
 // A registry for `.ci/npm_itself`: a few packages, an advisory, and a yes to whatever is published. It keeps nothing, so
-// two npms that ask it the same get the same. Writes its address to a file, and listens until it is ended.
+// two npms that ask it the same get the same. Writes its address to a file, and listens until it is ended. It has the
+// packages of a JSON file in place of its own, if there is one.
 //
-//     node .ci/npm_registry.js FILE
+//     node .ci/npm_registry.js FILE [PACKAGES]
 'use strict';
 
 const { execFileSync } = require('node:child_process');
@@ -11,7 +12,7 @@ const http = require('node:http');
 const os = require('node:os');
 const path = require('node:path');
 
-const packages = {
+const packages = process.argv[3] ? JSON.parse(fs.readFileSync(process.argv[3], 'utf8')) : {
     alpha: {
         'dist-tags': { latest: '2.0.0', old: '1.1.0', next: '2.1.0-rc.1' },
         versions: {

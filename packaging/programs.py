@@ -23,6 +23,7 @@ import rtlib
 PROGRAMS = {
     "npm_lock_check": "npm_lock_check",
     "npm_pick_command": "npm_pick",
+    "npm_resolve_command": "npm_resolve",
     "semver_command": "semver",
     "semver_pairs": "semver_pairs",
 }

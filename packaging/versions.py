@@ -11,10 +11,13 @@ PLACES = (
     ("bindings/c/include/npm_pick.h", r'#define NPM_PICK_LIBRARY_VERSION "([^"]*)"'),
     ("bindings/python/src/node_semver/__init__.py", r'^__version__ = "([^"]*)"'),
     ("bindings/node/package.json", r'^  "version": "([^"]*)"'),
-    ("crates/npm_lock_arguments/src/help.rt", r'"(?:npm_lock_check )?(\d[^"\\]*)(?:\\n)?"'),
+    ("crates/npm_lock_program/src/arguments/help.rt", r'"(?:npm_lock_check )?(\d[^"\\]*)(?:\\n)?"'),
     ("crates/npm_pick_command/src/help.rt", r'"npm_pick ([^"\\]*)\\n"'),
+    ("crates/npm_resolve_command/src/help.rt", r'"npm_resolve ([^"\\]*)\\n"'),
     ("README.md", r"denimscree-semver-([0-9][0-9.]*)\.tgz"),
-    ("README.md", r"denimscree_semver-([0-9][0-9.]*)(?:-cp310|\.tar\.gz)"),
+    ("docs/CHANGING.md", r"denimscree-semver-([0-9][0-9.]*)\.tgz"),
+    ("docs/CHANGING.md", r"denimscree_semver-([0-9][0-9.]*)(?:-cp310|\.tar\.gz)"),
+    ("docs/CHANGING.md", r"`denimscree[-_]([0-9][0-9.]*[0-9])(?:[-_.][a-z])"),
     ("bindings/python/README.md", r"denimscree(?:_semver)?-([0-9][0-9.]*)(?:-cp310|-linux|\.tar\.gz)"),
 )
 

@@ -2,7 +2,7 @@
 import ctypes
 
 from ranges import NO_RANGE
-from versions import NO_IDENTIFIER, OTHER, TOO_LONG
+from versions import NO_IDENTIFIER, OTHER, TOO_LONG, refused
 
 OK, NONE, REFUSED, NO_IDENTIFIER_STATUS = 0, 1, 2, 7
 KINDS = {1: TOO_LONG, 6: NO_RANGE, 7: OTHER}
@@ -74,7 +74,7 @@ class Exports:
         if status == OK:
             return handle
         if status == REFUSED and self.fault.kind in KINDS:
-            return f"{KINDS[self.fault.kind]} {self.fault.offset} {words[0]}"
+            return refused(KINDS[self.fault.kind], self.fault.offset, words[0])
         if status == NONE:
             return "nothing"
         if status == NO_IDENTIFIER_STATUS:
@@ -119,7 +119,7 @@ class Exports:
     def sets(self, text):
         handle = self.made("range", "range_parse", text)
         sets = self.sets_of(handle)
-        said = "".join(f"{self.cut(one.lower)} to {self.cut(one.upper)}; " for one in sets)
+        said = "; ".join(f"{self.cut(one.lower)} to {self.cut(one.upper)}" for one in sets)
         self.free_sets(sets)
         self.free("range", handle)
         return said
@@ -127,7 +127,7 @@ class Exports:
     def set(self, text, place):
         handle, one = self.made("range", "range_parse", text), Set()
         status = self.call("range_set", handle, ctypes.c_size_t(int(place)), one)
-        said = "nothing" if status == NONE else f"{self.cut(one.lower)} to {self.cut(one.upper)}; "
+        said = "nothing" if status == NONE else f"{self.cut(one.lower)} to {self.cut(one.upper)}"
         self.free_sets([one])
         self.free("range", handle)
         return said
@@ -140,7 +140,7 @@ class Exports:
         self.free("range", handle)
         return said
 
-    def bump(self, bump, base, identifier, text):
+    def bump(self, text, bump, identifier, base):
         version = self.made("version", "version_parse", text)
         said = self.printed(
             "version", "version_bump", version, ctypes.c_uint32(BUMPS.index(bump) + 1), identifier,
@@ -154,7 +154,7 @@ class Exports:
         version = self.made("version", "version_parse", text)
         count = self.call(f"version_{part}_count", version, returns=ctypes.c_size_t)
         places = map(ctypes.c_size_t, range(count))
-        said = "".join(self.print_of(f"version_{part}_print", version, place) + " " for place in places)
+        said = " ".join(self.print_of(f"version_{part}_print", version, place) for place in places)
         self.free("version", version)
         return said or "nothing"
 
@@ -202,11 +202,11 @@ class Exports:
         if name == "Range::parse":
             return self.printed("range", "range_parse", *words)
         if name == "npm_semver::parse_range":
-            form = [ctypes.c_bool(it in words[1:]) for it in ("loose", "prereleases")]
+            form = [ctypes.c_bool(it in words[1].split()) for it in ("loose", "prereleases")]
             return self.printed("range", "range_parse_npm", words[0], *form)
         if name in ("npm_semver::coerce", "npm_semver::coerce_with_prerelease"):
             return self.printed("version", f"version_{call}", words[0], ctypes.c_bool(words[1] == "rtl"))
-        if name == "npm_semver::inc" and len(words) == 4:
+        if name == "npm_semver::inc" and not words[0].startswith("="):
             return self.bump(*words)
         if name in algebra:
             return self.on_ranges("range", algebra[name], *words)

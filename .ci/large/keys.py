@@ -1,6 +1,6 @@
-"""Rows of calls on keys: the name of a call of semver_memory, its words, and its whole result. The keys are worked out here."""
+"""Rows of calls on keys: the name of a call of semver_answers, its words, and its whole result. The keys are worked out here."""
 from ranges import alternatives
-from versions import LETTERS, LETTERS_TEXT, LETTERS_WORDS, MANY
+from versions import LETTERS, LETTERS_PARTS, LETTERS_TEXT, MANY
 
 
 def number(value):
@@ -24,35 +24,30 @@ def key(numbers, words=()):
 
 
 def listed(written):
-    return "".join(f"{byte} " for byte in written)
-
-
-def bytes_of(written):
-    """The words that write these bytes."""
-    return [str(byte) for byte in written]
+    return " ".join(map(str, written))
 
 
 def interval(kind, lower, upper):
-    return f"{kind} {listed(lower)}to {listed(upper)}; "
+    return f"{kind} {listed(lower)} to {listed(upper)}"
 
 
 def rows():
-    words = ["a", *LETTERS_WORDS[1:]]
-    yield "semver_keys::version_key", LETTERS_WORDS, listed(key([1, 2, 3], words))
-    yield "semver_keys::cut_key", LETTERS_WORDS, listed([*key([1, 2, 3], words), 0])
+    words = ["a", *["b"] * MANY]
+    yield "semver_keys::version_key", [LETTERS_PARTS], listed(key([1, 2, 3], words))
+    yield "semver_keys::cut_key", [f"after {LETTERS_PARTS}"], listed([*key([1, 2, 3], words), 0])
     letters = LETTERS.split(".")
     yield "semver_keys::add_version_key", [f"1.2.3-{LETTERS}"], listed([7, *key([1, 2, 3], letters)])
     yield "semver_keys::add_version_key", ["1.2.3-" + "a" * 250], listed([7, *key([1, 2, 3], ["a" * 250])])
-    yield "semver_keys::version_of_key", bytes_of(key([1, 2, 3], words)), LETTERS_TEXT
+    yield "semver_keys::version_of_key", [listed(key([1, 2, 3], words))], LETTERS_TEXT
     long = ["a" * 40_000, *["7"] * 5_000, "b" * 40_000]
-    yield "semver_keys::version_of_key", bytes_of(key([1, 2, 3], long)), f"1.2.3-{'.'.join(long)}"
+    yield "semver_keys::version_of_key", [listed(key([1, 2, 3], long))], f"1.2.3-{'.'.join(long)}"
     numbers = range(1, MANY + 1)
-    releases = "".join(interval("releases", key([at, 0, 0], ["a"]), key([at, 9, 0])) for at in numbers)
-    prereleases = "".join(interval("prereleases", key([at, 0, 0], ["a"]), key([at, 0, 0])) for at in numbers)
-    both = "".join(interval("prereleases", key([at, 0, 0], ["a"]), key([at, 9, 0])) for at in numbers)
+    releases = "; ".join(interval("releases", key([at, 0, 0], ["a"]), key([at, 9, 0])) for at in numbers)
+    prereleases = "; ".join(interval("prereleases", key([at, 0, 0], ["a"]), key([at, 0, 0])) for at in numbers)
+    both = "; ".join(interval("prereleases", key([at, 0, 0], ["a"]), key([at, 9, 0])) for at in numbers)
     for order in (numbers, reversed(numbers)):
         text = alternatives(">=%.0.0-a+b <%.9.0", order)
-        yield "semver_keys::range_intervals", [text], releases + prereleases
+        yield "semver_keys::range_intervals", [text], f"{releases}; {prereleases}"
         yield "semver_keys::range_intervals_with_prereleases", [text], both
     touching = alternatives(">=%.0.0 <&.0.0")
     yield "semver_keys::range_intervals", [touching], interval("releases", key([1, 0, 0]), key([MANY + 1, 0, 0]))

@@ -1,4 +1,4 @@
-"""Large lock files, manifests and advisories, and what is wrong with them: rows of calls of npm_memory, and runs of
+"""Large lock files, manifests and advisories, and what is wrong with them: rows of calls of npm_answers, and runs of
 npm_lock_check."""
 import json
 
@@ -139,7 +139,7 @@ def check_rows():
 
 
 def listed(found):
-    """A list, as npm_memory prints it."""
+    """A list, as npm_answers prints it."""
     return "".join(text_of(one) + "\t" for one in found) or "nothing"
 
 

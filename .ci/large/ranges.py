@@ -1,7 +1,9 @@
-"""Rows of calls on ranges: the name of a call of semver_memory, its words, and its whole result."""
-from versions import LETTERS, LONG, MANY
+"""Rows of calls on ranges: the name of a call of semver_answers, its words, and its whole result."""
+import json
 
-NO_RANGE = "No valid ranges could be parsed"
+from versions import LETTERS, LONG, MANY, refused
+
+NO_RANGE = "NoValidRanges"
 DEEP = 250  # The depth of a tree, which the stack bounds.
 FORMS = [[], ["loose"], ["prereleases"], ["loose", "prereleases"]]
 
@@ -13,7 +15,7 @@ def alternatives(form, numbers=range(1, MANY + 1)):
 
 def cuts(form, numbers=range(1, MANY + 1)):
     """The cuts of as many sets."""
-    return "".join(form.replace("%", str(number)).replace("&", str(number + 1)) + "; " for number in numbers)
+    return "; ".join(form.replace("%", str(number)).replace("&", str(number + 1)) for number in numbers)
 
 
 # A form of alternatives, and its print.
@@ -47,11 +49,12 @@ def reading_rows():
     yield "Range::parse", ["foo " * MANY + "^1.2.3"], ">=1.2.3 <2.0.0-0"
     yield "Range::parse", ["f" * LONG + " 1.2.3"], "1.2.3"
     yield "Range::parse", ["foo||" * MANY + "1.2.3"], "1.2.3"
-    yield "Range::parse", ["foo||" * MANY], f"{NO_RANGE} 0 " + "foo||" * MANY
-    yield "Range::parse", ["f" * LONG], f"{NO_RANGE} 0 " + "f" * LONG
+    yield "Range::parse", ["foo||" * MANY], refused(NO_RANGE, 0, "")
+    yield "Range::parse", ["f" * LONG], refused(NO_RANGE, 0, "")
     for text in (LONG_END, MANY_IDENTIFIERS):
-        for name in ("Range::parse", "Range::from_json", "Range::clone"):
-            yield name, [text], text
+        yield "Range::parse", [text], text
+        yield "Range::clone", [text], text
+        yield "Range::from_json", [json.dumps(text)], text
     yield "Range::satisfies, read anew", [alternatives("%.1.0"), f"{MANY}.1.0"], "true"
     yield "Range::satisfies, read anew", [alternatives("%.1.0"), f"{MANY}.1.1"], "false"
 
@@ -59,8 +62,9 @@ def reading_rows():
 def npm_rows():
     """npm's own reading. In loose form a word that is no comparator is ignored; with prereleases included the least version of
     a partial has the prerelease 0."""
-    for form in FORMS:
-        loose, included = "loose" in form, "prereleases" in form
+    for words in FORMS:
+        form = [" ".join(words)]
+        loose, included = "loose" in words, "prereleases" in words
         for text, print_of in READ:
             # npm drops a build, and a hyphen range with prereleases included begins at the least of them.
             print_of = print_of.replace("+b.%", "")
@@ -72,33 +76,33 @@ def npm_rows():
         least = ">=%.0.0-0 <&.0.0-0" if included else ">=%.0.0 <&.0.0-0"
         yield "npm_semver::parse_range", [alternatives("%.x"), *form], alternatives(least)
         yield "npm_semver::parse_range", ["1.2.3\u00a0" + "\u3000" * MANY + "||2.3.4", *form], "1.2.3||2.3.4"
-        words = ">=1.0.0 " * MANY
-        refused = f"{NO_RANGE} {len(words)} {words}foo"
-        yield "npm_semver::parse_range", [words + "foo", *form], ">=1.0.0" if loose else refused
-        yield "npm_semver::parse_range", ["f" * LONG, *form], f"{NO_RANGE} 0 " + "f" * LONG
+        text = ">=1.0.0 " * MANY
+        yield "npm_semver::parse_range", [text + "foo", *form], ">=1.0.0" if loose else refused(NO_RANGE, len(text), text)
+        yield "npm_semver::parse_range", ["f" * LONG, *form], refused(NO_RANGE, 0, "")
         text = alternatives(">=%.0.0rc.%")
-        refused = f"{NO_RANGE} 0 {text}"
-        yield "npm_semver::parse_range", [text, *form], alternatives(">=%.0.0-rc.%") if loose else refused
+        yield "npm_semver::parse_range", [text, *form], alternatives(">=%.0.0-rc.%") if loose else refused(NO_RANGE, 0, text)
 
 
 def set_rows():
     """Lists of sets, and a set of a list."""
     text = alternatives(">=%.0.0-a+b <%.9.0")
     descending = alternatives(">=%.0.0-a+b <%.9.0", range(MANY, 0, -1))
-    for name in ("Range::clone", "Range::from_json", "npm_semver::range_from_sets"):
+    for name in ("Range::clone", "npm_semver::range_from_sets"):
         yield name, [text], text
         yield name, [descending], descending
+    for it in (text, descending):
+        yield "Range::from_json", [json.dumps(it)], it
     yield "Range::to_json", [text], f'"{text}"'
     yield "Range::sets", [text], cuts("before %.0.0-a+b to before %.9.0")
     yield "Range::sets", [alternatives(">%.0.0")], cuts("after %.0.0 to end")
-    yield "Range::set", [text, str(MANY - 1)], f"before {MANY}.0.0-a+b to before {MANY}.9.0; "
+    yield "Range::set", [text, str(MANY - 1)], f"before {MANY}.0.0-a+b to before {MANY}.9.0"
     yield "Range::set", [text, str(MANY)], "nothing"
     spans = [end for number in range(MANY, 0, -1) for end in (3 * number, 3 * number + 1)]
-    yield "semver_cuts::join", list(map(str, spans)), "".join(
-        f"before {3 * number} to after {3 * number + 1}; " for number in range(1, MANY + 1)
+    yield "semver_cuts::join", list(map(str, spans)), "; ".join(
+        f"before {3 * number} to after {3 * number + 1}" for number in range(1, MANY + 1)
     )
     over = [end for number in range(MANY, 0, -1) for end in (number, number + 1)]
-    yield "semver_cuts::join", list(map(str, over)), f"before 1 to after {MANY + 1}; "
+    yield "semver_cuts::join", list(map(str, over)), f"before 1 to after {MANY + 1}"
 
 
 def algebra_rows():

@@ -122,7 +122,7 @@ def audit_runs():
         dependencies = sum(len(one.get("dependencies", {})) for one in lock["packages"].values())
         counts = f"{packages} packages, {dependencies} dependencies, "
         if "1.7.0" in text_of(lock):
-            # (a dependency on a later version than the installed one is a problem too; a row of npm_memory has this audit)
+            # (a dependency on a later version than the installed one is a problem too; a row of npm_answers has this audit)
             continue
         for form in ("json", "text"):
             lines = [text_of(one) if form == "json" else hit_sentence(one) for one in hits]
@@ -131,6 +131,43 @@ def audit_runs():
         found = [Finding("advisory", hit_sentence(one), at_package(one["folder"])) for one in hits]
         error = f"{counts}0 problems, 0 not checked, {len(hits)} hit"
         yield from annotated(lock, ["--severity", level], found, [], error, {"advisories": advisories})
+
+
+class ExceptedRun(Run):
+    """A run of npm_lock_check with a file of exceptions, each an id and a name. `told` is on standard error, after the counts."""
+
+    def __init__(self, lock, lines, counts, told, exceptions, advisories):
+        super().__init__(lock, [], lines, "\n".join([counts, *told]), {"advisories": advisories})
+        self.exceptions = exceptions
+
+    def arguments(self, folder):
+        words, path = super().arguments(folder), os.path.join(folder, "exceptions.toml")
+        with open(path, "w", encoding="utf-8") as file:
+            for known, name in self.exceptions:
+                file.write(f'[[exceptions]]\nid = "{known}"\npackage = "{name}"\nreason = "why"\n')
+        return [*words, "--exceptions", path]
+
+
+def exception_runs():
+    """Many packages that are hit, each with an exception, or with one that is about another package; and one package that many
+    advisories hit, each of them excepted."""
+    for advisories, lock, _, hits in list(audits())[0:3:2]:
+        counts = f"{len(lock['packages'])} packages, {len(hits)} dependencies, 0 problems, 0 not checked"
+        pairs = [(told["id"], one) for one in hits for told in one["advisories"]]
+        said = [f"excepted: {one['name']} {one['version']} is hit by {known}: why ({one['folder']})" for known, one in pairs]
+        exceptions = [(known, one["name"]) for known, one in pairs]
+        yield ExceptedRun(lock, [], f"{counts}, 0 hit, {len(pairs)} excepted", said, exceptions, advisories)
+        idle = [(known, name + "-") for known, name in exceptions]
+        said = [f"exception: {known} of {name} applies to nothing: why" for known, name in idle]
+        yield ExceptedRun(lock, list(map(text_of, hits)), f"{counts}, {len(hits)} hit", said, idle, advisories)
+
+
+def omission_runs():
+    """Many packages for development, of which each has a problem."""
+    installed = at_root("1.0.0", dev=True, dependencies={"gone": "1"})
+    lock = lock_of({"devDependencies": {name: "2" for name in NAMES}}, installed)
+    counts = f"{MANY + 1} packages, {2 * MANY} dependencies, 0 problems, 0 not checked, {MANY} packages omitted"
+    yield Run(lock, ["--omit", "dev"], [], counts)
 
 
 def manifest_runs():
@@ -194,6 +231,8 @@ def refused_runs():
 def lock_runs():
     yield from check_runs()
     yield from audit_runs()
+    yield from exception_runs()
+    yield from omission_runs()
     yield from manifest_runs()
     yield from refused_runs()
 
@@ -234,7 +273,7 @@ def explained_runs():
 
 
 class PickRun:
-    """A run of npm_pick_command: the words, the documents of its mirror and other files, and all that is written."""
+    """A run of npm_pick_command or npm_resolve_command: the words, the documents of its mirror and other files, and all that is written."""
 
     def __init__(self, words, files, lines, error=(), status=0):
         self.words, self.files, self.status = words, files, status
@@ -295,4 +334,36 @@ def pick_runs():
     # long texts
     long = "a" * 200
     yield PickRun(keep, {"package.json": {"dependencies": {long: "^1 " + "|| ^1 " * (LONG // 6)}}, f"mirror/{long}.json": three},
+                  [f"{long}@1.2.0"])
+
+
+def resolve_runs():
+    """Runs of npm_resolve_command on many names, versions, peers, manifests and notes."""
+    numbers = [f"{number:04}" for number in range(MANY)]
+    words = ["--packuments", "mirror", "--manifest", "package.json"]
+    three = document("1.0.0", "1.2.0", "2.0.0")
+    many = {"dependencies": {f"n{at}": "^1" for at in numbers}}
+    files = {"package.json": many, **{f"mirror/n{at}.json": three for at in numbers}}
+    yield PickRun(words, files, [f"n{at}@1.2.0" for at in numbers])
+    packages = ",".join(f'{{"name":"n{at}","package":"n{at}","version":"1.2.0"}}' for at in numbers)
+    yield PickRun([*words, "--format", "json"], files, [f'{{"outcome":"selected","packages":[{packages}]}}'])
+    versions = [f"1.{number}.0" for number in range(MANY)]
+    files = {"package.json": {"dependencies": {"a": f"<1.{MANY - 1}.0"}}, "mirror/a.json": document(*versions)}
+    yield PickRun(words, files, [f"a@1.{MANY - 2}.0"])
+    # each asks for the next one
+    chain = {f"mirror/n{at}.json": {"versions": {"1.0.0": {"peerDependencies": {f"n{after}": "1"}}}} for at, after in zip(numbers, numbers[1:])}
+    last = {f"mirror/n{numbers[-1]}.json": {"versions": {"1.0.0": {}}}}
+    yield PickRun(words, {"package.json": {"dependencies": {f"n{numbers[0]}": "*"}}, **chain, **last}, [f"n{at}@1.0.0" for at in numbers])
+    alone = ["This cannot be installed:", f"  n{numbers[0]} *, which the root asks for"]
+    yield PickRun(words, {"package.json": {"dependencies": {f"n{numbers[0]}": "*"}}, **chain}, alone, status=1)
+    notes = [f"npm_resolve: not from a registry: n{at} (./n{at})" for at in numbers]
+    yield PickRun(words, {"package.json": {"dependencies": {f"n{at}": f"./n{at}" for at in numbers}}}, [], notes)
+    # as many manifests as the words of a command line name, with a dependency each
+    few = numbers[:450]
+    files = {f"{at}.json": {"dependencies": {f"n{at}": "npm:a@1.0.0"}} for at in few}
+    of_all = ["--packuments", "mirror", *[word for at in few for word in ("--manifest", f"{at}.json")]]
+    yield PickRun(of_all, {**files, "mirror/a.json": three}, [f"n{at}@npm:a@1.0.0" for at in few])
+    # long texts
+    long = "a" * 200
+    yield PickRun(words, {"package.json": {"dependencies": {long: "^1 " + "|| ^1 " * (LONG // 6)}}, f"mirror/{long}.json": three},
                   [f"{long}@1.2.0"])

@@ -1,13 +1,15 @@
-"""Rows of calls on versions: the name of a call of semver_memory, its words, and its whole result."""
+"""Rows of calls on versions: the name of a call of semver_answers, its words, and its whole result."""
+
+import json
 
 MANY = 2500  # So many of whatever a call counts.
 LONG = 1000000  # The bytes of a long text.
 LETTERS = ".".join(["a"] * 125)  # As many identifiers as a version text of 256 bytes has.
-TOO_LONG = "Semver string can't be longer than 256 characters."
-OTHER = "An unspecified error occurred."
+TOO_LONG = "MaxLengthError"
+OTHER = "Other"
 NO_IDENTIFIER = "the prerelease has no identifier"
-# A version of many identifiers is longer than a version text: each word after the text is one more identifier.
-LETTERS_WORDS = ["1.2.3-a", *["b"] * MANY]
+# A version of many identifiers is longer than a version text: it is written by its parts.
+LETTERS_PARTS = "=1.2.3-a" + ",b" * MANY
 LETTERS_TEXT = "1.2.3-a" + ".b" * MANY
 
 # Texts of 256 bytes and less, with their prints.
@@ -26,8 +28,9 @@ TOO_LONG_TEXT = "1.2.3-" + "a" * LONG
 
 
 def refused(kind, offset, text):
-    """The print of an error."""
-    return f"{kind} {offset} {text}"
+    """An error: its kind, its byte offset, and its line and column."""
+    lines = text.encode()[:offset].split(b"\n")
+    return f"{kind} at {offset} ({len(lines) - 1}, {len(lines[-1])})"
 
 
 def reading_rows():
@@ -36,7 +39,7 @@ def reading_rows():
         yield "Version::parse", [text], print_of
         yield "VersionRef::to_version", [text], print_of
         yield "VersionRef::clone", [text], print_of
-        yield "Version::from_json", [text], print_of
+        yield "Version::from_json", [json.dumps(text)], print_of
         identifiers = print_of.partition("+")[0].partition("-")[2]
         yield "Identifiers::to_vec", [text], listed(identifiers)
         yield "Identifiers::clone", [text], listed(identifiers)
@@ -45,9 +48,11 @@ def reading_rows():
     for text, _ in LOOSE:
         offset = 0
         yield "npm_semver::parse_version", [text], refused(OTHER, offset, text)
-    names = ["Version::parse", "npm_semver::parse_version", "VersionFault::into_error", "Version::from_json", "SemverError::clone"]
-    for name in names:
+    for name in ("Version::parse", "npm_semver::parse_version", "VersionFault::into_error"):
         yield name, [TOO_LONG_TEXT], long
+    yield "SemverError::clone", ["version", TOO_LONG_TEXT], long
+    offset = len(TOO_LONG_TEXT) - 1
+    yield "Version::from_json", [json.dumps(TOO_LONG_TEXT)], f"{TOO_LONG} at {offset}: Semver string can't be longer than 256 characters."
     yield "SemverError::new", ["b" * LONG], refused(OTHER, 1, "b" * LONG)
     yield "Identifier::clone", ["b" * LONG], "b" * LONG
     yield "npm_semver::read_identifier", ["b" * LONG], "b" * LONG
@@ -55,7 +60,7 @@ def reading_rows():
 
 def listed(text):
     """Identifiers with dots between, as a list is printed."""
-    return "".join(word + " " for word in text.split(".")) if text else "nothing"
+    return text.replace(".", " ") if text else "nothing"
 
 
 def export_rows():
@@ -79,14 +84,14 @@ def number_key(number):
 
 
 def made_rows():
-    yield "Version::new", [], "1.2.3"
-    yield "Version::with_pre_release", [], "1.2.3-4"
+    yield "Version::new", ["1", "2", "3"], "1.2.3"
+    yield "Version::with_pre_release", ["1", "2", "3", "4"], "1.2.3-4"
     yield "Version::least", [], "0.0.0-0"
-    yield "Version::next", LETTERS_WORDS, LETTERS_TEXT + ".0"
+    yield "Version::next", [LETTERS_PARTS], LETTERS_TEXT + ".0"
     yield "Version::next", ["1.2.3"], "1.2.4-0"
-    yield "Version::clone", LETTERS_WORDS, LETTERS_TEXT
-    yield "Version::clone", ["1.2.3-a", "b" * LONG], "1.2.3-a." + "b" * LONG
-    yield "Version::to_json", LETTERS_WORDS, f'"{LETTERS_TEXT}"'
+    yield "Version::clone", [LETTERS_PARTS], LETTERS_TEXT
+    yield "Version::clone", ["=1.2.3-a," + "b" * LONG], "1.2.3-a." + "b" * LONG
+    yield "Version::to_json", [LETTERS_PARTS], f'"{LETTERS_TEXT}"'
 
 
 def begun(triple, identifier, base):
@@ -96,28 +101,27 @@ def begun(triple, identifier, base):
 
 
 def bump_rows():
-    letters, number = LETTERS_WORDS, ["1.2.3-7", *["b"] * MANY]
-    both = ["1.2.3-rc.7", *["b"] * MANY]
+    letters, number, both = LETTERS_PARTS, "=1.2.3-=7" + ",b" * MANY, "=1.2.3-rc,=7" + ",b" * MANY
     for base in ("0", "1", "none"):
         for identifier in ("", "rc"):
-            asked = [base, identifier]
+            asked = [identifier, base]
             for bump, triple in (("major", "2.0.0"), ("minor", "1.3.0"), ("patch", "1.2.3")):
-                yield "npm_semver::inc", [bump, *asked, *letters], triple
+                yield "npm_semver::inc", [letters, bump, *asked], triple
                 if bump == "patch":
                     triple = "1.2.4"
-                yield "npm_semver::inc", [f"pre{bump}", *asked, *letters], begun(triple, identifier, base)
+                yield "npm_semver::inc", [letters, f"pre{bump}", *asked], begun(triple, identifier, base)
             for bump in ("prerelease", "pre"):
                 nothing = not identifier and base == "none"
                 raised = begun("1.2.3", identifier, base) if identifier else f"{LETTERS_TEXT}.{base}"
-                yield "npm_semver::inc", [bump, *asked, *letters], NO_IDENTIFIER if nothing else raised
+                yield "npm_semver::inc", [letters, bump, *asked], NO_IDENTIFIER if nothing else raised
                 raised = begun("1.2.3", identifier, base) if identifier else "1.2.3-8" + ".b" * MANY
-                yield "npm_semver::inc", [bump, *asked, *number], NO_IDENTIFIER if nothing else raised
+                yield "npm_semver::inc", [number, bump, *asked], NO_IDENTIFIER if nothing else raised
                 raised = NO_IDENTIFIER if nothing else "1.2.3-rc.8" + ".b" * MANY
-                yield "npm_semver::inc", [bump, *asked, *both], raised
+                yield "npm_semver::inc", [both, bump, *asked], raised
         text = f"1.2.3-{LETTERS[:-2]}"
-        yield "npm_semver::inc", ["prerelease", base, "rc", text], begun("1.2.3", "rc", base)
-        yield "npm_semver::inc", ["prerelease", base, "", text], NO_IDENTIFIER if base == "none" else f"{text}.{base}"
-    yield "npm_semver::inc", ["prerelease", "0", "b" * LONG, "1.2.3-a"], "1.2.3-" + "b" * LONG + ".0"
+        yield "npm_semver::inc", [text, "prerelease", "rc", base], begun("1.2.3", "rc", base)
+        yield "npm_semver::inc", [text, "prerelease", "", base], NO_IDENTIFIER if base == "none" else f"{text}.{base}"
+    yield "npm_semver::inc", ["1.2.3-a", "prerelease", "b" * LONG, "0"], "1.2.3-" + "b" * LONG + ".0"
 
 
 def coercion_rows():

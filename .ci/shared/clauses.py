@@ -1,4 +1,4 @@
-"""The public calls of the crates with their clauses, as docs/CLAUSES.md has them.
+"""The public calls of the crates with their clauses, as crates/NAME/CLAUSES.md and docs/CLAUSES.md have them.
 
 A call is public if `src/lib.rt` of its crate hands it on, or the type or trait that it is of; of a program each `pub fn`
 counts, and what `main.rt` has. A call has its clauses, and the definitions of this repository that they name, each with the words
@@ -14,7 +14,7 @@ from crates import is_program, listed
 from public_calls import blanked_in_place, blocks
 
 # What no user calls: tests, and what scripts run.
-LEFT_OUT = ("memory_trials", "semver_memory", "npm_memory", "node_semver_callers")
+LEFT_OUT = ("memory_trials", "semver_answers", "node_semver_callers")
 # Private functions of crates for npm's files and of command_lines that are on the page too, since the public call of their crate is
 # made of them.
 ALSO = ("judgement_of", "dependency_of", "find", "asked_of", "verdict_of_both", "overridden", "workspace_of", "is_contained",
@@ -25,17 +25,27 @@ WORD = re.compile(r"(?<![\w'.])[^\W\d][\w']*(?:\.[^\W\d][\w']*)*")
 # Ghost members that say nothing of a call, or of private fields alone.
 UNSEEN = ("laws", "invariant", "Value", "view")
 MANY = 8
+INDEX = "docs/CLAUSES.md"
 HEAD = """# Clauses
 
-`.ci/promises --write` writes this page from the contracts of the code, and the gate compares the two. [PROMISES](PROMISES.md) says
-in plain words what is proved.
+`.ci/promises --write` writes this page and those of the crates from the contracts of the code, and the gate compares them.
+[PROMISES](PROMISES.md) says in plain words what is proved.
 
-Each public call is in the section of its crate, after the file that it is in. First come its clauses, each with its label, as the
-code has them: `requires` is what a caller has to prove, and all others are what the call ensures. Then come the definitions that the clauses
-name, after an arrow, with the words that stand above them in `specs/`; a contract that is one record has the parts of it as clauses.
-At the end of a crate are its wrong bodies: edits that the prover must refuse, each with the function that it is in.
+The page of a crate has its public calls, each below the file that it is in. First come the clauses of a call, each with its label, as
+the code has them: `requires` is what a caller has to prove, and all others are what the call ensures. After an arrow are the definitions
+that the clauses name, with the words above them in `specs/`; a contract that is one record has the parts of it as clauses. At the end are
+the wrong bodies of the crate: edits that the prover must refuse, each with the function that it is in.
 
-Many clauses name these definitions:
+crate | calls | wrong bodies
+---|---|---
+"""
+COMMON = """
+Many clauses name these definitions, which the pages do not repeat:
+"""
+OF_CRATE = """# Clauses of {0}
+
+What is proved of the public calls of [{0}](../../docs/MODULES.md#{0}). [CLAUSES](../../docs/CLAUSES.md) says how to read it, and has the
+definitions that many clauses name; [PROMISES](../../docs/PROMISES.md#only-tested) has what is only tested.
 """
 
 
@@ -221,15 +231,15 @@ def wrong_bodies(crate):
 
 
 def section(crate, common):
-    """The section of a crate."""
-    out, file = [f"## {crate}", ""], None
+    """The page of a crate."""
+    out, file = [OF_CRATE.format(crate)], None
     for (short, name), call in entries(crate).items():
         if short != file:
             file = short
-            out += [f"### {short} of {crate}", ""]
+            out += [f"## {short}", ""]
         out += [f"**`{name}`**", "", *call.lines(common), ""]
     wrong = [f"`{edit}` (`{function}` of `{file}`)" for edit, file, function in wrong_bodies(crate)]
-    return out + ([f"### Wrong bodies of {crate}", "", ", ".join(wrong) + ".", ""] if wrong else [])
+    return out + (["## Wrong bodies", "", ", ".join(wrong) + ".", ""] if wrong else [])
 
 
 def common_of(calls):
@@ -238,8 +248,17 @@ def common_of(calls):
     return sorted((one for one, count in counts.items() if count > MANY), key=lambda one: (short_of(one[0]), one[1]))
 
 
-def page():
-    common = common_of([call for crate in crates() for call in entries(crate).values()])
+def pages():
+    """The pages by their paths: that of each crate with calls or wrong bodies, and the one that has a link to each."""
+    calls, wrong = {crate: entries(crate) for crate in crates()}, {crate: len(list(wrong_bodies(crate))) for crate in crates()}
+    common = common_of([call for of_crate in calls.values() for call in of_crate.values()])
     told = [f"- `{short_of(at)}.{name}`: {FILES[at].words[name]}" for at, name in common if FILES[at].words[name]]
-    contents = " · ".join(f"[{crate}](#{crate})" for crate in crates() if entries(crate))
-    return "\n".join([HEAD, *told, "", f"The crates: {contents}", ""] + [line for crate in crates() for line in section(crate, common)])
+    listed_crates = [crate for crate in crates() if calls[crate] or wrong[crate]]
+    rows = "".join(f"[{crate}](../crates/{crate}/CLAUSES.md) | {len(calls[crate])} | {wrong[crate]}\n" for crate in listed_crates)
+    found = {f"crates/{crate}/CLAUSES.md": "\n".join(section(crate, common)) for crate in listed_crates}
+    return {INDEX: HEAD + rows + COMMON + "\n" + "\n".join(told) + "\n", **found}
+
+
+def stale(wanted):
+    """The pages of crates that are there and should not be."""
+    return sorted(set(glob.glob("crates/*/CLAUSES.md")) - set(wanted))

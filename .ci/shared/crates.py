@@ -31,6 +31,10 @@ def below(*names):
     return sorted(found)
 
 
+class NotBuilt(Exception):
+    """A program that a test needs is not built, and nothing is to be proved."""
+
+
 def is_program(name):
     return os.path.isfile(os.path.join(CRATES, name, "src", "main.rt"))
 
@@ -49,9 +53,12 @@ def arguments(name):
 
 
 def program(name):
-    """The path of a program as it stands in the sources: the gate leaves it built, and else it is proved and built here."""
+    """The path of a program as it stands in the sources: the gate leaves it built, and else it is proved and built here, unless
+    DENIMSCREE_PROVES is `no`."""
     path, crates = os.path.join(CRATES, name, "out", name), below(name)
     if is_built(path, *crates).returncode:
+        if os.environ.get("DENIMSCREE_PROVES") == "no":
+            raise NotBuilt(f"{name} is not built of these sources: ./check --prove {name}")
         print(f"builds {name}", flush=True)
         sources = is_built("--sources", *crates).stdout.strip()
         if os.path.exists(path):

@@ -10,23 +10,23 @@ import re
 
 from crates import CRATES, is_program, listed
 
-# Libraries that no user calls, and those of which runs of npm_lock_check and npm_pick_command make each call.
+# Libraries that no user calls, and those of which runs of npm_lock_check, npm_pick_command and npm_resolve_command make each call.
 SCRIPTS = {"memory_trials": "makes the calls", "node_semver_callers": "examples",
-           "json_places": "runs with --format github and sarif", "annotations": "runs with --format github and sarif",
-           "json_findings": "runs with --format github and sarif", "shown_places": "runs on files that are refused",
-           "npm_lock_annotations": "runs with --format github and sarif, with each kind of finding",
-           "finding_pages": "no program calls it yet",
-           "command_lines": "all runs", "npm_lock_sentences": "runs with --format text",
+           "json_places": "runs with --format github and sarif", "findings": "runs with --format github, sarif, html and junit",
+           "shown_places": "runs on files that are refused",
+           "npm_lock_findings": "runs with --format github, sarif, html and junit, with each kind of finding",
+           "command_lines": "all runs",
            "npm_lock_faults": "runs on lock files and manifests with faults", "npm_lock_reports": "all runs",
            "npm_advisory_files": "calls of npm_advisories",
            "npm_manifest_files": "runs with --manifest",
-            "npm_lock_file_checks": "all runs", "npm_lock_arguments": "all runs", "npm_lock_runs": "all runs",
-           "npm_lock_exceptions": "runs with --exceptions", "advisory_exceptions": "runs with --exceptions",
+           "npm_lock_program": "all runs",
+           "npm_lock_counted": "runs with --exceptions and --omit", "advisory_exceptions": "runs with --exceptions",
            "advisory_exception_files": "runs with --exceptions",
-           "npm_pick_errors": "runs on files that are refused", "npm_pick_outdated": "runs with --outdated",
-           "npm_pick_mirrors": "runs with --keep", "npm_pick_reports": "all runs",
-           "version_solving": "runs of .ci/version_solving", "named_problems": "runs of .ci/npm_resolve",
-           "npm_candidates": "runs of .ci/npm_resolve", "npm_resolve": "runs of .ci/npm_resolve"}
+           "npm_pick_reports": "all runs of npm_pick_command",
+           "version_solving": "runs of tests/models", "solving_reasons": "runs of tests/models",
+           "named_problems": "runs of tests/models",
+           "npm_candidates": "runs of tests/models", "npm_resolve": "runs of tests/models",
+           "npm_pick_files": "runs of tests/programs", "npm_resolve_reports": "runs of tests/programs"}
 
 # A function, and the call that makes it.
 THROUGH = {
@@ -60,9 +60,8 @@ THROUGH = {
     "npm_sets::read_npm": "npm_semver::parse_range",
     "npm_sets::read_npm_text": "npm_semver::parse_range",
     "npm_sets::refused_offset": "npm_semver::parse_range",
-    "npm_pick_ranks::avoided": "npm_pick::pick",
-    "npm_pick_ranks::best_of": "npm_pick::pick",
-    "Asked::fits": "npm_pick::pick",
+    "npm_pick::text_of": "npm_pick::pick",
+    "npm_pick::up_to": "npm_pick::pick",
     "npm_texts::range_of": "npm_lock::check",
     "npm_texts::copied": "npm_lock::check",
     "npm_texts::put_text": "npm_lock::check",

@@ -14,7 +14,7 @@ PICK_SONAME := libnpm_pick.so.$(firstword $(subst ., ,$(PICK_VERSION)))
 PICK_CMAKEDIR ?= $(LIBDIR)/cmake/npm_pick
 PICK_DOCDIR ?= $(PREFIX)/share/doc/npm_pick
 export PICK_CMAKEDIR PICK_DOCDIR
-PICK_CRATES := semver_cuts semver_texts semver_versions semver_sets node_semver npm_sets npm_semver npm_texts npm_pick_ranks npm_pick npm_pick_c
+PICK_CRATES := semver_cuts semver_texts semver_versions semver_sets node_semver npm_sets npm_semver npm_texts npm_pick npm_pick_c
 PICK_PROVED := $(ROOT)/crates/npm_pick_c/out/libnpm_pick_c.a
 PICK_SOURCES := $(ROOT)/crates.txt $(foreach name,$(PICK_CRATES),$(shell find $(ROOT)/crates/$(name) -path $(ROOT)/crates/$(name)/out -prune -o -type f -print))
 

@@ -1,7 +1,8 @@
 #!/usr/bin/env python3
 # SPDX-License-Identifier: Apache-2.0
-"""Runs the recipes of ../README.md as they stand there, on servers of their own on this machine, and compares what they find
-with npm's `semver`: before a node is stopped, and after it. Stops all servers, and says what a version and a range cost.
+"""Runs the recipes of ../README.md as they stand there, with the files that it names, on servers of their own on this machine, and
+compares what they find with npm's `semver`: before a node is stopped, and after it. Stops all servers, and says what a version and a
+range cost.
 
     tests/run.py [RECIPE..]    of `Redis`, `etcd` and `PostgreSQL`; the package `node_semver` must be importable
 
@@ -30,15 +31,19 @@ def check(name, holds, said=""):
     print(f"{'ok' if holds else 'WRONG'}: {name}{'' if holds else f': {said}'}", flush=True)
 
 
+def text_of(name):
+    with open(os.path.join(HERE, "..", name), encoding="utf-8") as file:
+        return file.read()
+
+
 class Recipe:
-    """A section of the page, in a folder of its own."""
+    """A section of the page and the file of Python that it names, in a folder of its own."""
 
     def __init__(self, title, room):
         self.title, self.room, self.began = title, room, []
-        with open(os.path.join(HERE, "..", "README.md"), encoding="utf-8") as file:
-            section = re.search(rf"^## {title}.*?(?=^## |\Z)", file.read(), re.M | re.S).group(0)
+        section = re.search(rf"^## {title}.*?(?=^## |\Z)", text_of("README.md"), re.M | re.S).group(0)
         self.starts, self.stops = re.findall(r"^```sh\n(.*?)^```$", section, re.M | re.S)
-        self.python, = re.findall(r"^```python\n(.*?)^```$", section, re.M | re.S)
+        self.python = text_of(*re.findall(r"\]\((\w+\.py)\)", section))
         self.names = {}
 
     def shell(self, text):

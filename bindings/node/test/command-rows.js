@@ -1,6 +1,6 @@
 // SPDX-License-Identifier: Apache-2.0
 // Command lines that npm's command `semver` has not, with what the proved program `semver` and the command of this package
-// write. Both are run on them: the program by .ci/semver_command.
+// write. Both are run on them: the program by tests/npm/semver.js.
 'use strict';
 
 const written = (...versions) => ({ status: 0, output: versions.map((version) => `${version}\n`).join(''), error: '' });

@@ -1,3 +1,4 @@
 pub mod Examples
 pub mod Listing
+pub mod Placing
 pub mod Years

@@ -24,7 +24,7 @@ before-one done one (Err fault) = refl
 pub refused-one : (done : List ExceptionValue) (read : Result ExceptionValue FaultValue)
     (rest whole : Result (List ExceptionValue) FaultValue) (error : ExceptionsError)
     → before done (with_first read rest) ≡ whole → IsRefusedAs read error → IsRefusedAs whole error
-refused-one done read rest whole (Errors.Faulty fault) same is =
+refused-one done read rest whole (Errors.Faulty fault _ _) same is =
     sym same ∙ ap (λ one. before done (with_first one rest)) is
 refused-one done read rest whole Errors.Memory same is = tt
 refused-one done read rest whole (Errors.Input error) same is = absurd is

@@ -2,3 +2,4 @@
 
 pub mod Keys  -- whose keys they are
 pub mod Parts  -- the parts of an exception
+pub mod Placed  -- an error without the place of its fault

@@ -143,7 +143,7 @@ AreExceptions text exceptions = (members : Members) × (parse_document text ≡ 
 
 -- this fault was found, or memory ran out
 abbrev pub IsRefusedAs : {V : Type 0} → Result V FaultValue → ExceptionsError → Type 0
-IsRefusedAs read (Errors.Faulty fault) = read ≡ Err (fault_value fault)
+IsRefusedAs read (Errors.Faulty fault _ _) = read ≡ Err (fault_value fault)
 IsRefusedAs read Errors.Memory = Unit {0}
 IsRefusedAs read _ = ⊥
 
@@ -158,7 +158,7 @@ IsKeyError place key error = IsRefusedAs {V = ExceptionValue} (Err (key_fault pl
 -- the text is no TOML, or its values have this fault, or memory ran out
 abbrev pub IsRefused : (text : List ℕ) → ExceptionsError → Type 0
 IsRefused text (Errors.NoToml line column said) = parse_document text ≡ None
-IsRefused text (Errors.Faulty fault) = (members : Members) × (parse_document text ≡ Some members)
+IsRefused text (Errors.Faulty fault _ _) = (members : Members) × (parse_document text ≡ Some members)
     × (exceptions_of members ≡ Err (fault_value fault))
 IsRefused text Errors.Memory = Unit {0}
 IsRefused text _ = ⊥

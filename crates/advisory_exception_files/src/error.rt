@@ -30,10 +30,17 @@ pub(crate) fn key_error(alloc: Global, place: Option<usize>, key: &str) -> Excep
     let Ok(key) = String::from_str(alloc, key) else {
         return ExceptionsError::Memory;
     };
-    ExceptionsError::Faulty(match place {
+    unplaced(match place {
         Some(place) => ExceptionFault::ExceptionKey(place, key),
         None => ExceptionFault::Key(key),
     })
+}
+
+/// The error of a fault, before its place is looked for.
+pub(crate) fn unplaced(fault: ExceptionFault) -> ExceptionsError
+    ensures { result ≡ ExceptionsError.Faulty fault 1 1 }
+{
+    ExceptionsError::Faulty(fault, 1, 1)
 }
 
 /// The line and the column of a byte offset, which count from 1. A column counts characters.

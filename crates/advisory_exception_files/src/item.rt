@@ -8,7 +8,7 @@ ghost use Rattle.advisory_exception_files.specs.Reading as Reading;
 ghost use Rattle.advisory_exception_files.specs.Reading.{IsRefusedAs, exception_of, fault_value};
 ghost use Rattle.advisory_exception_files.specs.Private.Parts.{parts_value};
 
-use crate::error::key_error;
+use crate::error::{key_error, unplaced};
 use crate::keys::{Level, unknown_key};
 use advisory_exceptions::{Date, Exception, ExceptionFault, ExceptionsError};
 use std::alloc::{AllocError, Global};
@@ -33,14 +33,14 @@ pub(crate) fn exception_at(
     ensures refused { IfErr result (IsRefusedAs (exception_of place (view item.now))) }
 {
     let Some(table) = item.as_table() else {
-        return Err(ExceptionsError::Faulty(ExceptionFault::Table(place)));
+        return Err(unplaced(ExceptionFault::Table(place)));
     };
     if let Some(key) = unknown_key(table, Level::Exception) {
         return Err(key_error(alloc, Some(place), key));
     }
     match parts_of(place, table) {
         Ok(parts) => exception_with(alloc, parts).map_err(|_| ExceptionsError::Memory),
-        Err(fault) => Err(ExceptionsError::Faulty(fault)),
+        Err(fault) => Err(unplaced(fault)),
     }
 }
 

@@ -5,11 +5,14 @@
 
 mod day;
 mod error;
+mod file;
 mod item;
 mod keys;
+mod place;
 mod read;
 #[cfg(test)]
 mod tests;
 
 pub use day::day_at;
+pub use file::read_file;
 pub use read::read_exceptions;

@@ -4,9 +4,10 @@ ghost use Rattle.advisory_exceptions.specs.Exceptions.{exception_value};
 ghost use Rattle.toml.specs.View.{array_view, table_view};
 ghost use Rattle.advisory_exception_files.specs.Reading.{AreExceptions, IsRefused, IsRefusedAs, exceptions_of, items_read};
 
-use crate::error::{key_error, toml_error};
+use crate::error::{key_error, toml_error, unplaced};
 use crate::item::{exception_at, value_at};
 use crate::keys::{Level, unknown_key};
+use crate::place::placed;
 use advisory_exceptions::{Exception, ExceptionFault, ExceptionsError};
 use std::alloc::Global;
 use toml::value::Array;
@@ -20,7 +21,8 @@ use toml::{Table, table_from_str};
 /// # Errors
 ///
 /// - `NoToml`: the text is no TOML, with the line and the column of the first fault.
-/// - `Faulty`: a key with another name, or a value of another type, with the place of the exception.
+/// - `Faulty`: a key with another name, or a value of another type, with the place of the exception, and with the line and the column of
+///   the key, or of the exception that lacks it.
 /// - `Memory`: an allocation failed.
 ///
 /// # Memory
@@ -35,7 +37,10 @@ pub fn read_exceptions(alloc: Global, text: &str) -> Result<Vec<Exception>, Exce
     ensures refused { IfErr result (IsRefused text.now) }
 {
     match table_from_str(alloc, text) {
-        Ok(table) => exceptions_in(alloc, &table),
+        Ok(table) => match exceptions_in(alloc, &table) {
+            Ok(list) => Ok(list),
+            Err(error) => Err(placed(text, error)),
+        },
         Err(error) => Err(toml_error(alloc, text, error)),
     }
 }
@@ -53,7 +58,7 @@ fn exceptions_in(alloc: Global, table: &Table) -> Result<Vec<Exception>, Excepti
     };
     match value.as_array() {
         Some(items) => all_in(alloc, items),
-        None => Err(ExceptionsError::Faulty(ExceptionFault::List)),
+        None => Err(unplaced(ExceptionFault::List)),
     }
 }
 

@@ -42,7 +42,23 @@ fn refuses_files(rt: HostRuntime) -> Result<(), Fail> {
         ),
         (
             "exceptions = 1",
-            "the exceptions are not read: `exceptions` is no list",
+            "the exceptions are not read: `exceptions` is no list (line 1, column 1)",
+        ),
+        (
+            "# why\n\n  [[others]]\nid = 1",
+            "the exceptions are not read: no such key: \"others\" (line 3, column 3)",
+        ),
+        (
+            "exceptions = [1]",
+            "the exceptions are not read: it is no table; exception 0, counted from 0 (line 1, column 1)",
+        ),
+        (
+            "[[exceptions]]\nid = 'A'\npackage = 'a'\nreason = 'b'\n[[ exceptions ]]\nid = 'A'\nreason = '''\n[[exceptions]]\nuntil = 1'''\npackage = 'a'\nuntil = 2027-03-01T00:00:00Z\n",
+            "the exceptions are not read: `until` is no day, as 2027-03-01; exception 1, counted from 0 (line 11, column 1)",
+        ),
+        (
+            "[[exceptions]]\nid = 'A'\npackage = 'a'\nreason = 'b'\n\n\t[[exceptions]]\nreason = 'c'\npackage = 'a'",
+            "the exceptions are not read: it has no text as `id`; exception 1, counted from 0 (line 6, column 2)",
         ),
     ];
     for (text, wanted) in rows {

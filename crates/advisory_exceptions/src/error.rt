@@ -36,9 +36,9 @@ pub enum ExceptionsError {
     /// What was read is no TOML, for this reason. The fault is in this line and column, which count from 1; a column counts characters.
     #[error("the exceptions are no TOML: {2} (line {0}, column {1})")]
     NoToml(usize, usize, String),
-    /// The TOML is no exceptions.
-    #[error("the exceptions are not read: {0}")]
-    Faulty(ExceptionFault),
+    /// The TOML is no exceptions. The fault is in this line and column.
+    #[error("the exceptions are not read: {0} (line {1}, column {2})")]
+    Faulty(ExceptionFault, usize, usize),
     /// The day is not known.
     #[error("the clock is not read, so it is not known which exceptions are over")]
     Clock,

@@ -3,6 +3,9 @@ ghost use Rattle.std.specs.Prelude.{◌≡◌, ◌<◌, [], ◌∷◌, ℕ, List
 ghost use Rattle.command_lines.specs.Arguments as Arguments;
 ghost use Rattle.command_lines.specs.Arguments.{argument_value, arguments_of, part_values};
 
+pub mod fault;
+pub mod given;
+
 /// The options of a program.
 pub trait Options {
     ghost takes_value: { (word : List ℕ) → Bool };

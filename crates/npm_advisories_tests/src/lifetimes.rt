@@ -1,9 +1,11 @@
 //! A file and packages that do not live equally long.
 
-use crate::npm_form::FILE;
 use npm_advisories::{Found, Installed, Severity, audit};
 use serde_json::Value;
 use std::alloc::Global;
+
+const FILE: &str =
+    r#"{"lodash": [{"id": 1, "severity": "high", "title": "Prototype Pollution", "vulnerable_versions": "<4.17.12"}]}"#;
 
 fn first_title<'f>(found: &[Found<'f, '_>]) -> Option<&'f str> {
     match found {

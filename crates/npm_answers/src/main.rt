@@ -1,80 +1,49 @@
-//! Reads ranges as npm does and tests versions, for `.ci/npm_ranges`, which compares the results with npm's.
+//! Makes calls of the libraries for npm's files, and writes what they return.
 //!
-//! The words are `strict` or `loose`, `releases` or `prereleases`, and then pairs of a range text and a version text.
-//! The program writes a letter for each pair: `y` if the range admits the version, `n` if it does not, `x` if the range
-//! text is refused, and `v` if the version text is no version. Its status is 2 if it writes none.
+//! Each line of standard input is a JSON array of strings: the name of a call and its arguments. The program writes a line for
+//! each of them: the answer, as a JSON string. A list has a tab after each item.
+//!
+//! With the word `twice` the program makes one call twice, as `memory_trials` says.
 #![tactic(auto)]
 
-use node_semver::{Range, Version};
-use npm_semver::NpmOptions;
-use std::alloc::{AllocError, AllocGlobal, Global};
+mod advisories;
+mod answer;
+mod arguments;
+mod audits;
+mod call;
+mod checks;
+mod drafts;
+mod faults;
+mod folders;
+mod lines;
+mod lists;
+mod lock_files;
+mod members;
+mod packages;
+mod paths;
+mod picks;
+mod places;
+mod texts;
+mod workspaces;
+mod written_findings;
+
+use call::Call;
+use memory_trials::{CallError, run};
 use std::env;
-use std::env::Env;
 use std::process::ExitCode;
 
 fn main(rt: HostRuntime) -> ExitCode {
-    match write_answers(&rt) {
-        Ok(true) => ExitCode::from(0),
-        Ok(false) | Err(_) => ExitCode::from(2),
+    match is_trial(&rt) {
+        Ok(true) => run::<Call>(&rt),
+        Ok(false) => lines::write_all(&rt),
+        Err(_) => ExitCode::from(2),
     }
 }
 
-/// Writes the letters of the program's words. Returns `false` if the first two are none of those above.
-fn write_answers(rt: &(impl Print + Env + AllocGlobal)) -> anyhow::Result<bool> {
-    let mut words = Vec::new(rt.alloc());
-    for word in env::args(rt)? {
-        words.push(word)?;
+/// Whether the first word is `twice`.
+fn is_trial(rt: &HostRuntime) -> Result<bool, CallError> {
+    for word in env::args(rt)?.skip(1) {
+        return Ok(word.as_str() == "twice");
     }
-    let [_, form, versions, pairs @ ..] = words.as_slice() else {
-        return Ok(false);
-    };
-    let Some(options) = options_of(form, versions) else {
-        return Ok(false);
-    };
-    let letters = letters_of(rt.alloc(), options, pairs)?;
-    println!(rt; "{letters}")?;
-    Ok(true)
-}
-
-/// The options that two words name.
-fn options_of(form: &str, versions: &str) -> Option<NpmOptions> {
-    let loose = match form {
-        "strict" => false,
-        "loose" => true,
-        _ => return None,
-    };
-    let include_prerelease = match versions {
-        "releases" => false,
-        "prereleases" => true,
-        _ => return None,
-    };
-    Some(NpmOptions {
-        loose,
-        include_prerelease,
-    })
-}
-
-/// A letter for each pair.
-fn letters_of(alloc: Global, options: NpmOptions, pairs: &[String]) -> Result<String, AllocError> {
-    let mut letters = String::new(alloc);
-    for i in 0..pairs.len() / 2 {
-        letters.push_str(letter_of(alloc, options, &pairs[2 * i], &pairs[2 * i + 1]))?;
-    }
-    Ok(letters)
-}
-
-/// The letter of a pair.
-fn letter_of(alloc: Global, options: NpmOptions, range: &str, version: &str) -> &'static str {
-    let Ok(version) = Version::parse(alloc, version) else {
-        return "v";
-    };
-    let Ok(range) = npm_semver::parse_range(alloc, range, options) else {
-        return "x";
-    };
-    let admits = if options.include_prerelease {
-        range.contains(&version)
-    } else {
-        range.satisfies(&version)
-    };
-    if admits { "y" } else { "n" }
+    Ok(false)
 }

@@ -2,7 +2,7 @@
 use Rattle.std.proofs.Common.{◌≡◌, ◌∷◌, ◌&&◌, Bool, List, [], None, Ordering, Some, codes, false, not, nat_cmp, refl, true}
 use Rattle.std.specs.Ordering.{bool_cmp, ordering_then}
 use Rattle.serde_json.specs.Data.{Data, boolean, member, no_members, object, string}
-use Rattle.npm_pick_ranks.specs.Rank.{Rank, rank_cmp}
+use Rattle.npm_pick.specs.Rank.{Rank, rank_cmp}
 use Rattle.npm_candidates.specs.Asks.{asks_on, is_registered}
 use Rattle.npm_candidates.specs.Candidates.{is_tagged}
 use Rattle.npm_candidates.specs.Preference.{version_preference}

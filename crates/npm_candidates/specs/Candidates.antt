@@ -6,9 +6,9 @@ use Rattle.serde_json.specs.Data.{Data}
 use Rattle.serde_json.specs.View.{view}
 use Rattle.node_semver.specs.Versions.{VersionValue}
 use Rattle.npm_texts.specs.InstalledVersions.{IsInstalledVersion}
-use Rattle.npm_pick_ranks.specs.Packument.{Release, is_restricted, releases_in, tagged, versions_of}
-use Rattle.npm_pick_ranks.specs.Rank.{is_deprecated}
-use Rattle.npm_pick_ranks.specs.Times.{is_published}
+use Rattle.npm_pick.specs.Packument.{Release, is_restricted, releases_in, tagged, versions_of}
+use Rattle.npm_pick.specs.Rank.{is_deprecated}
+use Rattle.npm_pick.specs.Times.{is_published}
 use Rattle.npm_candidates.specs.Preference.{candidate_order}
 use Rattle.npm_candidates.specs.declared.candidate.Candidate.{Candidate}
 use Rattle.npm_candidates.specs.declared.options.Options.{Options}

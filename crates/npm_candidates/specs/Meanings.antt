@@ -1,15 +1,14 @@
 -- Which candidates a version, a range or a tag allows: npm's "package.json", "dependencies", and "npm-pick-manifest".
-use Rattle.std.specs.Prelude.{◌≡◌, ◌↔◌, ◌⊎◌, ◌++◌, ⊤, ℕ, ℤ, List, Bool, true, false, Option, Some, None, bytes_eq, codes, string_bytes}
-use Rattle.std.specs.List.{list_all}
+use Rattle.std.specs.Prelude.{◌≡◌, ◌↔◌, ◌⊎◌, ⊤, ℕ, ℤ, List, true, false, Option, Some, None, bytes_eq, codes, string_bytes}
 use Rattle.serde_json.specs.Data.{Data}
 use Rattle.node_semver.specs.Ranges.{RangeAdmits}
 use Rattle.node_semver.specs.Versions.{VersionValue, version_text, without_build}
 use Rattle.npm_texts.specs.Admission.{Admits, IsNoRange, of_dependencies}
 use Rattle.npm_texts.specs.InstalledVersions.{IsInstalledVersion}
-use Rattle.npm_texts.specs.RangeText.{filled, is_plain, is_tag_byte}
-use Rattle.npm_texts.specs.WhiteSpace.{trimmed}
-use Rattle.npm_pick_ranks.specs.Packument.{tagged}
-use Rattle.npm_pick_ranks.specs.Times.{is_published}
+use Rattle.npm_texts.specs.RangeText.{filled, is_plain}
+use Rattle.npm_pick.specs.Packument.{tagged}
+use Rattle.npm_pick.specs.Times.{is_published}
+use Rattle.npm_pick.specs.Wanted.{IsNoVersion, is_tag, up_to}
 use Rattle.npm_candidates.specs.declared.candidate.Candidate.{Candidate}
 use Rattle.npm_candidates.specs.declared.meaning.Meaning.{Meaning}
 use Rattle.npm_candidates.specs.declared.meaning.Meaning.TheVariants as Meanings
@@ -29,18 +28,6 @@ IsAdmitted (inside range) c = ((bytes_eq range (codes "*") ≡ true) × (c.is_de
 IsAdmitted nothing c = ⊥
 
 -- ---- texts
-
--- the text is no version
-abbrev pub IsNoVersion : (text : List ℕ) → Type 0
-IsNoVersion text = (v : VersionValue) → ¬ IsInstalledVersion text v
-
--- a text that may be a tag: `latest`, `next-11`
-abbrev pub is_tag : (text : List ℕ) → Bool
-is_tag text = list_all is_tag_byte (trimmed text)
-
--- the range of a version and of all below it: `<=1.2.3`
-abbrev pub up_to : (key : List ℕ) → List ℕ
-up_to key = codes "<=" ++ key
 
 -- What a tag means: the version that it names or, if that was published too late, those at and below it.
 pub data IsMeaningOfTag (packument : Data) (before : Option ℤ) (tag : List ℕ) : MeaningValue → Type 0 where

@@ -3,12 +3,12 @@ ghost use Rattle.std.specs.Prelude.{◌≡◌, IfNone, IfOk, IfSome, option_map}
 ghost use Rattle.serde_json.specs.View.{members_view, view};
 ghost use Rattle.npm_candidates.specs.Candidates as Documents;
 ghost use Rattle.npm_candidates.specs.Candidates.{AreCandidates, AreListed, IsCandidate, IsEligible};
-ghost use Rattle.npm_pick_ranks.specs.Packument.{releases_among, releases_in, versions_of};
+ghost use Rattle.npm_pick.specs.Packument.{releases_among, releases_in, versions_of};
 
 use crate::Result;
 use crate::candidate::Candidate;
 use crate::options::Options;
-use npm_pick_ranks::{is_published, is_restricted, tagged, versions_of};
+use npm_pick::{is_published, is_restricted, tagged, versions_of};
 use npm_texts::{has_true, installed_version};
 use serde_json::{Map, Value};
 use std::alloc::Global;

@@ -1,17 +1,14 @@
 //! Which candidates a version, a range or a tag allows.
-ghost use Rattle.std.specs.Prelude.{◌≡◌, ◌↔◌, IfOk, IsTrue, string_bytes};
+ghost use Rattle.std.specs.Prelude.{◌↔◌, IfOk, IsTrue};
 ghost use Rattle.serde_json.specs.View.{view};
-ghost use Rattle.node_semver.specs.Versions.{version_text, without_build};
-ghost use Rattle.npm_candidates.specs.Meanings as Meanings;
 ghost use Rattle.npm_candidates.specs.Meanings.{IsAdmitted, IsRead, IsReadByTag, IsReadByText, MeaningValue, Means};
 
 use crate::Result;
 use crate::candidate::Candidate;
-use node_semver::{Range, VersionRef};
-use npm_pick_ranks::{is_published, tagged};
-use npm_texts::{
-    OF_DEPENDENCIES, are_tag_bytes, filled, installed_version, is_plain, range_of, trimmed,
-};
+use node_semver::Range;
+use npm_pick::wanted::{is_tag, text_of, up_to};
+use npm_pick::{is_published, tagged};
+use npm_texts::{OF_DEPENDENCIES, filled, installed_version, is_plain, range_of};
 use serde_json::Value;
 use std::alloc::Global;
 
@@ -112,29 +109,4 @@ fn meaning_by_tag(
         Some(range) => Ok(Meaning::Inside(range)),
         None => Ok(Meaning::Nothing),
     }
-}
-
-/// Returns `true` if the text can be a tag. White space around it does not count.
-fn is_tag(text: &str) -> bool
-    ensures { result ≡ Meanings.is_tag text.now }
-{
-    are_tag_bytes(trimmed(text))
-}
-
-/// The text of a version without its build.
-fn text_of(alloc: Global, version: &VersionRef<'_>) -> Result<String>
-    ensures { IfOk result (λ text. string_bytes text ≡ version_text (without_build version.now)) }
-{
-    let mut version = version.to_version(alloc)?;
-    version.build = Vec::new(alloc);
-    format!(in alloc; "{version}")
-}
-
-/// The range of a version and of all below it.
-fn up_to(alloc: Global, key: &str) -> Result<String>
-    ensures { IfOk result (λ text. string_bytes text ≡ Meanings.up_to key.now) }
-{
-    let mut text = String::from_str(alloc, "<=")?;
-    text.push_str(key)?;
-    Ok(text)
 }

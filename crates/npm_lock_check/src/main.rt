@@ -1,6 +1,6 @@
 //! Reads lock files, and writes each dependency that is missing or has a version that its spec does not admit. With `--node VERSION` also
 //! each package whose `engines.node` does not admit it, with `--manifest FILE` also where the root's manifest and the lock file differ, and
-//! with `--advisories FILE` each package that an advisory hits.
+//! with `--advisories FILE` each package that an advisory hits, but for those that a file after `--exceptions` excepts.
 //!
 //! The exit status is 0 if nothing was found, 1 if something was, and 2 if a lock file was not checked: then a line on standard error says
 //! why. It is also 2 if that line, or the one that counts, is not written.
@@ -8,15 +8,18 @@
 
 mod program_error;
 
-use command_lines::{Quoted, Watched, open_error, read_json_with_text, words_of};
-use command_options::Shown;
+use advisory_exception_files::{day_at, read_file};
+use advisory_exceptions::{Date, Exception, ExceptionsError};
+use command_lines::{Quoted, Shown, Watched, open_error, read_json_with_text, words_of};
 use node_semver::Version;
-use npm_lock_arguments::{
-    ArgumentError, Arguments, HELP, VERSION, files_of, node_of, read_arguments,
+use npm_lock_counted::{ExceptedSentence, Exceptions};
+use npm_lock_findings::PageFormat;
+use npm_lock_program::{
+    ArgumentError, Arguments, Format, HELP, Output, RunError, StopError, VERSION, Wanted, Writing,
+    checked_in, files_of, lock_subject, node_of, read_arguments, run, sentence_of, status_of,
+    stop_text, subject_of,
 };
-use npm_lock_file_checks::{Format, Output, RunError, StopError, Wanted, checked_in};
 use npm_lock_reports::{Report, ReportFormat};
-use npm_lock_runs::{Writing, lock_subject, run, status_of, stop_text, subject_of};
 use npm_manifest_files::{
     ManifestError, folder_of, manifest_in, manifests_of, read_faultless, with_workspaces,
 };
@@ -25,6 +28,7 @@ use serde_json::Value;
 use std::fs::File;
 use std::io::{IsTerminal, Read, Write};
 use std::process::ExitCode;
+use std::time::{SystemTime, UNIX_EPOCH};
 
 /// A file of advisories.
 #[derive(Drop)]
@@ -33,19 +37,29 @@ struct Advisories {
     text: String,
 }
 
+/// A file of exceptions, and the day on which it is read.
+#[derive(Drop)]
+struct Excepting {
+    list: Vec<Exception>,
+    today: Date,
+}
+
 /// The files that are read once, before the lock files.
 #[derive(Drop)]
 struct Inputs {
     manifest: Option<Value>,
     advisories: Option<Advisories>,
+    excepting: Option<Excepting>,
 }
 
 /// What each lock file is checked with.
 #[derive(Drop)]
-struct Beside<'a> {
+struct Beside<'a, 'e> {
     writing: Writing<'a>,
     node: Option<Version>,
-    inputs: Inputs,
+    manifest: Option<Value>,
+    advisories: Option<Advisories>,
+    exceptions: Option<Exceptions<'e>>,
 }
 
 /// Ends with the status of the run, or with 2 if it did not begin.
@@ -87,12 +101,30 @@ fn answered<'a>(rt: &HostRuntime, words: &'a [String]) -> Result<u8, ProgramErro
             return Err(ProgramError::Stopped(subject_of(asked, "-", &error), error));
         }
     };
+    let Inputs {
+        manifest,
+        advisories,
+        excepting,
+    } = inputs;
     let beside = Beside {
         writing,
         node,
-        inputs,
+        manifest,
+        advisories,
+        exceptions: exceptions_of(&excepting),
     };
     checked_all(rt, beside, &files).map_err(|error| stopped(asked, error))
+}
+
+/// The exceptions, if there is a file of them.
+fn exceptions_of(excepting: &Option<Excepting>) -> Option<Exceptions<'_>> {
+    match excepting {
+        Some(Excepting { list, today }) => Some(Exceptions {
+            list: list.as_slice(),
+            today: *today,
+        }),
+        None => None,
+    }
 }
 
 /// The folder of the root's manifest.
@@ -124,8 +156,9 @@ fn write_stop(rt: &HostRuntime, writing: Writing<'_>, error: &StopError) {
 
 /// Checks the lock files, and writes the output and the lines. Returns the exit status. What they are checked with is dropped after
 /// the last one is checked, before the output is written.
-fn checked_all(rt: &HostRuntime, beside: Beside<'_>, files: &[&str]) -> Result<u8, RunError> {
+fn checked_all(rt: &HostRuntime, beside: Beside<'_, '_>, files: &[&str]) -> Result<u8, RunError> {
     let writing = beside.writing;
+    let exceptions = beside.exceptions;
     let mut writer = Watched::new(rt.stdout());
     let outcomes = run(
         rt.alloc(),
@@ -134,16 +167,18 @@ fn checked_all(rt: &HostRuntime, beside: Beside<'_>, files: &[&str]) -> Result<u
         writing,
         move |file| opened(rt, &beside, file),
     )?;
-    let is_said = said(rt, writing.asked, files, &outcomes);
+    let is_said = said(rt, writing.asked, files, &outcomes, exceptions);
     Ok(status_of(&outcomes, is_said))
 }
 
-/// Writes the line of each lock file on standard error. Returns `true` if all were written.
+/// Writes the lines of each lock file on standard error, and then those of exceptions that applied to nothing. Returns `true` if all were
+/// written.
 fn said(
     rt: &HostRuntime,
     asked: Arguments<'_>,
     files: &[&str],
     outcomes: &[Result<Report, StopError>],
+    exceptions: Option<Exceptions<'_>>,
 ) -> bool {
     let mut is_said = true;
     for (file, outcome) in files.iter().zip(outcomes) {
@@ -157,6 +192,62 @@ fn said(
         };
         if line.is_err() {
             is_said = false;
+        }
+        if let (Ok(report), Some(exceptions)) = (outcome, exceptions) {
+            let file = if asked.other.is_some() {
+                Some(*file)
+            } else {
+                None
+            };
+            is_said = said_excepted(rt, file, report, exceptions) && is_said;
+        }
+    }
+    match exceptions {
+        Some(exceptions) => said_unused(rt, outcomes, exceptions) && is_said,
+        None => is_said,
+    }
+}
+
+/// Writes a line for each hit of a lock file that is excepted. Returns `true` if all were written.
+fn said_excepted(
+    rt: &HostRuntime,
+    file: Option<&str>,
+    report: &Report,
+    exceptions: Exceptions<'_>,
+) -> bool {
+    let mut is_said = true;
+    for excepted in &report.excepted {
+        let Some(exception) = exceptions.list.get(excepted.place) else {
+            continue;
+        };
+        let sentence = ExceptedSentence {
+            excepted,
+            exception,
+        };
+        let line = match file {
+            Some(file) => eprintln!(rt; "{}{sentence}", lock_subject(file)),
+            None => eprintln!(rt; "{sentence}"),
+        };
+        if line.is_err() {
+            is_said = false;
+        }
+    }
+    is_said
+}
+
+/// Writes a line for each exception that is over or applied to nothing. Returns `true` if all were written.
+fn said_unused(
+    rt: &HostRuntime,
+    outcomes: &[Result<Report, StopError>],
+    exceptions: Exceptions<'_>,
+) -> bool {
+    let mut is_said = true;
+    for (place, exception) in exceptions.list.iter().enumerate() {
+        if let Some(sentence) = sentence_of(exception, place, exceptions.today, outcomes) {
+            let line = eprintln!(rt; "{sentence}");
+            if line.is_err() {
+                is_said = false;
+            }
         }
     }
     is_said
@@ -195,7 +286,7 @@ fn node_asked<'a>(
 /// Opens a lock file and checks it.
 fn opened<'f>(
     rt: &HostRuntime,
-    beside: &Beside<'_>,
+    beside: &Beside<'_, '_>,
     file: &'f str,
 ) -> Result<(Report, Output<'f>), StopError> {
     if file == "-" {
@@ -211,7 +302,7 @@ fn opened<'f>(
 fn checked<'f, R: Read + Drop>(
     rt: &HostRuntime,
     reader: R,
-    beside: &Beside<'_>,
+    beside: &Beside<'_, '_>,
     file: &'f str,
 ) -> Result<(Report, Output<'f>), StopError> {
     let Writing {
@@ -219,17 +310,19 @@ fn checked<'f, R: Read + Drop>(
         asked,
         outer,
     } = beside.writing;
-    let manifest = beside.inputs.manifest.as_ref();
-    let advisories = beside.inputs.advisories.as_ref();
+    let manifest = beside.manifest.as_ref();
+    let advisories = beside.advisories.as_ref();
     let wanted = Wanted {
         manifest,
         exact: asked.exact,
         advisories: advisories.map(|file| &file.value),
         advisories_text: advisories.map_or("", |file| file.text.as_str()),
         level: asked.level,
+        exceptions: beside.exceptions,
+        omissions: asked.omissions,
         node: beside.node.as_ref(),
         ignored: asked.ignored,
-        unchecked: asked.unchecked,
+        unchecked: asked.unchecked || matches!(format, Format::Pages(PageFormat::Html)),
         format,
         file,
         named: asked.other.is_some(),
@@ -246,9 +339,11 @@ fn checked<'f, R: Read + Drop>(
 fn inputs_of(rt: &HostRuntime, asked: Arguments<'_>) -> Result<Inputs, StopError> {
     let manifest = manifest_at(rt, asked.manifest).map_err(StopError::Manifest)?;
     let advisories = advisories_at(rt, asked.advisories).map_err(StopError::Advisories)?;
+    let excepting = excepting_at(rt, asked.exceptions).map_err(StopError::Exceptions)?;
     Ok(Inputs {
         manifest,
         advisories,
+        excepting,
     })
 }
 
@@ -270,5 +365,33 @@ fn advisories_at(rt: &HostRuntime, path: Option<&str>) -> Result<Option<Advisori
     match read_json_with_text(rt.alloc(), &mut Watched::new(file)) {
         Ok((value, text)) => Ok(Some(Advisories { value, text })),
         Err(error) => Err(RunError::Input(error)),
+    }
+}
+
+/// Reads the file of exceptions, if there is one, and the day.
+fn excepting_at(
+    rt: &HostRuntime,
+    path: Option<&str>,
+) -> Result<Option<Excepting>, ExceptionsError> {
+    let Some(path) = path else {
+        return Ok(None);
+    };
+    let file = File::open(rt, path).map_err(|error| ExceptionsError::Input(open_error(error)))?;
+    let list = read_file(rt.alloc(), &mut Watched::new(file))?;
+    let today = today(rt)?;
+    Ok(Some(Excepting { list, today }))
+}
+
+/// The day in UTC.
+fn today(rt: &HostRuntime) -> Result<Date, ExceptionsError> {
+    let Ok(now) = SystemTime::now(rt) else {
+        return Err(ExceptionsError::Clock);
+    };
+    let Ok(since) = now.duration_since(UNIX_EPOCH) else {
+        return Err(ExceptionsError::Clock);
+    };
+    match day_at(since.as_secs()) {
+        Some(day) => Ok(day),
+        None => Err(ExceptionsError::Clock),
     }
 }

@@ -1,8 +1,6 @@
 //! Why the program ends with status 2.
 use command_lines::WordsError;
-use npm_lock_arguments::ArgumentError;
-use npm_lock_file_checks::StopError;
-use npm_lock_runs::Subject;
+use npm_lock_program::{ArgumentError, StopError, Subject};
 use thiserror::Error;
 
 /// Why the program ends with status 2.

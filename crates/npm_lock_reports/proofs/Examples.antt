@@ -1,1 +1,2 @@
+pub mod SentenceExamples
 pub mod HitExamples

@@ -1,4 +1,5 @@
 mod FileVersions
+mod LastNames
 mod LineLaws
 mod OneLine
 mod OutputLines

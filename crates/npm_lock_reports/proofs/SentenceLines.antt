@@ -19,8 +19,8 @@ use Rattle.npm_advisories.specs.FoundJson.{found_data}
 use Rattle.npm_advisory_files.specs.Severities.{word_of}
 use Rattle.npm_advisory_files.specs.declared.severity.Severity.{Severity}
 use Rattle.npm_advisory_files.specs.declared.severity.Severity.TheVariants as Severities
-use Rattle.npm_lock_sentences.specs.Sentence.{after, asker, last_name, manifest_words, mismatch_sentence, named_asker, reason, said}
-use Rattle.npm_lock_sentences.specs.Sentence.{sentence, shown_spec, spec_words, unchecked_sentence, verdict}
+use Rattle.npm_lock_reports.specs.Sentence.{after, asker, last_name, manifest_words, mismatch_sentence, named_asker, reason, said}
+use Rattle.npm_lock_reports.specs.Sentence.{sentence, shown_spec, spec_words, unchecked_sentence, verdict}
 use Rattle.command_lines.specs.Shown.{shown, shown_first}
 use Rattle.npm_lock_reports.specs.HitSentence.{advisory_words, hit_sentence, id_words, joined, offer_words}
 use Rattle.npm_lock_reports.specs.Report.{IsHitLineAs, line_as, line_text, mismatch_text, unchecked_text, unread_text}

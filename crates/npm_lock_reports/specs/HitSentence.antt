@@ -5,7 +5,7 @@ use Rattle.node_semver.specs.Versions.{VersionValue, version_text}
 use Rattle.npm_advisory_files.specs.Advisories.{AboutValue}
 use Rattle.npm_advisories.specs.Audit.{FoundValue}
 use Rattle.npm_advisory_files.specs.Severities.{word_of}
-use Rattle.npm_lock_sentences.specs.Sentence.{after}
+use Rattle.npm_lock_reports.specs.Sentence.{after}
 use Rattle.command_lines.specs.Shown.{shown, shown_first}
 
 -- which advisory it is: its `id`, if that is a text or a number without sign and fraction

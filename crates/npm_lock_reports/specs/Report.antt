@@ -10,7 +10,7 @@ use Rattle.npm_lock.specs.ProblemJson.{problem_data, unchecked_data}
 use Rattle.npm_advisories.specs.Audit.{FoundValue}
 use Rattle.npm_advisories.specs.FoundJson.{found_data}
 use Rattle.npm_lock_reports.specs.HitSentence.{hit_sentence}
-use Rattle.npm_lock_sentences.specs.Sentence.{mismatch_sentence, sentence, unchecked_sentence}
+use Rattle.npm_lock_reports.specs.Sentence.{mismatch_sentence, sentence, unchecked_sentence}
 use Rattle.npm_lock_reports.specs.Style.{StyleValue, in_file, with_file}
 use Rattle.npm_lock_reports.specs.Unread.{UnreadValue, unread_data, unread_sentence, unread_value}
 use Rattle.npm_lock_reports.specs.declared.format.ReportFormat.{ReportFormat}

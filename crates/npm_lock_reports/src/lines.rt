@@ -12,11 +12,11 @@ ghost use Rattle.npm_lock_reports.specs.Unread.{unread_value};
 use crate::format::ReportFormat;
 use crate::hit_sentence::push_hit_sentence;
 use crate::report::Report;
+use crate::sentence::{push_mismatch_sentence, push_sentence, push_unchecked_sentence};
 use crate::style::{LineStyle, push_file, push_object};
 use crate::unread::{Unread, push_unread_sentence, unread_json};
 use npm_advisories::Found;
 use npm_lock::{Problem, Unchecked};
-use npm_lock_sentences::{push_mismatch_sentence, push_sentence, push_unchecked_sentence};
 use npm_manifests::Mismatch;
 use std::alloc::{AllocError, Global};
 

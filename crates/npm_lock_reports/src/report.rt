@@ -4,6 +4,7 @@ ghost use Rattle.npm_lock_reports.specs.Report.{IsClean};
 
 use crate::unread::Unread;
 use npm_lock::Problems;
+use npm_lock_counted::Excepted;
 use npm_manifests::Mismatch;
 use std::fmt;
 
@@ -24,6 +25,10 @@ pub struct Report {
     pub audited: bool,
     /// How many installed packages an advisory hits.
     pub hits: usize,
+    /// What is excepted, and does not count.
+    pub excepted: Vec<Excepted>,
+    /// How many packages are left out, if a group is.
+    pub omitted: Option<usize>,
     /// A line was written for each dependency that is not checked.
     pub listed: bool,
 }
@@ -63,7 +68,7 @@ impl Report {
 
 /// Prints the counts. Those of mismatches and of packages that are hit are left out if nothing was looked for. If dependencies
 /// that are not checked were not listed, names the option that lists them. Says so if workspaces were not looked for, and if the lock
-/// file has no root.
+/// file has no root. Last are the number of exceptions that applied, if one did, and that of packages that are left out, if a group is.
 impl fmt::Display for Report {
     fn fmt<W: fmt::Write>(&self, f: &mut fmt::Formatter<W>) -> fmt::Result {
         let problems = &self.problems;
@@ -99,6 +104,12 @@ impl fmt::Display for Report {
         if self.audited {
             write!(f, ", {} hit", self.hits)?;
         }
-        Ok(())
+        if !self.excepted.is_empty() {
+            write!(f, ", {} excepted", self.excepted.len())?;
+        }
+        match self.omitted {
+            Some(omitted) => write!(f, ", {omitted} packages omitted"),
+            None => Ok(()),
+        }
     }
 }

@@ -10,9 +10,9 @@ use Rattle.serde_json.specs.Data.{Data, Members, member, no_members}
 use Rattle.node_semver.specs.Versions.{VersionValue}
 use Rattle.npm_texts.specs.InstalledVersions.{IsInstalledVersion}
 use Rattle.npm_pick.specs.Kept.{KeyValue}
-use Rattle.npm_pick_ranks.specs.Packument.{Release, releases_among}
+use Rattle.npm_pick.specs.Packument.{Release, releases_among}
 use Rattle.npm_pick.specs.Private.Keeping.{AreAdded, AreAddedSoFar, IsKeyRead, IsWithin, texts_of}
-use Rattle.npm_pick_ranks.specs.declared.options.Options.{Options}
+use Rattle.npm_pick.specs.declared.options.Options.{Options}
 
 texts_pushed : (xs : List KeyValue) (k : KeyValue) → texts_of (xs ++ k ∷ []) ≡ texts_of xs ++ k.text ∷ []
 texts_pushed xs k = map-append (λ (k : KeyValue). k.text) xs (k ∷ [])

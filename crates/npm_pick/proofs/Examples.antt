@@ -1,1 +1,2 @@
+pub mod RankExamples
 pub mod PickExamples

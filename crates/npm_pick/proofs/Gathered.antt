@@ -5,9 +5,9 @@ use Rattle.semver_cuts.specs.Ends.{Ends}
 use Rattle.serde_json.specs.Data.{Data}
 use Rattle.node_semver.specs.Versions.{VersionValue}
 use Rattle.npm_pick.specs.Kept.{ArePicked, IsAdmitted, IsInOrder, IsInSome, IsKept, KeyValue}
-use Rattle.npm_pick_ranks.specs.Packument.{candidates_of}
+use Rattle.npm_pick.specs.Packument.{candidates_of}
 use Rattle.npm_pick.specs.Private.Keeping.{AreAdded, AreGathered, IsInOne, IsKeyRead, IsWithin, texts_of}
-use Rattle.npm_pick_ranks.specs.declared.options.Options.{Options}
+use Rattle.npm_pick.specs.declared.options.Options.{Options}
 
 module _ (p : Data) (o : Options) (all : Bool) (texts : List (List ℕ)) where
   module _ (ranges : List (Option (List (Ends VersionValue))))

@@ -2,14 +2,14 @@
 use Rattle.std.proofs.Common.{◌≡◌, ◌↔◌, ◌&&◌, ℕ, List, [], ◌∷◌, ◌++◌, Bool, true, false, IsTrue, Result, refl}
 use Rattle.semver_cuts.specs.Lemmas.Lists.{all-append}
 use Rattle.serde_json.specs.Data.{Data}
-use Rattle.npm_pick_ranks.specs.Packument.{Release}
+use Rattle.npm_pick.specs.Packument.{Release}
 use Rattle.npm_pick.specs.Pick.{HasNoDefault, IsPickedIn, PickedValue, by_rank, empty}
 use Rattle.npm_pick.specs.Pick as Picks
 use Rattle.npm_pick.specs.Private.Picking.{AreLate, IsRankedIn}
 use Rattle.npm_pick.specs.Private.Picking as Picking
-use Rattle.npm_pick_ranks.specs.Times.{is_published}
+use Rattle.npm_pick.specs.Times.{is_published}
 use Rattle.npm_pick.specs.declared.error.PickError.{PickError}
-use Rattle.npm_pick_ranks.specs.declared.options.Options.{Options}
+use Rattle.npm_pick.specs.declared.options.Options.{Options}
 
 module _ (p : Data) (o : Options) where
   first_late : (xs ys : List Release) → AreLate p o (xs ++ ys) → AreLate p o xs

@@ -1,4 +1,6 @@
 pub mod Examples
+pub mod Ranked
+pub mod Avoiding
 pub mod Reading
 pub mod Late
 pub mod Added

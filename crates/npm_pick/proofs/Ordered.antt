@@ -15,7 +15,7 @@ use Rattle.std.specs.declared.cmp.Ordering.TheVariants.{Greater, Less}
 use Rattle.npm_pick.specs.Kept.{IsInOrder, KeyValue, key_cmp}
 use Rattle.npm_pick.specs.Private.Keeping.{IsKeyRead, key_order, key_total, key_value, texts_of}
 use Rattle.npm_pick.specs.declared.key.Key.{Key}
-use Rattle.npm_pick_ranks.specs.Lemmas.Readings.{exact}
+use Rattle.npm_pick.specs.Lemmas.Readings.{exact}
 
 -- ---- elements of lists that are mapped
 

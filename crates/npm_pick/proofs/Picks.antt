@@ -6,7 +6,7 @@ use Rattle.std.specs.List.{All}
 use Rattle.serde_json.specs.Data.{Data}
 use Rattle.npm_pick.specs.Kept.{ArePicked, KeyValue, none, passed, picked}
 use Rattle.npm_pick.specs.Private.Keeping.{IsKeyRead, IsPickAdded, added, kept, texts_of}
-use Rattle.npm_pick_ranks.specs.declared.options.Options.{Options}
+use Rattle.npm_pick.specs.declared.options.Options.{Options}
 
 module _ {T : Type 0} (p : Data) (o : Options) (value : T → List ℕ) (texts : List T) where
   -- the keys so far, and then those of the texts that are left

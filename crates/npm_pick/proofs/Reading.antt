@@ -5,7 +5,7 @@ use Rattle.node_semver.specs.Versions.{VersionValue}
 use Rattle.npm_semver.specs.NpmRanges.{NpmSetsAdmit}
 use Rattle.npm_texts.specs.RangeText.{is_plain}
 use Rattle.npm_texts.specs.Admission.{Admits, IsNoRange, of_dependencies}
-use Rattle.npm_pick_ranks.specs.Lemmas.Readings.{no_range}
+use Rattle.npm_pick.specs.Lemmas.Readings.{no_range}
 use Rattle.npm_pick.specs.Kept.{IsInText}
 use Rattle.npm_pick.specs.Private.Keeping.{IsSatisfied}
 

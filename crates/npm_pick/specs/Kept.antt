@@ -12,11 +12,12 @@ use Rattle.node_semver.specs.Versions.{VersionValue, version_cmp}
 use Rattle.npm_texts.specs.InstalledVersions.{IsInstalledVersion}
 use Rattle.npm_texts.specs.RangeText.{filled, is_plain}
 use Rattle.npm_texts.specs.Admission.{Admits, of_dependencies}
-use Rattle.npm_pick_ranks.specs.Packument.{Release, candidates_of, is_restricted}
-use Rattle.npm_pick.specs.Pick.{IsNoVersion, IsPicked, PickedValue}
-use Rattle.npm_pick_ranks.specs.Times.{is_published}
+use Rattle.npm_pick.specs.Packument.{Release, candidates_of, is_restricted}
+use Rattle.npm_pick.specs.Pick.{IsPicked, PickedValue}
+use Rattle.npm_pick.specs.Times.{is_published}
+use Rattle.npm_pick.specs.Wanted.{IsNoVersion}
 use Rattle.npm_pick.specs.declared.error.PickError.{PickError}
-use Rattle.npm_pick_ranks.specs.declared.options.Options.{Options}
+use Rattle.npm_pick.specs.declared.options.Options.{Options}
 
 -- ---- the keys that are picked or admitted
 

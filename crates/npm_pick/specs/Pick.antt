@@ -1,20 +1,20 @@
 -- Which version of a document is picked, or why none is: npm's "npm-pick-manifest", "Algorithm".
 use Rattle.std.specs.Prelude.{◌≡◌, ◌↔◌, ◌⊎◌, ◌++◌, ℕ, List, Bool, true, false, Option, Some, None, Result, Ok, Err}
 use Rattle.std.specs.Prelude.{IsTrue, bytes_eq, codes, if◌then◌else◌, option_map}
-use Rattle.std.specs.List.{AllByRecursion, list_all}
+use Rattle.std.specs.List.{AllByRecursion}
 use Rattle.serde_json.specs.Data.{Data}
 use Rattle.serde_json.specs.View.{view}
 use Rattle.node_semver.specs.Versions.{VersionValue, version_text, without_build}
 use Rattle.npm_texts.specs.InstalledVersions.{IsInstalledVersion}
-use Rattle.npm_texts.specs.RangeText.{is_plain, is_tag_byte}
-use Rattle.npm_texts.specs.WhiteSpace.{trimmed}
+use Rattle.npm_texts.specs.RangeText.{is_plain}
 use Rattle.npm_texts.specs.Admission.{Admits, IsNoRange, of_dependencies}
-use Rattle.npm_pick_ranks.specs.Packument.{Release, candidate_of, candidates_of, is_restricted, is_staged, manifest_of, tagged}
-use Rattle.npm_pick_ranks.specs.Rank.{FitsEngines, HasNone, IsAvoided, IsBest, Rank, is_deprecated}
-use Rattle.npm_pick_ranks.specs.Times.{is_published}
+use Rattle.npm_pick.specs.Packument.{Release, candidate_of, candidates_of, is_restricted, is_staged, manifest_of, tagged}
+use Rattle.npm_pick.specs.Rank.{FitsEngines, HasNone, IsAvoided, IsBest, Rank, is_deprecated}
+use Rattle.npm_pick.specs.Times.{is_published}
+use Rattle.npm_pick.specs.Wanted.{IsNoVersion, is_tag, up_to}
 use Rattle.npm_pick.specs.declared.error.PickError.{PickError}
 use Rattle.npm_pick.specs.declared.error.PickError.TheVariants as Errors
-use Rattle.npm_pick_ranks.specs.declared.options.Options.{Options}
+use Rattle.npm_pick.specs.declared.options.Options.{Options}
 use Rattle.npm_pick.specs.declared.picked.Picked.{Picked}
 
 -- The version that is picked: its key, its manifest, and whether it should be avoided. `is_outside` means that it
@@ -119,19 +119,6 @@ pub data IsPickedIn (packument : Data) (options : Options) (range : List ℕ) : 
         → IsPickedIn packument options range (Err Errors.NoneInRange)
 
 -- ---- the wanted text
-
--- the text is no version
-abbrev pub IsNoVersion : (text : List ℕ) → Type 0
-IsNoVersion text = (v : VersionValue) → ¬ IsInstalledVersion text v
-
--- a text that may be a tag: `latest`, `next-11`. White space around it does not count, though a document has a tag by the
--- whole text.
-abbrev pub is_tag : (text : List ℕ) → Bool
-is_tag text = list_all is_tag_byte (trimmed text)
-
--- the range of a version and of all below it: `<=1.2.3`
-abbrev pub up_to : (key : List ℕ) → List ℕ
-up_to key = codes "<=" ++ key
 
 -- The version that is picked for a tag: the one that it names, as `1.2.3`. If that was published too late, the one that
 -- is picked for `<=1.2.3`.

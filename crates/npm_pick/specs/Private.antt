@@ -1,3 +1,4 @@
 -- What private functions compute.
+pub mod Comparing
 pub mod Picking
 pub mod Keeping

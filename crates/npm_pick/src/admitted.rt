@@ -5,13 +5,15 @@ ghost use Rattle.node_semver.specs.Versions.{VersionValue};
 ghost use Rattle.npm_texts.specs.InstalledVersions.{IsInstalledVersion};
 ghost use Rattle.npm_texts.specs.RangeText as RangeText;
 ghost use Rattle.npm_pick.specs.Kept.{IsInSome, IsInText};
-ghost use Rattle.npm_pick_ranks.specs.Packument.{candidates_of, releases_among, releases_in};
+ghost use Rattle.npm_pick.specs.Packument.{candidates_of, releases_among, releases_in};
 ghost use Rattle.npm_pick.specs.Private.Keeping.{AreAdded, IsInOne, IsSatisfied, IsWithin, key_value};
 
 use crate::Result;
 use crate::key::Key;
+use crate::member::{is_restricted, restricted_of, staged_of, versions_of};
+use crate::options::Options;
+use crate::time::is_published;
 use node_semver::{Range, VersionRef};
-use npm_pick_ranks::{Options, is_published, is_restricted, restricted_of, staged_of, versions_of};
 use npm_texts::{OF_DEPENDENCIES, filled, installed_version, is_plain, range_of};
 use serde_json::{Map, Value};
 use std::alloc::Global;

@@ -10,8 +10,8 @@ use crate::Result;
 use crate::admitted::{Admitting, ranges_of};
 use crate::error::PickError;
 use crate::key::Key;
+use crate::options::Options;
 use crate::picked::pick;
-use npm_pick_ranks::Options;
 use serde_json::Value;
 use std::alloc::{AllocError, Global};
 

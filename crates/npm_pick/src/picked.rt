@@ -1,5 +1,5 @@
 //! The version of a document that npm would install.
-ghost use Rattle.std.specs.Prelude.{◌≡◌, IfOk, string_bytes};
+ghost use Rattle.std.specs.Prelude.{◌≡◌};
 ghost use Rattle.serde_json.specs.View.{view};
 ghost use Rattle.node_semver.specs.Versions.{version_text, without_build};
 ghost use Rattle.npm_texts.specs.RangeText as RangeText;
@@ -7,15 +7,16 @@ ghost use Rattle.npm_pick.specs.Pick as Picks;
 ghost use Rattle.npm_pick.specs.Pick.{IsAnswer, IsChosen, IsPicked, IsPickedAt, IsPickedByTag, IsPickedByText, IsPickedFor, answer_value};
 
 use crate::error::PickError;
+use crate::member::{is_restricted, tagged};
+use crate::options::Options;
 use crate::ranged::{pick_at, pick_in};
 use crate::strict::pick_strictly;
+use crate::time::is_published;
+use crate::wanted::{is_tag, text_of, up_to};
 use node_semver::VersionRef;
-use npm_pick_ranks::{Options, is_published, is_restricted, tagged};
-use npm_texts::{
-    OF_DEPENDENCIES, are_tag_bytes, filled, installed_version, is_plain, range_of, trimmed,
-};
+use npm_texts::{OF_DEPENDENCIES, filled, installed_version, is_plain, range_of};
 use serde_json::Value;
-use std::alloc::{AllocError, Global};
+use std::alloc::Global;
 
 /// The version that is picked.
 #[derive(Clone, Copy)]
@@ -137,13 +138,6 @@ fn pick_by_text<'v>(
     }
 }
 
-/// Returns `true` if the text can be a tag. White space around it does not count.
-fn is_tag(text: &str) -> bool
-    ensures { result ≡ Picks.is_tag text.now }
-{
-    are_tag_bytes(trimmed(text))
-}
-
 /// Picks a version.
 fn pick_version<'v>(
     alloc: Global,
@@ -156,15 +150,6 @@ fn pick_version<'v>(
 {
     let text = text_of(alloc, version)?;
     pick_at(alloc, packument, text.as_str(), options)
-}
-
-/// The text of a version without its build.
-fn text_of(alloc: Global, version: &VersionRef<'_>) -> Result<String, AllocError>
-    ensures { IfOk result (λ text. string_bytes text ≡ version_text (without_build version.now)) }
-{
-    let mut version = version.to_version(alloc)?;
-    version.build = Vec::new(alloc);
-    format!(in alloc; "{version}")
 }
 
 /// Picks the version that a tag names, or if that was published too late the highest one below it.
@@ -187,13 +172,4 @@ fn pick_by_tag<'v>(
         Some(range) => pick_in(alloc, packument, text.as_str(), range, options),
         None => Err(PickError::Wanted),
     }
-}
-
-/// The range of a version and of all below it.
-fn up_to(alloc: Global, key: &str) -> Result<String, AllocError>
-    ensures { IfOk result (λ text. string_bytes text ≡ Picks.up_to key.now) }
-{
-    let mut text = String::from_str(alloc, "<=")?;
-    text.push_str(key)?;
-    Ok(text)
 }

@@ -4,20 +4,23 @@ ghost use Rattle.serde_json.specs.View.{members_view, view};
 ghost use Rattle.node_semver.specs.Ranges.{RangeAdmits};
 ghost use Rattle.node_semver.specs.Versions.{VersionValue};
 ghost use Rattle.npm_texts.specs.Admission.{Admits, of_dependencies};
-ghost use Rattle.npm_pick_ranks.specs.Packument.{releases_among, releases_in};
+ghost use Rattle.npm_pick.specs.Packument.{releases_among, releases_in};
 ghost use Rattle.npm_pick.specs.Pick as Picks;
 ghost use Rattle.npm_pick.specs.Pick.{HasNoneInTime, IsAnswer, IsPickedAt, IsPickedIn, answer_value};
-ghost use Rattle.npm_pick_ranks.specs.Ranking.{IsRead};
+ghost use Rattle.npm_pick.specs.Ranking.{IsRead};
 ghost use Rattle.npm_pick.specs.Private.Picking.{AreLate, IsDefaultOrNone, IsKeyAvoidedBy, IsRankedIn};
 
 use crate::Result;
 use crate::error::PickError;
-use crate::picked::Picked;
-use node_semver::Range;
-use npm_pick_ranks::{
-    Asked, Options, avoided, best_of, candidate_of, is_in, is_listed, is_published, release_in,
-    restricted_of, staged_of, tagged, versions_of,
+use crate::member::{
+    candidate_of, is_listed, release_in, restricted_of, staged_of, tagged, versions_of,
 };
+use crate::options::Options;
+use crate::picked::Picked;
+use crate::rank::asked::{Asked, avoided, is_in};
+use crate::rank::best::best_of;
+use crate::time::is_published;
+use node_semver::Range;
 use npm_texts::{has_true, installed_version};
 use serde_json::{Map, Value};
 use std::alloc::Global;

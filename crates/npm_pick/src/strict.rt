@@ -5,8 +5,8 @@ ghost use Rattle.npm_pick.specs.Pick as Picks;
 ghost use Rattle.npm_pick.specs.Pick.{IsAnswer, IsPickedBeside, IsPickedOfAll, IsPickedStrictly, answer_value, picked_value};
 
 use crate::error::PickError;
+use crate::options::Options;
 use crate::picked::{Picked, pick_for};
-use npm_pick_ranks::Options;
 use serde_json::Value;
 use std::alloc::{AllocError, Global};
 

@@ -8,7 +8,7 @@ use Rattle.npm_pick.specs.Pick.{IsPicked, PickedValue}
 use Rattle.npm_pick.specs.declared.error.PickError.{PickError}
 use Rattle.npm_pick.specs.declared.error.PickError.TheVariants.{Wanted, NoTag, NoVersion, NoVersions, NoneInRange}
 use Rattle.npm_pick.specs.declared.error.PickError.TheVariants.{Forbidden, Avoided, Memory}
-use Rattle.npm_pick.specs.PickOptions.{Options}
+use Rattle.npm_pick.specs.declared.options.Options.{Options}
 use Rattle.npm_pick_c.specs.Asked.{AreOptions, AreUtf8, Asked}
 use Rattle.npm_pick_c.specs.declared.told.Told.{Told}
 use Rattle.npm_pick_c.specs.declared.status.TheConstants.{OK, INVALID_WANTED, NO_TAG, NO_VERSION, NO_VERSIONS}

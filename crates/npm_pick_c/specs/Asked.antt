@@ -1,7 +1,8 @@
 -- What C passes: a document, the wanted text, and options.
 use Rattle.std.specs.Prelude.{◌≡◌, ◌∷◌, ℕ, ℤ, List, [], Bool, Option, Some, None, IsUtf8, codes, option_map}
 use Rattle.node_semver.specs.Versions.{IsVersionText, VersionValue}
-use Rattle.npm_pick.specs.PickOptions.{Options, time_text}
+use Rattle.npm_pick.specs.Times.{time_text}
+use Rattle.npm_pick.specs.declared.options.Options.{Options}
 use Rattle.npm_pick_c.specs.declared.asked.Texts as declared
 
 -- the texts of the options

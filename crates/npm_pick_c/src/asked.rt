@@ -1,6 +1,6 @@
 //! What C asks: texts, and two marks.
 ghost use Rattle.std.specs.Prelude.{◌≡◌, IfErr, IfNone, IfOk, IfSome, IsUtf8, Option, option_map, ℤ};
-ghost use Rattle.npm_pick.specs.PickOptions.{Options};
+ghost use Rattle.npm_pick.specs.declared.options.Options.{Options};
 ghost use Rattle.node_semver.specs.Versions.{VersionValue};
 ghost use Rattle.npm_pick_c.specs.Asked as Asks;
 

@@ -10,9 +10,10 @@ use denote.Ref.{Bor}
 use Rattle.command_lines.specs.Arguments as Words
 use Rattle.command_lines.specs.Arguments.{ArgumentValue}
 use Rattle.command_lines.specs.declared.argument.TheConstants.{MAX_WORDS}
-use Rattle.command_options.specs.Given.{first_fault, is_among, is_given, meaning, ok_unless, shown_in, value_of, values_of}
-use Rattle.command_options.specs.declared.given.Shown.{Shown}
-use Rattle.npm_pick_reports.specs.Formats.{Format, Json, Text}
+use Rattle.command_lines.specs.Given.{first_fault, is_among, is_given, meaning, ok_unless, shown_in, value_of}
+use Rattle.command_lines.specs.declared.argument.given.Shown.{Shown}
+use Rattle.npm_pick_reports.specs.declared.format.Format.{Format}
+use Rattle.npm_pick_reports.specs.declared.format.Format.TheVariants.{Json, Text}
 use Rattle.npm_pick_command.specs.declared.argument_error.ArgumentError.{ArgumentError}
 use Rattle.npm_pick_command.specs.declared.argument_error.ArgumentError.TheVariants as Errors
 use Rattle.npm_pick_command.specs.declared.arguments.Arguments.{Arguments}
@@ -43,10 +44,6 @@ spec_of word = if starts_with nat_eq word (codes "-") then None else Some word
 abbrev pub spec_in : List ArgumentValue → Option (List ℕ)
 spec_in arguments = last_or None (filter_map (λ argument. spec_of argument.word) arguments)
 
--- the files of all manifests
-abbrev pub manifests_of : (words : List (List ℕ)) → List (List ℕ)
-manifests_of words = values_of (codes "--manifest") (arguments_of words)
-
 -- ---- their faults
 
 -- a fault, and the word or the value that it is about
@@ -64,7 +61,7 @@ pub data ArgumentErrorValue : Type 0 where
   two_tasks : ArgumentErrorValue
   -- with the option that takes none
   no_spec : (option word : List ℕ) → ArgumentErrorValue
-  -- that a text is no time and no version is said by `Given`, and not here
+  -- that a text is no time and no version is said by `Given` of npm_pick_files, and not here
   no_time : (text : List ℕ) → ArgumentErrorValue
   no_node_version : (text : List ℕ) → ArgumentErrorValue
   no_npm_version : (text : List ℕ) → ArgumentErrorValue

@@ -1,11 +1,11 @@
 -- The options of a pick, by the arguments.
 use Rattle.std.specs.Prelude.{◌≡◌, ◌⊎◌, ℕ, ℤ, IsSome, List, Option, Some, None, codes, option_map, string_bytes, unwrap_or}
 use Rattle.node_semver.specs.Versions.{IsVersionText, VersionValue}
-use Rattle.npm_pick.specs.PickOptions.{Options}
-use Rattle.npm_pick_reports.specs.Failures.{Memory}
+use Rattle.npm_pick.specs.declared.options.Options.{Options}
+use Rattle.npm_pick_files.specs.Given.{IsVersionGiven, time_given}
+use Rattle.npm_pick_reports.specs.declared.run_error.RunError.TheVariants.{Memory}
 use Rattle.npm_pick_command.specs.Arguments.{ArgumentErrorValue, ArgumentsValue, argument_error_value, no_node_version}
 use Rattle.npm_pick_command.specs.Arguments.{no_npm_version, no_time}
-use Rattle.npm_pick_command.specs.Given.{IsVersionGiven, time_given}
 use Rattle.npm_pick_command.specs.declared.picking.Values.{Values}
 use Rattle.npm_pick_command.specs.declared.program_error.ProgramError.{ProgramError}
 use Rattle.npm_pick_command.specs.declared.program_error.ProgramError.TheVariants as Errors

@@ -2,14 +2,16 @@
 ghost use Rattle.std.specs.Prelude.{◌≡◌, [], codes, is_some, map, option_map, string_bytes};
 ghost use Rattle.std.specs.Option.{option_or};
 ghost use Rattle.command_lines.specs.Arguments.{argument_value};
-ghost use Rattle.command_options.specs.Given.{first_fault, is_among, meaning, value_of};
+ghost use Rattle.command_lines.specs.Given.{first_fault, is_among, meaning, value_of};
 ghost use Rattle.npm_pick_command.specs.Arguments as ArgumentRules;
 ghost use Rattle.npm_pick_command.specs.Arguments.{ArgumentErrorValue, argument_error_value, arguments_of, arguments_result};
 ghost use Rattle.npm_pick_command.specs.Arguments.{arguments_value, fault_of, flags, formats, text_value, valued};
 
 use crate::argument_error::ArgumentError;
-use command_lines::{Argument, MAX_WORDS, Options, Quoted, first_argument};
-use command_options::{Faults, Shown, is_given, shown_in, value_of};
+use command_lines::{
+    Argument, Faults, MAX_WORDS, Options, Quoted, Shown, first_argument, is_given, shown_in,
+    value_of,
+};
 use npm_pick_reports::Format;
 
 /// What the arguments mean. A text is the value of the last option of its name.
@@ -22,7 +24,7 @@ pub struct Arguments<'a> {
     pub packuments: Option<&'a str>,
     /// A lock file.
     pub lock: Option<&'a str>,
-    /// A manifest. `manifests_of` lists all of them.
+    /// A manifest. `values_of` lists all of them.
     pub manifest: Option<&'a str>,
     pub outdated: bool,
     pub keep: bool,
@@ -174,7 +176,7 @@ fn first_fault<'a>(words: &'a [String]) -> Option<ArgumentError<'a>>
     ensures { option_map argument_error_value result
         ≡ first_fault fault_of [] (arguments_of (map string_bytes words.now)) }
 {
-    command_options::first_fault::<PickOptions>(words)
+    command_lines::first_fault::<PickOptions>(words)
 }
 
 impl<'a> Faults<'a> for PickOptions {

@@ -13,29 +13,21 @@ ghost use Rattle.npm_pick_reports.specs.declared.reply.Ending.{Ending};
 
 mod argument_error;
 mod arguments;
-mod given;
 mod help;
-mod manifest;
-mod manifest_files;
-mod packument_file;
 mod picking;
 mod program_error;
 mod task;
 
-use arguments::{Arguments, read_arguments};
-use command_lines::{InputError, Quoted, Watched, open_error, read_json, words_of};
-use command_options::Shown;
+use arguments::{Arguments, PickOptions, read_arguments};
+use command_lines::{Quoted, Shown, words_of};
 use help::{HELP, VERSION};
-use manifest::checked_manifest;
-use manifest_files::manifests_of;
 use npm_pick::Options;
+use npm_pick_files::{checked_manifest, packument_in, value_at, values_of};
 use npm_pick_reports::{Done, Ending, Question, RunError, run};
-use packument_file::packument_in;
 use picking::Values;
 use program_error::ProgramError;
 use serde_json::Value;
 use std::alloc::AllocError;
-use std::fs::File;
 use std::io;
 use std::io::Write;
 use std::process::ExitCode;
@@ -109,11 +101,11 @@ fn done<'a>(
 ) -> Result<Done, ProgramError<'a>> {
     match task {
         Task::Pick { packument, wanted } => {
-            let value = value_at(rt, "--packument", packument)?;
+            let value = file_value(rt, "--packument", packument)?;
             replied(rt, Question::Pick(&value, wanted), asked, options, "")
         }
         Task::Outdated { packuments, lock } => {
-            let value = value_at(rt, "--lock", lock)?;
+            let value = file_value(rt, "--lock", lock)?;
             replied(
                 rt,
                 Question::Outdated(&value, asked.all),
@@ -125,7 +117,7 @@ fn done<'a>(
         Task::Keep { packuments, lock } => {
             let manifests = manifests_at(rt, words)?;
             let lock = match lock {
-                Some(lock) => Some(value_at(rt, "--lock", lock)?),
+                Some(lock) => Some(file_value(rt, "--lock", lock)?),
                 None => None,
             };
             let question = Question::Keep(&manifests, lock.as_ref(), asked.all);
@@ -157,7 +149,7 @@ fn replied<'a>(
 /// Reads the manifests that the words name.
 fn manifests_at<'a>(rt: &HostRuntime, words: &'a [String]) -> Result<Vec<Value>, ProgramError<'a>> {
     let mut manifests = Vec::new(rt.alloc());
-    for path in manifests_of(rt.alloc(), words)? {
+    for path in values_of::<PickOptions>(rt.alloc(), words, "--manifest")? {
         let manifest = manifest_at(rt, path)?;
         manifests.push(manifest).map_err(|_| AllocError)?;
     }
@@ -166,7 +158,7 @@ fn manifests_at<'a>(rt: &HostRuntime, words: &'a [String]) -> Result<Vec<Value>,
 
 /// Reads a manifest.
 fn manifest_at<'a>(rt: &HostRuntime, path: &'a str) -> Result<Value, ProgramError<'a>> {
-    let value = value_at(rt, "--manifest", path)?;
+    let value = file_value(rt, "--manifest", path)?;
     match checked_manifest(value) {
         Ok(manifest) => Ok(manifest),
         Err(fault) => Err(ProgramError::Manifest(Quoted { text: path }, fault)),
@@ -174,24 +166,15 @@ fn manifest_at<'a>(rt: &HostRuntime, path: &'a str) -> Result<Value, ProgramErro
 }
 
 /// Reads the JSON value of the file after an option; `-` is standard input.
-fn value_at<'a>(
+fn file_value<'a>(
     rt: &HostRuntime,
     option: &'static str,
     path: &'a str,
 ) -> Result<Value, ProgramError<'a>> {
-    match read_at(rt, path) {
+    match value_at(rt, path) {
         Ok(value) => Ok(value),
         Err(error) => Err(ProgramError::File(option, Quoted { text: path }, error)),
     }
-}
-
-/// Reads the JSON value of a file.
-fn read_at(rt: &HostRuntime, path: &str) -> Result<Value, InputError> {
-    if path == "-" {
-        return read_json(rt.alloc(), &mut Watched::new(rt.stdin()));
-    }
-    let file = File::open(rt, path).map_err(|error| open_error(error))?;
-    read_json(rt.alloc(), &mut Watched::new(file))
 }
 
 /// Returns the exit status: 0 if a version is picked, nothing is outdated, each package that a mirror keeps has a document or a text

@@ -1,6 +1,6 @@
 //! Why the program ends with status 2.
 ghost use Rattle.std.specs.Prelude.{◌≡◌};
-ghost use Rattle.npm_pick_reports.specs.Failures.{Memory};
+ghost use Rattle.npm_pick_reports.specs.declared.run_error.RunError.TheVariants.{Memory};
 ghost use Rattle.npm_pick_command.specs.declared.program_error.ProgramError.TheVariants as Errors;
 
 use crate::argument_error::ArgumentError;

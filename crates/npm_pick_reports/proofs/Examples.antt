@@ -1,1 +1,4 @@
+pub mod OutdatedExamples
+pub mod MirrorExamples
+pub mod MirrorLineExamples
 pub mod LineExamples

@@ -1,2 +1,7 @@
+pub mod Outcomes
+pub mod TextOrder
+pub mod Gathering
+pub mod Grouping
+pub mod Mirrors
 pub mod Replies
 pub mod Examples

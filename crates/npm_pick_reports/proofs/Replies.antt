@@ -5,12 +5,12 @@ use Rattle.std.specs.List.{fold, list_any}
 use Rattle.std.specs.Prelude.{cond, count_by}
 use Rattle.npm_pick.specs.Lemmas.Answers.{is_picked, is_unpicked}
 use Rattle.npm_pick.specs.Pick.{IsAnswer, IsPicked, PickedValue}
-use Rattle.npm_pick.specs.PickOptions.{Options}
+use Rattle.npm_pick.specs.declared.options.Options.{Options}
 use Rattle.npm_pick.specs.declared.error.PickError.{PickError}
 use Rattle.npm_pick.specs.declared.error.PickError.TheVariants as Errors
-use Rattle.npm_pick_errors.specs.declared.format.Format.{Format}
-use Rattle.npm_pick_outdated.specs.Outdated.{is_absent, is_outdated, outcome_value}
-use Rattle.npm_pick_outdated.specs.declared.outdated.Outcome.{Outcome}
+use Rattle.npm_pick_reports.specs.declared.format.Format.{Format}
+use Rattle.npm_pick_reports.specs.Outdated.{is_absent, is_outdated, outcome_value}
+use Rattle.npm_pick_reports.specs.declared.outdated.Outcome.{Outcome}
 use Rattle.npm_texts.specs.RangeText.{filled}
 use Rattle.serde_json.specs.Data.{Data}
 use Rattle.npm_pick_reports.specs.PickedLine.{picked_line}

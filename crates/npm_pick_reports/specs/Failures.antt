@@ -3,13 +3,13 @@ use Rattle.std.specs.Prelude.{◌≡◌, ◌⊎◌, Bool, List, Option, Some, ma
 use Rattle.serde_json.specs.Data.{Data}
 use Rattle.serde_json.specs.View.{view}
 use Rattle.npm_packages.specs.Edges.{AreLockEdges, EdgeValue}
-use Rattle.npm_pick_errors.specs.Loading.{IsLoadFailure, Loads}
-use Rattle.npm_pick_errors.specs.LockFailures.{IsLockFailure}
-use Rattle.npm_pick_errors.specs.declared.run_error.RunError.{RunError}
-pub use Rattle.npm_pick_errors.specs.declared.run_error.RunError.TheVariants.{Memory}
-use Rattle.npm_pick_mirrors.specs.Asks.{AreAsks, AskValue}
-use Rattle.npm_pick_mirrors.specs.Mirror.{IsNeededFor, requests_of}
-use Rattle.npm_pick_outdated.specs.Outdated.{IsNeededForOne}
+use Rattle.npm_pick_reports.specs.Loading.{IsLoadFailure, Loads}
+use Rattle.npm_pick_reports.specs.LockFailures.{IsLockFailure}
+use Rattle.npm_pick_reports.specs.declared.run_error.RunError.{RunError}
+use Rattle.npm_pick_reports.specs.declared.run_error.RunError.TheVariants.{Memory}
+use Rattle.npm_pick_reports.specs.Asks.{AreAsks, AskValue}
+use Rattle.npm_pick_reports.specs.Mirror.{IsNeededFor, requests_of}
+use Rattle.npm_pick_reports.specs.Outdated.{IsNeededForOne}
 use Rattle.npm_pick_reports.specs.declared.reply.Question.{Question}
 use Rattle.npm_pick_reports.specs.declared.reply.Question.TheVariants as Questions
 

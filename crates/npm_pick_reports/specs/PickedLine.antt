@@ -4,8 +4,8 @@ use Rattle.serde_json.specs.Data.{Data, boolean, member, no_members, object, str
 use Rattle.serde_json.specs.Written.{compact_text}
 use Rattle.npm_pick.specs.Pick.{PickedValue}
 use Rattle.command_lines.specs.Shown.{shown}
-use Rattle.npm_pick_errors.specs.declared.format.Format.{Format}
-use Rattle.npm_pick_errors.specs.declared.format.Format.TheVariants.{Json, Text}
+use Rattle.npm_pick_reports.specs.declared.format.Format.{Format}
+use Rattle.npm_pick_reports.specs.declared.format.Format.TheVariants.{Json, Text}
 
 -- its JSON object: `{"avoided":false,"version":"1.3.0"}`
 abbrev pub picked_data : PickedValue → Data

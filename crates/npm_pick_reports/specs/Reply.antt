@@ -7,17 +7,17 @@ use Rattle.npm_packages.specs.Edges.{AreLockEdges, EdgeValue}
 use Rattle.npm_texts.specs.RangeText.{filled}
 use Rattle.npm_pick.specs.Pick.{IsPicked, PickedValue}
 use Rattle.npm_pick.specs.declared.error.PickError.{PickError}
-use Rattle.npm_pick.specs.PickOptions.{Options}
-use Rattle.npm_pick_mirrors.specs.Asks.{AreAsks, AskValue}
-use Rattle.npm_pick_errors.specs.Loading.{Loads}
-use Rattle.npm_pick_mirrors.specs.Mirror.{IsMirror, requests_of}
-use Rattle.npm_pick_mirrors.specs.MirrorLines as Lines
-use Rattle.npm_pick_mirrors.specs.MirrorLines.{mirror_lines}
-use Rattle.npm_pick_mirrors.specs.Notes.{AreNotes}
-use Rattle.npm_pick_outdated.specs.Outdated.{IsOutcome, OutcomeValue, is_absent, is_outdated}
-use Rattle.npm_pick_outdated.specs.OutdatedLines.{outcome_lines}
+use Rattle.npm_pick.specs.declared.options.Options.{Options}
+use Rattle.npm_pick_reports.specs.Asks.{AreAsks, AskValue}
+use Rattle.npm_pick_reports.specs.Loading.{Loads}
+use Rattle.npm_pick_reports.specs.Mirror.{IsMirror, requests_of}
+use Rattle.npm_pick_reports.specs.MirrorLines as Lines
+use Rattle.npm_pick_reports.specs.MirrorLines.{mirror_lines}
+use Rattle.npm_pick_reports.specs.Notes.{AreNotes}
+use Rattle.npm_pick_reports.specs.Outdated.{IsOutcome, OutcomeValue, is_absent, is_outdated}
+use Rattle.npm_pick_reports.specs.OutdatedLines.{outcome_lines}
 use Rattle.npm_pick_reports.specs.PickedLine.{picked_line}
-use Rattle.npm_pick_errors.specs.declared.format.Format.{Format}
+use Rattle.npm_pick_reports.specs.declared.format.Format.{Format}
 use Rattle.npm_pick_reports.specs.declared.reply.Done.{Done}
 use Rattle.npm_pick_reports.specs.declared.reply.Ending.{Ending}
 use Rattle.npm_pick_reports.specs.declared.reply.Ending.TheVariants.{Compared, Kept, Nothing, Picked}

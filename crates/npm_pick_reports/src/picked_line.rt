@@ -5,9 +5,9 @@ ghost use Rattle.serde_json.specs.View.{members_view, view};
 ghost use Rattle.npm_pick.specs.Pick.{picked_value};
 ghost use Rattle.npm_pick_reports.specs.PickedLine as Lines;
 
+use crate::format::Format;
 use command_lines::push_shown;
 use npm_pick::Picked;
-use npm_pick_errors::Format;
 use npm_texts::put_text;
 use serde_json::{Map, Value, put};
 use std::alloc::{AllocError, Global};

@@ -1,1 +1,3 @@
 mod Zips
+mod Wishing
+mod Gathering

@@ -55,13 +55,13 @@ IsResolution wishes offers root posed (Resolutions.NoSelection blamed) = NoneFit
     × AllZip (IsAskOf wishes root) demands asks.items)
 IsResolution wishes offers root posed Resolutions.Undecided = ⊤
 
--- The resolution is that of the problem that the manifest and the documents pose.
-pub record IsAnswer (manifest : Value) (documents : List Document) (options : Options) (omits : Omits) (answer : Answer)
+-- The resolution is that of the problem that the manifests and the documents pose.
+pub record IsAnswer (manifests : List Value) (documents : List Document) (options : Options) (omits : Omits) (answer : Answer)
     : Type 0 where
   pub wishes : List Ask
   pub offers : List Offer
   pub root : List Demand
   pub posed : Documents
-  pub posing : IsInstance manifest documents options omits wishes offers root posed
+  pub posing : IsInstance manifests documents options omits wishes offers root posed
   pub resolution : IsResolution wishes offers root posed answer.resolution
   pub left_out : posing.left_out ≡ map ask_value answer.left_out.items

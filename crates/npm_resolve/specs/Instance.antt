@@ -1,4 +1,4 @@
--- The problem that a manifest and documents pose: the demands of version_solving in the words of npm.
+-- The problem that manifests and documents pose: the demands of version_solving in the words of npm.
 use Rattle.std.specs.Prelude.{◌≡◌, ◌↔◌, ℕ, ℤ, List, [], Bool, IsTrue, Option, Some, None, MatchOption, bytes_eq, false, map, slice_get, string_bytes, true}
 use Rattle.std.specs.List.{AllZip}
 use Rattle.serde_json.specs.View.{view}
@@ -18,6 +18,7 @@ use Rattle.npm_candidates.specs.Meanings.{IsAdmitted, IsMeaning, MeaningValue, n
 use Rattle.npm_candidates.specs.declared.candidate.Candidate.{Candidate}
 use Rattle.npm_candidates.specs.declared.options.Omits.{Omits}
 use Rattle.npm_candidates.specs.declared.options.Options.{Options}
+use Rattle.npm_resolve.specs.Wishes.{AreWishes}
 use Rattle.npm_resolve.specs.declared.documents.Document.{Document}
 use Rattle.npm_resolve.specs.declared.instance.Offer.{Offer}
 
@@ -73,12 +74,12 @@ AreRanges before offers = AllZip (IsRangeFor before offers)
 
 -- ---- all of it
 
--- These demands, packages and ranges are the problem that the manifest of a root and the documents pose.
-pub record IsInstance (manifest : Value) (documents : List Document) (options : Options) (omits : Omits)
+-- These demands, packages and ranges are the problem that the manifests of a root and the documents pose.
+pub record IsInstance (manifests : List Value) (documents : List Document) (options : Options) (omits : Omits)
     (wishes : List Ask) (offers : List Offer) (root : List Demand) (posed : Documents)
     : Type 0 where
   pub left_out : List AskValue
-  pub asked : AreAsks (view manifest) true omits (map ask_value wishes) left_out
+  pub asked : AreWishes omits manifests (map ask_value wishes) left_out
   pub offered : AllZip (IsOffer options) documents offers
   pub listed : List Listed
   pub are_listed : AllZip (IsListedFor omits) offers listed

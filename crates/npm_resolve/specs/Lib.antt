@@ -1,5 +1,9 @@
 -- What the contracts of this crate say: all of it that is trusted, in reading order.
--- `IsAnswer` of Answers is the claim of `resolved`.
+-- `AreDocumentsFor` of Documents is the claim of `documents_for`, and `IsAnswer` of Answers that of `resolved`.
 
-pub mod Instance  -- the problem that a manifest and documents pose
+pub mod Wishes  -- what manifests ask for
+pub mod Documents  -- the documents that are needed
+pub mod Instance  -- the problem that manifests and documents pose
 pub mod Answers  -- what an answer says
+-- ---- not part of any public contract: what private functions compute
+pub mod Private

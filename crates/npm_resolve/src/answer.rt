@@ -18,14 +18,14 @@ pub struct Chosen<'v> {
 pub enum Resolution<'v> {
     /// The versions that are selected, in the order in which they are first needed.
     Selected(Vec<Chosen<'v>>),
-    /// No selection fits. What the manifest asks for that cannot be met together, and without any one of which the others can;
+    /// No selection fits. What the manifests ask for that cannot be met together, and without any one of which the others can;
     /// `None` if that takes more steps than it may.
     NoSelection(Option<Vec<Ask<'v>>>),
     /// The steps were used up before either was known.
     Undecided,
 }
 
-/// Which versions fit together, and what the manifest asks no registry for.
+/// Which versions fit together, and what the manifests ask no registry for.
 #[derive(Drop)]
 pub struct Answer<'v> {
     pub resolution: Resolution<'v>,

@@ -1,13 +1,17 @@
 //! The documents of the packages that are needed.
+ghost use Rattle.std.specs.Prelude.{◌≡◌, ◌++◌, IfErr, IfOk, List, OnOk, [], ◌∷◌, string_bytes};
+ghost use Rattle.std.specs.Fn.{FnReturnsAt};
+ghost use Rattle.npm_candidates.specs.Asks.{AskValue};
+ghost use Rattle.npm_resolve.specs.Documents.{AreDocumentsFor, ArePeers, IsUnread};
+ghost use Rattle.npm_resolve.specs.Private.Gathering.{AreAdded, AreBegun, IsAnswered};
 
 use crate::Result;
-use named_problems::Ask;
-use npm_candidates::{Omits, Options, asks_of, candidates_of};
-use npm_pick_errors::LoadError;
-use npm_texts::registry_spec;
+use crate::requests::{Request, Requests};
+use crate::wishes::wishes_of;
+use npm_candidates::{Omits, Options};
+use npm_pick_reports::LoadError;
 use serde_json::Value;
 use std::alloc::{AllocError, Global};
-use std::collections::{BTreeSet, VecDeque};
 
 /// A name that is asked for, and the document of its package.
 #[derive(Drop)]
@@ -18,38 +22,32 @@ pub struct Document {
     pub packument: Value,
 }
 
-/// A name and its package.
-#[derive(Drop)]
-struct Request {
-    name: String,
-    package: String,
-}
-
-/// Names that are asked for, each once.
-#[derive(Drop)]
-struct Requests {
-    queue: VecDeque<Request>,
-    seen: BTreeSet<String>,
-}
-
-/// Reads the documents of the names that a manifest asks for, and of those that the versions of these documents ask for as peers, as
-/// deep as they go. `load` returns the document of a package, if there is one. The first alias of a name decides which package it is.
+/// Reads the documents of the names that manifests ask for, and of those that the versions of these documents ask for as peers, as
+/// deep as they go, each once. `load` returns the document of a package, if there is one. The first alias of a name decides which
+/// package it is.
 ///
 /// # Errors
 ///
 /// - `Package`: a document was not read.
 /// - `Memory`: an allocation failed.
+///
+/// # Memory
+///
+/// Allocates the documents, and three texts for each name.
 pub fn documents_for<F: Fn(&str) -> Result<Option<Value>, LoadError>>(
     alloc: Global,
-    manifest: &Value,
+    manifests: &[Value],
     options: &Options<'_>,
     omits: Omits,
     load: F,
 ) -> Result<Vec<Document>, LoadError>
     requires { F.IsAlwaysCallable load }
+    ensures documents { IfOk result (λ documents. AreDocumentsFor (FnReturnsAt F.Fn load) manifests.now options.now omits
+        documents.items) }
+    ensures failed { IfErr result (IsUnread (FnReturnsAt F.Fn load)) }
 {
     let mut documents = Vec::new(alloc);
-    let mut requests = match Requests::of_root(alloc, manifest, omits) {
+    let mut requests = match first_requests(alloc, manifests, omits) {
         Ok(requests) => requests,
         Err(_) => return Err(LoadError::Memory),
     };
@@ -57,76 +55,76 @@ pub fn documents_for<F: Fn(&str) -> Result<Option<Value>, LoadError>>(
         let Some(request) = requests.queue.pop_front() else {
             return Ok(documents);
         };
-        let Some(packument) = load(request.package.as_str())? else {
-            continue;
-        };
-        match requests.add_peers(alloc, &packument, options, omits) {
-            Ok(()) => {}
-            Err(_) => return Err(LoadError::Memory),
-        }
-        let document = Document {
-            name: request.name,
-            package: request.package,
-            packument,
-        };
-        match documents.push(document) {
-            Ok(()) => {}
-            Err(_) => return Err(LoadError::Memory),
-        }
+        add_document(
+            alloc,
+            &mut documents,
+            &mut requests,
+            request,
+            options,
+            omits,
+            &load,
+        )?;
     }
-    Ok(documents)
+    // No memory has so many names.
+    Err(LoadError::Memory)
 }
 
-impl Requests {
-    /// The names that a manifest asks for.
-    fn of_root(alloc: Global, manifest: &Value, omits: Omits) -> Result<Requests> {
-        let mut requests = Requests {
-            queue: VecDeque::new(alloc),
-            seen: BTreeSet::new(alloc),
-        };
-        let found = asks_of(alloc, manifest, true, omits)?;
-        requests.add_all(alloc, &found.asks)?;
-        Ok(requests)
-    }
+/// The requests for what manifests ask for.
+fn first_requests(alloc: Global, manifests: &[Value], omits: Omits) -> Result<Requests>
+    ensures { IfOk result (AreBegun omits manifests.now) }
+{
+    let wishes = wishes_of(alloc, manifests, omits)?;
+    let mut requests = Requests::new(alloc);
+    requests.add_all(alloc, &wishes.asks)?;
+    Ok(requests)
+}
 
-    /// Adds the names that the versions of a document ask for.
-    fn add_peers(
-        &mut self,
-        alloc: Global,
-        packument: &Value,
-        options: &Options<'_>,
-        omits: Omits,
-    ) -> Result<()> {
-        for candidate in &candidates_of(alloc, packument, options)? {
-            let found = asks_of(alloc, candidate.manifest, false, omits)?;
-            self.add_all(alloc, &found.asks)?;
-        }
-        Ok(())
+/// Reads the document of a request, if there is one, and asks for what its candidates ask for.
+fn add_document<F: Fn(&str) -> Result<Option<Value>, LoadError>>(
+    alloc: Global,
+    documents: &mut Vec<Document>,
+    requests: &mut Requests,
+    request: Request,
+    options: &Options<'_>,
+    omits: Omits,
+    load: &F,
+) -> Result<(), LoadError>
+    requires { F.IsAlwaysCallable load.now }
+    ensures added { OnOk result (IsAnswered (FnReturnsAt F.Fn load.now) options.now omits (string_bytes request.name)
+        (string_bytes request.package) documents.old.items documents.new.items requests.old requests.new) }
+    ensures failed { IfErr result (IsUnread (FnReturnsAt F.Fn load.now)) }
+{
+    let packument = match load(request.package.as_str()) {
+        Ok(Some(packument)) => packument,
+        Ok(None) => return Ok(()),
+        Err(error) => return Err(error),
+    };
+    let document = Document {
+        name: request.name,
+        package: request.package,
+        packument,
+    };
+    match add_found(alloc, documents, requests, document, options, omits) {
+        Ok(()) => Ok(()),
+        Err(_) => Err(LoadError::Memory),
     }
+}
 
-    fn add_all(&mut self, alloc: Global, asks: &[Ask<'_>]) -> Result<()> {
-        for ask in asks {
-            if let Some(request) = registry_spec(ask.name, ask.spec) {
-                self.add(alloc, ask.name, request.name)?;
-            }
-        }
-        Ok(())
-    }
-
-    /// Adds a name, unless it was added before.
-    fn add(&mut self, alloc: Global, name: &str, package: &str) -> Result<()> {
-        if self.seen.contains(name) {
-            return Ok(());
-        }
-        let text = String::from_str(alloc, name)?;
-        self.seen.insert(text)?;
-        let request = Request {
-            name: String::from_str(alloc, name)?,
-            package: String::from_str(alloc, package)?,
-        };
-        match self.queue.push_back(request) {
-            Ok(()) => Ok(()),
-            Err(_) => Err(AllocError),
-        }
+/// Adds a document, and asks for what its candidates ask for.
+fn add_found(
+    alloc: Global,
+    documents: &mut Vec<Document>,
+    requests: &mut Requests,
+    document: Document,
+    options: &Options<'_>,
+    omits: Omits,
+) -> Result<()>
+    ensures { OnOk result ((peers : List AskValue) × ArePeers options.now omits document.packument peers
+        × AreAdded peers requests.old requests.new × (documents.new.items ≡ documents.old.items ++ document ∷ [])) }
+{
+    requests.add_peers(alloc, &document.packument, options, omits)?;
+    match documents.push(document) {
+        Ok(()) => Ok(()),
+        Err(_) => Err(AllocError),
     }
 }

@@ -1,6 +1,6 @@
 //! Versions of npm's packages that fit together.
 //!
-//! [`resolve`] finds them by the documents of a registry, or says what a manifest asks for that cannot be met together.
+//! [`resolved`] finds them by the documents of a registry, or says what manifests ask for that cannot be met together.
 //! [`documents_for`] reads the documents that are needed.
 #![tactic(auto)]
 
@@ -8,7 +8,9 @@ mod answer;
 mod chosen;
 mod documents;
 mod instance;
+mod requests;
 mod resolve;
+mod wishes;
 
 pub use answer::{Answer, Chosen, Resolution};
 pub use documents::{Document, documents_for};

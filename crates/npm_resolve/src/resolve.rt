@@ -13,13 +13,14 @@ use crate::answer::{Answer, Resolution};
 use crate::chosen::all_chosen;
 use crate::documents::Document;
 use crate::instance::{Offer, lists_of, offers_of, ranges_of};
+use crate::wishes::wishes_of;
 use named_problems::{Ask, Numbered, blamed_asks, by_number};
-use npm_candidates::{Omits, Options, asks_of};
+use npm_candidates::{Omits, Options};
 use serde_json::Value;
 use std::alloc::Global;
 use version_solving::{Demand, Documents, Outcome, culprits, solve};
 
-/// Returns versions that fit together: of the names that a manifest needs, and of those that their versions need as peers, one version
+/// Returns versions that fit together: of the names that manifests need, and of those that their versions need as peers, one version
 /// each, so that all that is asked for is met. A name without a document has no versions.
 ///
 /// Names are chosen in the order in which they are first needed. Each choice is the first of the versions of its name with which a
@@ -34,15 +35,15 @@ use version_solving::{Demand, Documents, Outcome, culprits, solve};
 /// Allocates an entry for each version of each document, for each of its peers and for each range, and what `solve` takes.
 pub fn resolved<'v>(
     alloc: Global,
-    manifest: &'v Value,
+    manifests: &'v [Value],
     documents: &'v [Document],
     options: &Options<'_>,
     omits: Omits,
     steps: u64,
 ) -> Result<Answer<'v>>
-    ensures { IfOk result (IsAnswer manifest.now documents.now options.now omits) }
+    ensures { IfOk result (IsAnswer manifests.now documents.now options.now omits) }
 {
-    let wishes = asks_of(alloc, manifest, true, omits)?;
+    let wishes = wishes_of(alloc, manifests, omits)?;
     let offers = offers_of(alloc, documents, options)?;
     let listed = lists_of(alloc, &offers, omits)?;
     let Numbered {

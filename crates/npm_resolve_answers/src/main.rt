@@ -5,12 +5,13 @@
 //! they are chosen; `none` and the culprits `name:spec`; or `undecided`. It exits with status 2 if it fails.
 #![tactic(auto)]
 
-use npm_pick_errors::LoadError;
+use npm_pick_reports::LoadError;
 use npm_resolve::{Ask, Chosen, Omits, Options, Resolution, documents_for, resolved};
 use serde_json::Value;
 use std::alloc::{AllocError, AllocGlobal, Global};
 use std::io::{BufRead, BufReader};
 use std::process::ExitCode;
+use std::slice;
 
 /// More than any of the problems takes.
 const STEPS: u64 = 10_000_000;
@@ -38,14 +39,15 @@ fn answer_of(alloc: Global, problem: &Value) -> anyhow::Result<String> {
     let (Some(manifest), Some(packuments)) = (problem.get(0), problem.get(1)) else {
         return Ok(String::from_str(alloc, "no problem")?);
     };
+    let manifests = slice::from_ref(manifest);
     let options = Options {
         default_tag: "latest",
         before: None,
     };
     let omits = omits_of(problem.get(2));
     let load = |name: &str| loaded(packuments, name);
-    let documents = documents_for(alloc, manifest, &options, omits, load)?;
-    let answer = resolved(alloc, manifest, &documents, &options, omits, STEPS)?;
+    let documents = documents_for(alloc, manifests, &options, omits, load)?;
+    let answer = resolved(alloc, manifests, &documents, &options, omits, STEPS)?;
     let text = match &answer.resolution {
         Resolution::Selected(chosen) => selected(alloc, chosen)?,
         Resolution::NoSelection(Some(blamed)) => none(alloc, blamed)?,

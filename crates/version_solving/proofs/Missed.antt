@@ -1,6 +1,6 @@
 -- Demands that are kept on the way to the culprits.
-use Rattle.std.proofs.Common.{◌≡◌, ◌⊎◌, ◌<◌, ◌≤◌, ◌+◌, ◌++◌, ◌∷◌, ◌∙◌, ℕ, List, [], All, Contains, append_assoc, inl, inr, length, get_or, take, reverse, ap, arith, sym, subst}
-use Rattle.std.proofs.lemmas.List.{append-nil, reverse-append, take_all, take_more}
+use Rattle.std.proofs.Common.{◌≡◌, ◌⊎◌, ◌<◌, ◌≤◌, ◌+◌, ◌++◌, ◌∷◌, ◌∙◌, ℕ, List, [], All, Contains, append_assoc, drop, inl, inr, length, get_or, take, reverse, ap, arith, sym, subst}
+use Rattle.std.proofs.lemmas.List.{append-nil, reverse-append, take-append-drop, take-take, take_all, take_more}
 use Rattle.std.proofs.lemmas.List.Elements.{All-head, All-tail, All-contains, All-contains_itself, All-push, All-weaker, Contains-append_cases, Contains-append_left, Contains-append_right, Contains-get_or}
 use Rattle.version_solving.specs.declared.demand.Demand.{Demand}
 use Rattle.version_solving.specs.declared.outcome.Choice.{Choice}
@@ -96,6 +96,28 @@ module _ (p : Problem) where
           (rw one_more (append_assoc (take place p.root) (get_or p.root place d ∷ []) (before ++ after)
           ∙ ap (λ e. take place p.root ++ e ∷ (before ++ after)) same))
           (missed.without_one before after one rest)
+
+  -- fewer of the first demands cannot be met either
+  pub fewer_left : (few many : ℕ) (kept : List Demand) → few ≤ many → AreMissed p many kept
+      → (CanBeMet p (take few p.root ++ reverse kept) → ⊥) → AreMissed p few kept
+  fewer_left few many kept less missed none = record {
+    within = missed.within;
+    together = none;
+    without_one = λ before after one is.
+        fewer_can (take few p.root ++ (before ++ after)) (take many p.root ++ (before ++ after)) (inside before after)
+        (missed.without_one before after one is);
+  } where
+    parts : take many p.root ≡ take few p.root ++ drop few (take many p.root)
+    parts = sym (take-append-drop few (take many p.root))
+        ∙ ap (λ ds. ds ++ drop few (take many p.root)) (take-take few many p.root less)
+
+    inside : (before after : List Demand) (e : Demand) → Contains (take few p.root ++ (before ++ after)) e
+        → Contains (take many p.root ++ (before ++ after)) e
+    inside before after e is = by_case (Contains-append_cases (take few p.root) (before ++ after) e is) where
+      by_case : Contains (take few p.root) e ⊎ Contains (before ++ after) e → Contains (take many p.root ++ (before ++ after)) e
+      by_case (inl first) = Contains-append_left (take many p.root) (before ++ after) e
+          (rw parts (Contains-append_left (take few p.root) (drop few (take many p.root)) e first))
+      by_case (inr second) = Contains-append_right (take many p.root) (before ++ after) e second
 
   -- ---- the beginning and the end
 

@@ -1,8 +1,8 @@
 //! Which demands of a root cannot be met together.
-ghost use Rattle.std.specs.Prelude.{◌≡◌, ◌+◌, ◌<◌, ◌++◌, [], IfOk, IfSome, OnOk, IsTrue, All, Contains, length, reverse, true};
+ghost use Rattle.std.specs.Prelude.{◌≡◌, ◌+◌, ◌<◌, ◌≤◌, ◌++◌, [], IfOk, IfSome, OnOk, IsTrue, All, Contains, length, reverse, take, true};
 ghost use Rattle.version_solving.specs.Documents.{problem_of};
 ghost use Rattle.version_solving.specs.Solving.{NoneFits};
-ghost use Rattle.version_solving.specs.Culprits.{AreCulprits};
+ghost use Rattle.version_solving.specs.Culprits.{AreCulprits, CanBeMet};
 ghost use Rattle.version_solving.specs.Private.Missed.{AreMissed};
 
 use crate::{Demand, Documents, Outcome, solve};
@@ -21,13 +21,65 @@ pub fn culprits(
     ensures culprits { IfOk result (λ found. IfSome found (λ demands. AreCulprits (problem_of root.now documents.now) demands.items)) }
 {
     let mut kept = Vec::new(alloc);
+    let mut left = root.len();
     for at in (0..root.len()).rev() {
-        if !keep_if_missed(alloc, root, documents, steps, at, &mut kept)? {
-            return Ok(None);
+        if at < left {
+            left = fewest(alloc, root, documents, steps, left, &kept)?;
+        }
+        if at < left {
+            if !keep_if_missed(alloc, root, documents, steps, at, &mut kept)? {
+                return Ok(None);
+            }
+            left = at;
         }
     }
     kept.reverse();
     Ok(Some(kept))
+}
+
+/// Returns how many of the first demands cannot be met with those that are kept: the fewest that halving finds. So a few culprits among
+/// many demands take few searches.
+fn fewest(
+    alloc: Global,
+    root: &[Demand],
+    documents: &Documents,
+    steps: u64,
+    most: usize,
+    kept: &[Demand],
+) -> Result<usize, AllocError>
+    requires most { most ≤ length root.now }
+    requires missed { AreMissed (problem_of root.now documents.now) most kept.now }
+    ensures fewer { IfOk result (λ left. left ≤ most) }
+    ensures missed { IfOk result (λ left. AreMissed (problem_of root.now documents.now) left kept.now) }
+{
+    let mut few = 0;
+    let mut many = most;
+    while few < many {
+        let middle = few + (many - few) / 2;
+        if is_too_much(alloc, root, documents, steps, middle, kept)? {
+            many = middle;
+        } else {
+            few = middle + 1;
+        }
+    }
+    Ok(many)
+}
+
+/// Returns `true` if the search finds that the first demands cannot be met with those that are kept.
+fn is_too_much(
+    alloc: Global,
+    root: &[Demand],
+    documents: &Documents,
+    steps: u64,
+    count: usize,
+    kept: &[Demand],
+) -> Result<bool, AllocError>
+    requires { count ≤ length root.now }
+    ensures { IfOk result (λ is. is ≡ true → CanBeMet (problem_of root.now documents.now) (take count root.now ++ reverse kept.now) → ⊥) }
+{
+    let demands = joined(alloc, &root[..count], kept)?;
+    let outcome = solve(alloc, &demands, documents, steps)?;
+    Ok(matches!(outcome, Outcome::NoSelection))
 }
 
 /// Keeps a demand if the demands before it, with those that are kept, can be met without it. Returns `false` if that is undecided.

@@ -16,8 +16,8 @@ pub struct Conflict {
     pub terms: Vec<Term>,
 }
 
-/// Conflicts, and for each name the places of those that have a term of it. Whatever the places are, only a conflict that is in
-/// fact met is found.
+/// Conflicts, and for each name the places of those that are looked at when it is chosen. Whatever the places are, only a conflict
+/// that is in fact met is found.
 #[derive(Drop)]
 pub struct Learnt {
     pub conflicts: Vec<Conflict>,
@@ -34,28 +34,31 @@ impl Learnt {
         }
     }
 
-    /// Adds a conflict.
+    /// Adds a conflict, which is looked at when one of these names is chosen.
     pub fn add(
         &mut self,
         alloc: Global,
         root: &[Demand],
         documents: &Documents,
         terms: &[Term],
+        names: [Option<usize>; 2],
     ) -> Result<(), AllocError>
         requires conflicts { AreConflicts (problem_of root.now documents.now) self.old.conflicts.items }
         requires terms { Forbids (problem_of root.now documents.now) terms.now }
         ensures { OnOk result (AreConflicts (problem_of root.now documents.now) self.new.conflicts.items) }
     {
         let place = self.conflicts.len();
-        for term in terms {
-            note(alloc, &mut self.places, term.name, place)?;
+        for name in names {
+            if let Some(name) = name {
+                note(alloc, &mut self.places, name, place)?;
+            }
         }
         let copied = Vec::from_slice(alloc, terms)?;
         self.conflicts.push(Conflict { terms: copied })?;
         Ok(())
     }
 
-    /// Returns a conflict with a term of a name that the choices meet.
+    /// Returns a conflict that is looked at when this name is chosen, and that the choices meet.
     pub fn met(
         &self,
         alloc: Global,

@@ -184,7 +184,19 @@ impl Path {
         Ok(Step::Failed)
     }
 
-    /// Keeps the conflict of a name that has no further candidate, and steps back.
+    /// Returns the name that was chosen last of those in a conflict, but for one.
+    fn last_of(&self, conflict: &[Term], but: Option<usize>) -> Option<usize> {
+        for at in (0..self.tries.len()).rev() {
+            let name = self.tries[at].choice.name;
+            if has_name(conflict, name) && but != Some(name) {
+                return Some(name);
+            }
+        }
+        None
+    }
+
+    /// Keeps the conflict of a name that has no further candidate, and steps back. A conflict is met again when the last two of its
+    /// names are chosen anew: in most searches names are chosen in the same order, so it is looked at for these alone.
     fn give_up(
         &mut self,
         alloc: Global,
@@ -205,7 +217,9 @@ impl Path {
         let owner = tried.wanter.owner;
         let mut conflict = tried.gathered;
         add_owner(&mut conflict, owner, kind)?;
-        learnt.add(alloc, root, documents, &conflict)?;
+        let last = self.last_of(&conflict, None);
+        let other = self.last_of(&conflict, last);
+        learnt.add(alloc, root, documents, &conflict, [last, other])?;
         self.step_back(root, documents, conflict)
     }
 

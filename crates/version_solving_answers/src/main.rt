@@ -1,12 +1,17 @@
 //! Solves small instances, whose answers are compared with those of another program.
 //!
-//! Each line of the input is a JSON array of three: the demands of the root; for each name its candidates, each the list of its
-//! demands; and for each range a list that has 1 for a candidate that it allows, else 0. A demand is an array of a name, a range
-//! and whether it needs the name. The program writes a line for each: `selected` and the choices `name=candidate` in their order;
-//! `none` and the culprits `name:range`; or `undecided`. It exits with status 2 if it fails.
+//! Each line of the input is a JSON array: the demands of the root; for each name its candidates, each the list of its demands; for
+//! each range a list that has 1 for a candidate that it allows, else 0; and, if it is there, the number of steps that each search may
+//! take. A demand is an array of a name, a range and whether it needs the name. The program writes a line for each: `selected` and the
+//! choices `name=candidate` in their order; `none`, the culprits `name:range` and the reasons of [`lines`]; or `undecided`. It exits
+//! with status 2 if it fails.
 #![tactic(auto)]
 
+mod lines;
+
+use lines::because;
 use serde_json::Value;
+use solving_reasons::reasons;
 use std::alloc::{AllocError, AllocGlobal, Global};
 use std::io::{BufRead, BufReader};
 use std::process::ExitCode;
@@ -14,7 +19,7 @@ use version_solving::{
     Candidate, Choice, Demand, Documents, Outcome, Package, Range, culprits, solve,
 };
 
-/// More than any of the instances takes.
+/// The steps where an instance has no number of them: more than any of the instances takes.
 const STEPS: u64 = 10_000_000;
 
 fn main(rt: HostRuntime) -> ExitCode {
@@ -31,18 +36,28 @@ fn write_answers(rt: &HostRuntime) -> anyhow::Result<()> {
         let instance = Value::from_str(rt.alloc(), line.as_str())?;
         let root = demands_of(rt.alloc(), instance.get(0))?;
         let documents = documents_of(rt.alloc(), &instance)?;
-        let text = answer_of(rt.alloc(), &root, &documents)?;
+        let text = answer_of(rt.alloc(), &root, &documents, steps_of(&instance))?;
         println!(rt; "{text}")?;
     }
     Ok(())
 }
 
+/// The steps that each search for an instance may take.
+fn steps_of(instance: &Value) -> u64 {
+    instance.get(3).and_then(Value::as_u64).unwrap_or(STEPS)
+}
+
 /// The line of an instance.
-fn answer_of(alloc: Global, root: &[Demand], documents: &Documents) -> Result<String, AllocError> {
-    match solve(alloc, root, documents, STEPS)? {
+fn answer_of(
+    alloc: Global,
+    root: &[Demand],
+    documents: &Documents,
+    steps: u64,
+) -> Result<String, AllocError> {
+    match solve(alloc, root, documents, steps)? {
         Outcome::Selected(choices) => selected(alloc, &choices),
-        Outcome::NoSelection => match culprits(alloc, root, documents, STEPS)? {
-            Some(demands) => none(alloc, &demands),
+        Outcome::NoSelection => match culprits(alloc, root, documents, steps)? {
+            Some(demands) => none(alloc, &demands, documents, steps),
             None => String::from_str(alloc, "undecided"),
         },
         Outcome::Undecided => String::from_str(alloc, "undecided"),
@@ -58,11 +73,20 @@ fn selected(alloc: Global, choices: &[Choice]) -> Result<String, AllocError> {
     Ok(text)
 }
 
-fn none(alloc: Global, demands: &[Demand]) -> Result<String, AllocError> {
+fn none(
+    alloc: Global,
+    demands: &[Demand],
+    documents: &Documents,
+    steps: u64,
+) -> Result<String, AllocError> {
     let mut text = String::from_str(alloc, "none")?;
     for demand in demands {
         let shown = format!(in alloc; " {}:{}", demand.name, demand.range)?;
         text.push_str(&shown)?;
+    }
+    match reasons(alloc, demands, documents, steps)? {
+        Some(found) => text.push_str(&because(alloc, &found)?)?,
+        None => text.push_str(" | undecided")?,
     }
     Ok(text)
 }

@@ -1,7 +1,8 @@
 -- Worked rows of the definitions: what is forbidden, and the ranges of versions.
 use Rattle.std.proofs.Common.{◌≡◌, false, Ok, Err, codes, refl, true}
 use Rattle.serde_json.specs.Data.{Data, member, no_members, null, object}
-use Rattle.npm_pick.specs.Pick.{allowed, caret_of, inside, outside, up_to}
+use Rattle.npm_pick.specs.Pick.{allowed, caret_of, inside, outside}
+use Rattle.npm_pick.specs.Wanted.{up_to}
 use Rattle.npm_pick.specs.declared.error.PickError.TheVariants.{Forbidden, NoneInRange}
 
 -- `{"policyRestrictions": {"versions": {"1.0.0": null}}}`

@@ -13,12 +13,12 @@ use Rattle.node_semver.specs.Versions.{VersionValue}
 use Rattle.npm_texts.specs.InstalledVersions.{IsInstalledVersion}
 use Rattle.npm_texts.specs.RangeText.{filled}
 use Rattle.npm_pick.specs.Kept.{ArePicked, IsAdmitted, IsReadAs, IsThere, KeyValue, key_cmp}
-use Rattle.npm_pick_ranks.specs.Packument.{Release, is_restricted, releases_among}
+use Rattle.npm_pick.specs.Packument.{Release, is_restricted, releases_among}
 use Rattle.npm_pick.specs.Pick.{IsPicked, PickedValue}
-use Rattle.npm_pick_ranks.specs.Times.{is_published}
+use Rattle.npm_pick.specs.Times.{is_published}
 use Rattle.npm_pick.specs.declared.error.PickError.{PickError}
 use Rattle.npm_pick.specs.declared.key.Key.{Key}
-use Rattle.npm_pick_ranks.specs.declared.options.Options.{Options}
+use Rattle.npm_pick.specs.declared.options.Options.{Options}
 
 -- ---- keys
 

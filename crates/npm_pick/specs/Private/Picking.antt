@@ -7,13 +7,13 @@ use Rattle.node_semver.specs.RangeAlgebra.{sets_of_answer}
 use Rattle.node_semver.specs.Ranges.{RangeContains}
 use Rattle.node_semver.specs.Versions.{VersionValue}
 use Rattle.npm_texts.specs.InstalledVersions.{IsInstalledVersion}
-use Rattle.npm_pick_ranks.specs.Packument.{Release, candidates_of}
+use Rattle.npm_pick.specs.Packument.{Release, candidates_of}
 use Rattle.npm_pick.specs.Pick.{HasNoDefault, HasNoneInTime, IsDefault, PickedValue, inside}
-use Rattle.npm_pick_ranks.specs.Rank.{HasNone, IsBest, Rank}
-use Rattle.npm_pick_ranks.specs.Times.{is_published}
+use Rattle.npm_pick.specs.Rank.{HasNone, IsBest, Rank}
+use Rattle.npm_pick.specs.Times.{is_published}
 use Rattle.npm_pick.specs.declared.error.PickError.{PickError}
 use Rattle.npm_pick.specs.declared.error.PickError.TheVariants as Errors
-use Rattle.npm_pick_ranks.specs.declared.options.Options.{Options}
+use Rattle.npm_pick.specs.declared.options.Options.{Options}
 
 -- the key is a version inside a set of the range
 abbrev pub IsKeyAvoidedBy : Option (List (Ends VersionValue)) → (key : List ℕ) → Type 0

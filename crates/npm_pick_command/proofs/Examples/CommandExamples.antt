@@ -1,8 +1,7 @@
--- Worked rows of the definitions: words of the command line, and files.
+-- Worked rows of the definitions: words of the command line.
 use Rattle.std.proofs.Common.{◌≡◌, [], ◌∷◌, Some, None, Ok, Err, codes, false, refl, true}
-use Rattle.npm_pick_command.specs.Arguments.{ArgumentsValue, arguments_of, asked_by, manifests_of, no_packuments, no_value}
+use Rattle.npm_pick_command.specs.Arguments.{ArgumentsValue, arguments_of, asked_by, no_packuments, no_value}
 use Rattle.npm_pick_command.specs.Arguments.{read_arguments, second_spec, two_tasks, unknown_option}
-use Rattle.npm_pick_command.specs.PackumentFile.{is_package_name, path_of}
 use Rattle.npm_pick_command.specs.Task.{keep, outdated, pick, task_of}
 
 abbrev nothing_asked : ArgumentsValue
@@ -31,10 +30,6 @@ the_last_value_counts = refl
 pub there_is_one_spec : read_arguments (codes "^1" ∷ codes "^2" ∷ []) ≡ Err (second_spec (codes "^2"))
 there_is_one_spec = refl
 
-pub each_manifest_counts : manifests_of (codes "--manifest" ∷ codes "a" ∷ codes "--keep" ∷ codes "--manifest=b" ∷ [])
-    ≡ codes "a" ∷ codes "b" ∷ []
-each_manifest_counts = refl
-
 -- ---- tasks
 
 pub no_spec_is_the_empty_text : task_of (record nothing_asked { packument = Some (codes "a.json") })
@@ -57,17 +52,3 @@ a_mirror_has_a_folder = refl
 
 pub one_task_is_done : task_of (record nothing_asked { keep = true; outdated = true }) ≡ Err two_tasks
 one_task_is_done = refl
-
--- ---- files
-
-pub a_document_is_in_the_folder : path_of (codes "m") (codes "@s/a") (codes ".json") ≡ codes "m/@s/a.json"
-a_document_is_in_the_folder = refl
-
-pub a_name_has_a_scope : is_package_name (codes "@s/a") ≡ true
-a_name_has_a_scope = refl
-
-pub no_name_leads_out_of_the_folder : is_package_name (codes "../a") ≡ false
-no_name_leads_out_of_the_folder = refl
-
-pub no_scope_does : is_package_name (codes "@../a") ≡ false
-no_scope_does = refl

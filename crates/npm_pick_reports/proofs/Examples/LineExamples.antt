@@ -4,7 +4,7 @@ use Rattle.serde_json.proofs.OnLiterals.{serde_json_on_literals}
 use Rattle.serde_json.specs.Data.{null}
 use Rattle.command_lines.specs.Shown.{quoted, shown}
 use Rattle.npm_pick.specs.Pick.{inside}
-use Rattle.npm_pick_errors.specs.declared.format.Format.TheVariants.{Json, Text}
+use Rattle.npm_pick_reports.specs.declared.format.Format.TheVariants.{Json, Text}
 use Rattle.npm_pick_reports.specs.PickedLine.{picked_line}
 
 -- ---- texts

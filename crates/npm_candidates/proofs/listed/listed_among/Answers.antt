@@ -1,7 +1,7 @@
 -- A member is a candidate, or is passed.
 use Rattle.std.proofs.Common.{◌≡◌, ◌∷◌, [], append_assoc, append-nil}
 use Rattle.serde_json.specs.View.{members_view, view}
-use Rattle.npm_pick_ranks.specs.Packument.{releases_among}
+use Rattle.npm_pick.specs.Packument.{releases_among}
 use Rattle.npm_candidates.specs.Candidates.{listed, none, passed}
 use Rattle.npm_candidates.proofs.listed.listed_among.Goals as goal
 

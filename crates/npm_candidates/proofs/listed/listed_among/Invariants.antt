@@ -1,7 +1,7 @@
 -- The candidates so far, and then those of the members that are left, are all candidates.
 use Rattle.std.proofs.Common.{◌++◌, List}
 use Rattle.serde_json.specs.View.{members_view, view}
-use Rattle.npm_pick_ranks.specs.Packument.{releases_among}
+use Rattle.npm_pick.specs.Packument.{releases_among}
 use Rattle.npm_candidates.specs.Candidates.{AreListed}
 use Rattle.npm_candidates.specs.declared.candidate.Candidate.{Candidate}
 use Rattle.npm_candidates.proofs.listed.listed_among.Given as goal

@@ -2,7 +2,7 @@
 use Rattle.std.proofs.Common.{◌≡◌, None, sym}
 use Rattle.serde_json.specs.View.{view}
 use Rattle.npm_candidates.specs.Candidates.{none}
-use Rattle.npm_pick_ranks.specs.Packument.{versions_of}
+use Rattle.npm_pick.specs.Packument.{versions_of}
 use Rattle.npm_candidates.proofs.listed.listed_of.Goals as goal
 
 pub returns-in-None : goal.returns-in-None

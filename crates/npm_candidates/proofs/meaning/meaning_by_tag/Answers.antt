@@ -1,9 +1,10 @@
 -- There is no such tag, its version is in time, or it is too late.
 use Rattle.std.proofs.Common.{◌≡◌, ◌∙◌, Some, ap, false, option_map, refl, sym}
 use Rattle.serde_json.specs.View.{view}
-use Rattle.npm_pick_ranks.specs.Packument.{tagged}
-use Rattle.npm_pick_ranks.specs.Times.{is_published}
-use Rattle.npm_candidates.specs.Meanings.{earlier, inside, named, no_tag, nothing, odd, only, up_to}
+use Rattle.npm_pick.specs.Packument.{tagged}
+use Rattle.npm_pick.specs.Times.{is_published}
+use Rattle.npm_pick.specs.Wanted.{up_to}
+use Rattle.npm_candidates.specs.Meanings.{earlier, inside, named, no_tag, nothing, odd, only}
 use Rattle.npm_candidates.proofs.meaning.meaning_by_tag.Goals as goal
 
 pub returns-in_default : goal.returns-in_default

@@ -1,6 +1,6 @@
 use Rattle.std.proofs.Common.{◌≡◌, ◌∙◌, Err, Ok, false, inl, inr, refl, sym, true, rules}
 use Rattle.serde_json.specs.View.{view}
-use Rattle.npm_pick_ranks.specs.Packument.{is_restricted}
+use Rattle.npm_pick.specs.Packument.{is_restricted}
 use Rattle.npm_pick.specs.Pick.{picked_value}
 use Rattle.npm_pick.proofs.picked.pick.Goals as goal
 

@@ -1,7 +1,7 @@
 -- All were published too late, exactly if all that are left were.
 use Rattle.std.proofs.Common.{◌↔◌}
 use Rattle.serde_json.specs.View.{members_view, view}
-use Rattle.npm_pick_ranks.specs.Packument.{releases_among}
+use Rattle.npm_pick.specs.Packument.{releases_among}
 use Rattle.npm_pick.specs.Private.Picking.{AreLate}
 use Rattle.npm_pick.proofs.ranged.are_all_late.Given as goal
 

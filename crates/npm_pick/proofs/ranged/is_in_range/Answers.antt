@@ -1,7 +1,7 @@
 use Rattle.std.proofs.Common.{◌≡◌, inl, inr, subst}
 use Rattle.node_semver.specs.Versions.{VersionValue}
 use Rattle.npm_texts.specs.Admission.{Admits, of_dependencies}
-use Rattle.npm_pick_ranks.specs.Lemmas.Readings.{one_version}
+use Rattle.npm_pick.specs.Lemmas.Readings.{one_version}
 use Rattle.npm_pick.proofs.ranged.is_in_range.Goals as goal
 
 pub returns-in-Some : goal.returns-in-Some

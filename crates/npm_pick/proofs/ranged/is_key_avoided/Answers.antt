@@ -2,7 +2,7 @@ use Rattle.std.proofs.Common.{◌≡◌, subst}
 use Rattle.node_semver.specs.RangeAlgebra.{sets_of_answer}
 use Rattle.node_semver.specs.Ranges.{RangeContains}
 use Rattle.node_semver.specs.Versions.{VersionValue}
-use Rattle.npm_pick_ranks.specs.Lemmas.Readings.{one_version}
+use Rattle.npm_pick.specs.Lemmas.Readings.{one_version}
 use Rattle.npm_pick.proofs.ranged.is_key_avoided.Goals as goal
 
 pub returns-in-Some : goal.returns-in-Some

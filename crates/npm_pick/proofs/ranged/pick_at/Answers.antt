@@ -1,7 +1,7 @@
 use Rattle.std.proofs.Common.{◌≡◌, ◌∙◌, ◌↔◌, IsTrue, Some, ap, inr, option_map, sym}
 use Rattle.serde_json.specs.View.{view}
 use Rattle.npm_pick.specs.Pick.{IsKeyAvoided, absent, late, there}
-use Rattle.npm_pick_ranks.specs.Packument.{candidate_of}
+use Rattle.npm_pick.specs.Packument.{candidate_of}
 use Rattle.npm_pick.proofs.ranged.pick_at.Goals as goal
 
 pub returns-then-not-is_published : goal.returns-then-not-is_published

@@ -1,6 +1,6 @@
 use Rattle.std.proofs.Common.{inr}
 use Rattle.npm_pick.specs.Private.Picking as Picking
-use Rattle.npm_pick_ranks.specs.Ranking.{rank_value, release_of}
+use Rattle.npm_pick.specs.Ranking.{rank_value, release_of}
 use Rattle.npm_pick.proofs.ranged.pick_ranked.Goals as goal
 
 pub returns-in-Some : goal.returns-in-Some

@@ -3,8 +3,8 @@ use Rattle.std.proofs.Common.{◌≡◌, ◌∙◌, ◌||◌, [], ◌∷◌, ℕ
 use Rattle.std.specs.List.{cons_option, filter_map, last_or, list_any}
 use Rattle.std.specs.Option.{option_or}
 use Rattle.command_lines.specs.Arguments.{ArgumentValue}
-use Rattle.command_options.specs.Given.{fault_after}
-use Rattle.command_options.specs.Lemmas.Steps.{fault_same, last_more}
+use Rattle.command_lines.specs.Given.{fault_after}
+use Rattle.command_lines.specs.Lemmas.Steps.{fault_same, last_more}
 use Rattle.npm_pick_command.specs.Arguments.{argument_fault, arguments_of, fault_of, spec_in, spec_of}
 use Rattle.npm_pick_command.proofs.arguments.first_fault.Goals as goal
 

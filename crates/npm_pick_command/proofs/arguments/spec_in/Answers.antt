@@ -2,7 +2,7 @@
 use Rattle.std.proofs.Common.{◌∙◌, ap, map, string_bytes, sym}
 use Rattle.std.specs.List.{filter_map, last_or}
 use Rattle.command_lines.specs.Arguments.{ArgumentValue}
-use Rattle.command_options.specs.Lemmas.Steps.{last_more}
+use Rattle.command_lines.specs.Lemmas.Steps.{last_more}
 use Rattle.npm_pick_command.specs.Arguments.{arguments_of, spec_of, text_value}
 use Rattle.npm_pick_command.proofs.arguments.spec_in.Goals as goal
 

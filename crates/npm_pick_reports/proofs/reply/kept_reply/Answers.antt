@@ -1,6 +1,6 @@
 -- The dependencies, the versions that are kept for them, and the notes about the rest.
 use Rattle.std.proofs.Common.{map, string_bytes}
-use Rattle.npm_pick_mirrors.specs.Asks.{ask_value}
+use Rattle.npm_pick_reports.specs.Asks.{ask_value}
 use Rattle.npm_pick_reports.proofs.Replies.{none_absent}
 use Rattle.npm_pick_reports.proofs.reply.kept_reply.Goals as goal
 

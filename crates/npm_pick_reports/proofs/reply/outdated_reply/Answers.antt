@@ -1,7 +1,7 @@
 -- What is found out about the dependencies of the lock file, its lines and its counts.
 use Rattle.std.proofs.Common.{◌∙◌, Err, Some, ap, inl, inr, map, sym}
 use Rattle.npm_packages.specs.Edges.{edge_value}
-use Rattle.npm_pick_outdated.specs.Outdated.{outcome_value}
+use Rattle.npm_pick_reports.specs.Outdated.{outcome_value}
 use Rattle.npm_pick_reports.proofs.Replies.{compared_ending}
 use Rattle.npm_pick_reports.proofs.reply.outdated_reply.Goals as goal
 

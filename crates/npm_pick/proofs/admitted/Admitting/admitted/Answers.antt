@@ -1,6 +1,6 @@
 use Rattle.std.proofs.Common.{◌≡◌, subst}
 use Rattle.npm_pick.specs.Private.Keeping.{IsInOne}
-use Rattle.npm_pick_ranks.specs.Lemmas.Readings.{one_version}
+use Rattle.npm_pick.specs.Lemmas.Readings.{one_version}
 use Rattle.npm_pick.proofs.admitted.Admitting.admitted.Goals as goal
 
 pub returns-in_default-clause-none : goal.returns-in_default-clause-none

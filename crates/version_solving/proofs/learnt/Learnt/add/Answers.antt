@@ -9,5 +9,5 @@ returns c =
     let p = problem_of c.args.root.now c.args.documents.now in
     let P : Conflict → Type 0 = λ conflict. Forbids p conflict.terms.items in
     rw c.in_ok-push.ensures.items
-    (All-push P c.loop-term.self.conflicts.items (record { terms = c.in_ok-copied.copied })
-    (rw c.loop-term.invariant c.requires.conflicts) (rw c.in_ok-copied.ensures.items c.requires.terms))
+    (All-push P c.loop-name.self.conflicts.items (record { terms = c.in_ok-copied.copied })
+    (rw c.loop-name.invariant c.requires.conflicts) (rw c.in_ok-copied.ensures.items c.requires.terms))

@@ -7,7 +7,7 @@ pub add-requires-clause-terms : goal.add-requires-clause-terms
 add-requires-clause-terms c =
     let conflict = conflict_at_end (problem_of c.args.root.now c.args.documents.now) (tries_of c.args.self.now) c.args.tried
     c.requires.tried c.requires.last in
-    rw (c.deref.ensures.value, c.in_ok-add_owner.ensures) conflict.forbids
+    rw (c.deref-3.ensures.value, c.in_ok-add_owner.ensures) conflict.forbids
 
 pub step_back-requires-clause-conflict : goal.step_back-requires-clause-conflict
 step_back-requires-clause-conflict c =

@@ -1,0 +1,58 @@
+"""Proves some crates and those below them in a copy that has no others, and leaves in this clone what that built."""
+import os
+import re
+import shutil
+import subprocess
+import tempfile
+
+import crates
+import files
+import gate
+
+
+def copied(names, asked, room):
+    """Makes a repository of these crates alone. Wrong edits are tried of those that were asked for."""
+    with open(os.path.join(files.ROOT, "crates.txt"), encoding="utf-8") as file:
+        lines = [line for line in file if re.match(r"\w+", line) and re.match(r"\w+", line)[0] in names]
+    with open(os.path.join(room, "crates.txt"), "w", encoding="utf-8") as file:
+        file.writelines(lines)
+    shutil.copy(os.path.join(files.ROOT, "HANDLES"), room)
+    for path in files.below(*(f"crates/{name}" for name in names)):
+        _, name, folder = path.split("/")[:3]
+        if folder == "must-fail" and name not in asked:
+            continue
+        os.makedirs(os.path.dirname(os.path.join(room, path)), exist_ok=True)
+        shutil.copyfile(os.path.join(files.ROOT, path), os.path.join(room, path))
+
+
+def take(name, room):
+    """Moves a program, or a library for the crates above it, into this clone. What `rt check` keeps here stays."""
+    there, here = (os.path.join(top, "crates", name, "out") for top in (room, files.ROOT))
+    os.makedirs(here, exist_ok=True)
+    for file in (name, f"{name}.o") if crates.is_program(name) else ():
+        if os.path.isfile(os.path.join(there, file)):
+            os.replace(shutil.copy(os.path.join(there, file), os.path.join(here, f"{file}.new")), os.path.join(here, file))
+    if os.path.isdir(os.path.join(there, "rlib")) and not os.path.exists(os.path.join(here, "rlib", "stamp")):
+        shutil.rmtree(os.path.join(here, "rlib"), ignore_errors=True)
+        shutil.move(os.path.join(there, "rlib"), here)
+
+
+def run(names, environment):
+    """Proves crates, and builds the programs and the libraries for other languages among them: the status."""
+    lacking = [name for name in names if name not in crates.listed()]
+    if lacking:
+        print(f"{lacking[0]} is no crate of crates.txt")
+        return 2
+    below = crates.below(*names)
+    before = crates.is_built("--sources", *below).stdout.strip()
+    with tempfile.TemporaryDirectory() as room:
+        copied(below, names, room)
+        status = subprocess.run(["rt", "ci"], cwd=room, env=environment, stdin=subprocess.DEVNULL).returncode
+        if status == 0:
+            for name in below:
+                take(name, room)
+            gate.keep_built(before, below)
+    for name in names:
+        if status == 0 and crates.listed()[name][1]:
+            status = subprocess.run([os.path.join(crates.CI, "packages", "library"), name], env=environment).returncode
+    return status

@@ -1,5 +1,0 @@
-//! Tests of the public calls of annotations.
-#![tactic(auto)]
-
-#[cfg(test)]
-mod written;

@@ -1,4 +1,0 @@
-pub mod Examples
-mod Marks
-mod More
-mod Reading

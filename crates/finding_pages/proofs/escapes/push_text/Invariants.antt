@@ -1,8 +1,0 @@
--- The text has the bytes so far.
-use Rattle.std.proofs.Common.{◌≡◌, ◌++◌, take}
-use Rattle.std.specs.List.{flat_map}
-use Rattle.finding_pages.specs.Escapes.{text_byte}
-use Rattle.finding_pages.proofs.escapes.push_text.Given as goal
-
-abbrev pub invariant-loop-byte : goal.invariant-loop-byte
-invariant-loop-byte l = l.out.items ≡ l.initial.out.items ++ flat_map text_byte (take l.byte-index l.text)

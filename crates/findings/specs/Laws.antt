@@ -1,0 +1,53 @@
+-- No text of a page or of a report is read as markup.
+use Rattle.std.specs.Prelude.{◌≡◌, ◌<◌, ◌||◌, ◌==◌, ℕ, List, [], ◌∷◌, ◌++◌, Bool, true, false, codes, filter, nat_lt}
+use Rattle.std.specs.List.{AllByRecursion, flat_map, list_any}
+use Rattle.findings.specs.PageEscapes.{escaped, other_byte}
+use Rattle.findings.specs.Pieces.{PieceValue, markup, number, text, written}
+
+-- ---- what a reader of HTML or of XML reads
+
+-- `<`, `>`, `"` and `'`, of which markup is made
+abbrev pub is_mark : (byte : ℕ) → Bool
+is_mark byte = byte == 60 || byte == 62 || byte == 34 || byte == 39
+
+-- a mark, or `&`, which begins a reference
+abbrev pub is_special : (byte : ℕ) → Bool
+is_special byte = is_mark byte || byte == 38
+
+-- Character data, and the text that is read from it: `<b> &` from `&lt;b&gt; &amp;`. In it a `&` stands only where it begins one of
+-- these references, and no mark stands in it.
+pub data IsReadAs : (escapes : List ℕ) → (read : List ℕ) → Type 0 where
+  at_end : IsReadAs [] []
+  itself : (byte : ℕ) (rest read : List ℕ) → is_special byte ≡ false → IsReadAs rest read
+      → IsReadAs (byte ∷ rest) (byte ∷ read)
+  ampersand : (rest read : List ℕ) → IsReadAs rest read → IsReadAs (codes "&amp;" ++ rest) (38 ∷ read)
+  less : (rest read : List ℕ) → IsReadAs rest read → IsReadAs (codes "&lt;" ++ rest) (60 ∷ read)
+  greater : (rest read : List ℕ) → IsReadAs rest read → IsReadAs (codes "&gt;" ++ rest) (62 ∷ read)
+  quotation_mark : (rest read : List ℕ) → IsReadAs rest read → IsReadAs (codes "&quot;" ++ rest) (34 ∷ read)
+  apostrophe : (rest read : List ℕ) → IsReadAs rest read → IsReadAs (codes "&#39;" ++ rest) (39 ∷ read)
+
+-- the law: what is read is the text, with each byte that is no printable ASCII by its number
+abbrev pub IsReadAsItself : (any : List ℕ) → Type 0
+IsReadAsItself any = IsReadAs (escaped any) (flat_map other_byte any)
+
+-- ---- characters
+
+-- a control character, or a byte that is no ASCII
+abbrev pub is_unprintable : (byte : ℕ) → Bool
+is_unprintable byte = nat_lt byte 32 || nat_lt 126 byte
+
+-- the law: of a text of bytes, printable ASCII alone is written, which XML 1.0 allows
+abbrev pub IsPrintable : (any : List ℕ) → Type 0
+IsPrintable any = AllByRecursion (λ byte. byte < 256) any → list_any is_unprintable (escaped any) ≡ false
+
+-- ---- marks
+
+-- the markup of pieces, without texts and numbers
+abbrev pub markup_of : PieceValue → List ℕ
+markup_of (markup fixed) = fixed
+markup_of (text any) = []
+markup_of (number count) = []
+
+-- the law: the marks of what is written are those of the markup, each once and in order
+abbrev pub HasMarksOfMarkup : List PieceValue → Type 0
+HasMarksOfMarkup pieces = filter is_mark (written pieces) ≡ filter is_mark (flat_map markup_of pieces)

@@ -1,0 +1,28 @@
+-- The pieces of a page or of a report.
+use Rattle.std.specs.Prelude.{ℕ, List, decimal}
+use Rattle.std.specs.List.{flat_map}
+use Rattle.findings.specs.PageEscapes.{escaped}
+use Rattle.findings.specs.declared.pages.piece.Piece.{Piece}
+use Rattle.findings.specs.declared.pages.piece.Piece.TheVariants as Variants
+
+-- markup, which is written as it is; a text, which is no markup; or a number in decimal
+pub data PieceValue : Type 0 where
+  markup : List ℕ → PieceValue
+  text : List ℕ → PieceValue
+  number : ℕ → PieceValue
+
+-- what is written for a piece
+abbrev pub piece_text : PieceValue → List ℕ
+piece_text (markup fixed) = fixed
+piece_text (text any) = escaped any
+piece_text (number count) = decimal count
+
+-- what is written for pieces
+abbrev pub written : List PieceValue → List ℕ
+written pieces = flat_map piece_text pieces
+
+-- what a contract sees of a piece
+abbrev pub piece_value : Piece → PieceValue
+piece_value (Variants.Markup fixed) = markup fixed.now
+piece_value (Variants.Text any) = text any.now
+piece_value (Variants.Number count) = number count

@@ -1,0 +1,72 @@
+//! What a checker finds.
+ghost use Rattle.std.specs.Prelude.{◌≡◌};
+ghost use Rattle.findings.specs.Findings.{command_word, level_word};
+
+/// How much a finding counts.
+#[derive(Clone, Copy, Debug, PartialEq, Eq, Drop)]
+pub enum Level {
+    Error,
+    Warning,
+    /// What is worth knowing and is no fault.
+    Note,
+}
+
+impl Level {
+    /// Returns SARIF's word for the level.
+    pub fn as_str(self) -> &'static str
+        ensures { result.now ≡ level_word self }
+    {
+        match self {
+            Level::Error => "error",
+            Level::Warning => "warning",
+            Level::Note => "note",
+        }
+    }
+
+    /// Returns the workflow command of GitHub for the level.
+    pub fn command(self) -> &'static str
+        ensures { result.now ≡ command_word self }
+    {
+        match self {
+            Level::Error => "error",
+            Level::Warning => "warning",
+            Level::Note => "notice",
+        }
+    }
+}
+
+/// A kind of finding.
+#[derive(Clone, Copy, Debug, Drop)]
+pub struct Rule<'a> {
+    pub id: &'a str,
+    /// A short description.
+    pub description: &'a str,
+    /// The level that findings of this kind have by default.
+    pub level: Level,
+}
+
+/// What a checker finds in a file.
+#[derive(Debug, Drop)]
+pub struct Finding<'a> {
+    /// The `id` of its rule.
+    pub rule: &'a str,
+    /// The place of the rule in the tool's list, counted from 0.
+    pub rule_index: usize,
+    pub level: Level,
+    /// A text in UTF-8.
+    pub message: Vec<u8>,
+    /// The path of the file.
+    pub file: &'a str,
+    /// The line, counted from 1.
+    pub line: usize,
+    /// The column, counted from 1 in characters (Unicode code points).
+    pub column: usize,
+}
+
+/// A checker.
+#[derive(Clone, Copy, Debug, Drop)]
+pub struct Tool<'a> {
+    pub name: &'a str,
+    pub version: &'a str,
+    pub rules: &'a [Rule<'a>],
+}

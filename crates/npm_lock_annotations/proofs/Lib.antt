@@ -1,3 +1,0 @@
-pub mod Examples
-mod More
-mod NameParts

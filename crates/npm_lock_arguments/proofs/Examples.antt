@@ -1,2 +1,0 @@
-pub mod ArgumentExamples
-pub mod NodeExamples

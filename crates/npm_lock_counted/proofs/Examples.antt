@@ -1,0 +1,3 @@
+pub mod CountedExamples
+pub mod ExceptedExamples
+pub mod OmissionExamples

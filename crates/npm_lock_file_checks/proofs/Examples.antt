@@ -1,4 +1,0 @@
-pub mod InputExamples
-pub mod LinkedExamples
-pub mod ListNameExamples
-pub mod MismatchExamples

@@ -1,5 +1,0 @@
-pub mod Auditing
-pub mod Examples
-pub mod FoundOnDisk
-pub mod LinkedManifests
-pub mod Stopping

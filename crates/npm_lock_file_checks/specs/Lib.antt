@@ -1,9 +1,0 @@
--- What the contracts of npm_lock_file_checks say, in reading order.
-
-pub mod Kinds  -- sets of kinds of problems
-pub mod Report  -- the report of a lock file
-pub mod Written  -- the output for one lock file
-pub mod ListNames  -- which advisory has a fault, and where in a file it is
-pub mod Check  -- the check of one lock file, and why one is not checked
--- ---- not part of any public contract: what private functions compute
-pub mod Private

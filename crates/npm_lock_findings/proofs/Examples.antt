@@ -1,0 +1,2 @@
+pub mod MemberExamples
+pub mod PageExamples

@@ -1,0 +1,4 @@
+pub mod Examples
+mod More
+mod MorePieces
+mod NameParts

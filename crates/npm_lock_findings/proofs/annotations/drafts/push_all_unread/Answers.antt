@@ -1,0 +1,12 @@
+-- One draft more.
+use Rattle.std.proofs.Common.{◌≡◌, ◌++◌, ◌∷◌, [], rules}
+use Rattle.npm_lock_reports.specs.Unread.{unread_value}
+use Rattle.npm_lock_findings.specs.Findings.{unread_draft}
+use Rattle.npm_lock_findings.proofs.More.{draft_more}
+use Rattle.npm_lock_findings.proofs.annotations.drafts.push_all_unread.Goals as goal
+
+pub loop-one-preserved : goal.loop-one-preserved
+loop-one-preserved c =
+    let more : c.push.new.self.items ≡ c.loop-one.drafts.items ++ (c.in_ok-unread.field-0 ∷ []) = search rules in
+    draft_more unread_value _ _ c.one-item.result c.loop-one-test.true c.one-item.is unread_draft _ _ c.in_ok-unread.field-0 _
+    c.in_ok-unread.ensures more c.loop-one.invariant

@@ -1,0 +1,125 @@
+-- The report of a lock file as findings.
+use Rattle.std.specs.Prelude.{◌≡◌, ◌++◌, ℕ, List, [], Bool, if◌then◌else◌, Vec, codes, length, map}
+use Rattle.std.specs.Global.{Global}
+use Rattle.std.specs.List.{flat_map}
+use denote.Ref.{Bor}
+use Rattle.findings.specs.Findings.{FindingValue, ToolValue}
+use Rattle.findings.specs.Github.{annotation}
+use Rattle.findings.specs.Sarif.{log}
+use Rattle.findings.specs.declared.finding.Finding.{Finding}
+use Rattle.findings.specs.declared.finding.Level.TheVariants.{Error, Note}
+use Rattle.findings.specs.Drafts.{AreFindingsOf, DraftValue, draft_value}
+use Rattle.findings.specs.declared.draft.Draft.{Draft}
+use Rattle.npm_advisories.specs.Audit.{FoundValue}
+use Rattle.npm_lock.specs.Outcomes.{ProblemValue, UncheckedValue, problem_value, unchecked_value}
+use Rattle.npm_manifests.specs.Mismatches.{MismatchValue, group_text, mismatch_value}
+use Rattle.npm_lock_reports.specs.HitSentence.{hit_sentence}
+use Rattle.npm_lock_reports.specs.Unread.{UnreadValue, unread_folder, unread_sentence, unread_value}
+use Rattle.npm_lock_reports.specs.declared.report.Report.{Report}
+use Rattle.npm_lock_reports.specs.Sentence.{mismatch_sentence, sentence, unchecked_sentence}
+use Rattle.npm_lock_findings.specs.Members.{dependency_paths, mismatch_paths, package_paths, problem_paths}
+use Rattle.npm_lock_findings.specs.Rules.{advisory_place, mismatch_level, mismatch_place, refused_place, rule_place}
+use Rattle.npm_lock_findings.specs.Rules.{rule_word, rule_words, unchecked_place}
+use Rattle.npm_lock_findings.specs.declared.annotations.format.AnnotationFormat.{AnnotationFormat}
+use Rattle.npm_lock_findings.specs.declared.annotations.format.AnnotationFormat.TheVariants.{Github, Sarif}
+
+-- a problem: its kind, its sentence, and the members that it is about
+abbrev pub problem_draft : ProblemValue → DraftValue
+problem_draft problem = record {
+  rule = rule_word problem.kind;
+  rule_index = rule_place problem.kind;
+  level = Error;
+  message = sentence problem;
+  paths = problem_paths problem.kind problem.dependency.from problem.dependency.name;
+}
+
+-- a mismatch
+abbrev pub mismatch_draft : (exact : Bool) → MismatchValue → DraftValue
+mismatch_draft exact mismatch = record {
+  rule = codes "mismatch";
+  rule_index = mismatch_place;
+  level = mismatch_level exact;
+  message = mismatch_sentence mismatch;
+  paths = mismatch_paths mismatch.from (group_text mismatch.group) mismatch.name;
+}
+
+-- a package that an advisory hits, at the package
+abbrev pub hit_draft : FoundValue → DraftValue
+hit_draft found = record {
+  rule = codes "advisory";
+  rule_index = advisory_place;
+  level = Error;
+  message = hit_sentence found;
+  paths = package_paths found.folder;
+}
+
+-- a note
+abbrev pub note_draft : (message : List ℕ) → (paths : List (List (List ℕ))) → DraftValue
+note_draft message paths = record {
+  rule = codes "unchecked";
+  rule_index = unchecked_place;
+  level = Note;
+  message = message;
+  paths = paths;
+}
+
+-- a dependency that is not checked, at the dependency
+abbrev pub unchecked_draft : UncheckedValue → DraftValue
+unchecked_draft unchecked = note_draft (unchecked_sentence unchecked)
+    (dependency_paths unchecked.dependency.from unchecked.dependency.name)
+
+-- what was not looked at, at the package in its folder
+abbrev pub unread_draft : UnreadValue → DraftValue
+unread_draft unread = note_draft (unread_sentence unread) (package_paths (unread_folder unread))
+
+-- the dependencies that are not checked and then what was not looked at, if they are listed
+abbrev pub listed_drafts : Report → List DraftValue
+listed_drafts report = if report.listed
+    then map unchecked_draft (map unchecked_value report.problems.unchecked.items)
+    ++ map unread_draft (map unread_value report.unread.items) else []
+
+-- all of a report and of the packages that are hit, in the order of the report's lines
+abbrev pub all_drafts : Report → List FoundValue → List DraftValue
+all_drafts report found = map (mismatch_draft report.exact) (map mismatch_value report.mismatches.items)
+    ++ (map problem_draft (map problem_value report.problems.list.items)
+    ++ (map hit_draft found ++ listed_drafts report))
+
+-- One finding for each of these, in their order, in the lock file at this path with this text. The place of each is that
+-- of a member that it is about, or of the beginning of the text.
+pub record AreFindings (text file : List ℕ) (report : Report) (found : List FoundValue) (findings : List Finding)
+    : Type 0 where
+  pub drafts : List Draft
+  pub such : map draft_value drafts ≡ all_drafts report found
+  pub placed : AreFindingsOf text file drafts (length drafts) findings
+
+-- a file that was refused, with a message, at this line and column
+abbrev pub refused_finding : (message file : List ℕ) → (line column : ℕ) → FindingValue
+refused_finding message file line column = record {
+  rule = codes "refused";
+  rule_index = refused_place;
+  level = Error;
+  message = message;
+  file = file;
+  line = line;
+  column = column;
+}
+
+-- ---- how findings are written
+
+-- the tool that a log names: this version of the program, with all rules
+pub record IsTool (version : List ℕ) (tool : ToolValue) : Type 0 where
+  pub named : tool.name ≡ codes "npm_lock_check"
+  pub of_version : tool.version ≡ version
+  pub ruled : map (λ rule. rule.id) tool.rules ≡ rule_words
+
+-- a line for each, for GitHub Actions; or one log, which also says whether the run was successful
+abbrev pub IsFindingsText : AnnotationFormat → (version : List ℕ) → List FindingValue → (is_successful : Bool)
+    → (text : List ℕ) → Type 0
+IsFindingsText Github version findings is_successful text = text ≡ flat_map annotation findings
+IsFindingsText Sarif version findings is_successful text =
+    (tool : ToolValue) × IsTool version tool × (text ≡ log tool findings is_successful)
+
+-- ---- what contracts see
+
+abbrev pub names_seen : Vec (Bor (List ℕ)) Global → List (List ℕ)
+names_seen names = map (λ name. name.now) names.items

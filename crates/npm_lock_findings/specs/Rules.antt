@@ -1,0 +1,42 @@
+-- The rules that findings break: one for each kind of problem, and one for each other kind of finding.
+use Rattle.std.specs.Prelude.{ℕ, List, [], ◌∷◌, Bool, if◌then◌else◌, codes}
+use Rattle.findings.specs.declared.finding.Level.{Level}
+use Rattle.findings.specs.declared.finding.Level.TheVariants.{Error, Warning}
+use Rattle.npm_lock.specs.declared.problem.Kind.{Kind}
+use Rattle.npm_lock.specs.declared.problem.Kind.TheVariants.{Engine, Invalid, Missing, PeerLocal}
+
+-- the `id` of the rule of a kind of problem: the word that `--ignore` takes for it
+abbrev pub rule_word : Kind → List ℕ
+rule_word Missing = codes "missing"
+rule_word Invalid = codes "invalid"
+rule_word PeerLocal = codes "peer-local"
+rule_word Engine = codes "engine"
+
+-- its place in the list of rules
+abbrev pub rule_place : Kind → ℕ
+rule_place Missing = 0
+rule_place Invalid = 1
+rule_place PeerLocal = 2
+rule_place Engine = 3
+
+-- the places of the other rules
+abbrev pub mismatch_place : ℕ
+mismatch_place = 4
+
+abbrev pub advisory_place : ℕ
+advisory_place = 5
+
+abbrev pub unchecked_place : ℕ
+unchecked_place = 6
+
+abbrev pub refused_place : ℕ
+refused_place = 7
+
+-- all rules, each at its place
+abbrev pub rule_words : List (List ℕ)
+rule_words = rule_word Missing ∷ rule_word Invalid ∷ rule_word PeerLocal ∷ rule_word Engine ∷ codes "mismatch"
+    ∷ codes "advisory" ∷ codes "unchecked" ∷ codes "refused" ∷ []
+
+-- mismatches are errors if they count for the status, and else warnings
+abbrev pub mismatch_level : (exact : Bool) → Level
+mismatch_level exact = if exact then Error else Warning

@@ -1,0 +1,119 @@
+//! One finding without its place.
+ghost use Rattle.std.specs.Prelude.{◌≡◌, IfOk, map};
+ghost use Rattle.findings.specs.Drafts.{draft_value};
+ghost use Rattle.npm_advisories.specs.Audit.{found_value};
+ghost use Rattle.npm_lock.specs.Outcomes.{problem_value, unchecked_value};
+ghost use Rattle.npm_lock_reports.specs.Unread.{unread_value};
+ghost use Rattle.npm_manifests.specs.Mismatches.{mismatch_value};
+ghost use Rattle.npm_lock_findings.specs.Findings.{hit_draft, mismatch_draft, names_seen, note_draft, problem_draft};
+ghost use Rattle.npm_lock_findings.specs.Findings.{unchecked_draft, unread_draft};
+
+use crate::annotations::paths::{dependency_paths, mismatch_paths, package_paths, problem_paths};
+use crate::annotations::rules::{
+    ADVISORY_PLACE, MISMATCH_PLACE, UNCHECKED_PLACE, mismatch_level, rule_of, rule_place,
+};
+use findings::{Draft, Level};
+use npm_advisories::Found;
+use npm_lock::{Problem, Unchecked};
+use npm_lock_reports::{
+    Unread, push_hit_sentence, push_mismatch_sentence, push_sentence, push_unchecked_sentence,
+    push_unread_sentence,
+};
+use npm_manifests::Mismatch;
+use std::alloc::{AllocError, Global};
+
+/// Returns the draft of a problem.
+pub fn problematic<'a>(
+    alloc: Global,
+    problem: &'a Problem,
+) -> Result<Draft<'static, 'a>, AllocError>
+    ensures { IfOk result (λ draft. draft_value draft ≡ problem_draft (problem_value problem.now)) }
+{
+    let mut message = Vec::new(alloc);
+    push_sentence(&mut message, problem)?;
+    let folder = problem.dependency.from.as_str();
+    let name = problem.dependency.name.as_str();
+    Ok(Draft {
+        rule: rule_of(problem.kind),
+        rule_index: rule_place(problem.kind),
+        level: Level::Error,
+        message,
+        paths: problem_paths(alloc, problem.kind, folder, name)?,
+    })
+}
+
+/// Returns the draft of a mismatch.
+pub fn mismatched<'a>(
+    alloc: Global,
+    mismatch: &'a Mismatch,
+    exact: bool,
+) -> Result<Draft<'static, 'a>, AllocError>
+    ensures { IfOk result (λ draft. draft_value draft ≡ mismatch_draft exact (mismatch_value mismatch.now)) }
+{
+    let mut message = Vec::new(alloc);
+    push_mismatch_sentence(&mut message, mismatch)?;
+    let folder = mismatch.from.as_str();
+    Ok(Draft {
+        rule: "mismatch",
+        rule_index: MISMATCH_PLACE,
+        level: mismatch_level(exact),
+        message,
+        paths: mismatch_paths(
+            alloc,
+            folder,
+            mismatch.group.as_str(),
+            mismatch.name.as_str(),
+        )?,
+    })
+}
+
+/// Returns the draft of a package that an advisory hits.
+pub fn hit<'a>(alloc: Global, found: &'a Found<'_, '_>) -> Result<Draft<'static, 'a>, AllocError>
+    ensures { IfOk result (λ draft. draft_value draft ≡ hit_draft (found_value found.now)) }
+{
+    let mut message = Vec::new(alloc);
+    push_hit_sentence(alloc, &mut message, found)?;
+    Ok(Draft {
+        rule: "advisory",
+        rule_index: ADVISORY_PLACE,
+        level: Level::Error,
+        message,
+        paths: package_paths(alloc, found.folder)?,
+    })
+}
+
+/// Returns the draft of a dependency that is not checked.
+pub fn unchecked<'a>(
+    alloc: Global,
+    unchecked: &'a Unchecked,
+) -> Result<Draft<'static, 'a>, AllocError>
+    ensures { IfOk result (λ draft. draft_value draft ≡ unchecked_draft (unchecked_value unchecked.now)) }
+{
+    let mut message = Vec::new(alloc);
+    push_unchecked_sentence(&mut message, unchecked)?;
+    let folder = unchecked.dependency.from.as_str();
+    let name = unchecked.dependency.name.as_str();
+    Ok(noted(message, dependency_paths(alloc, folder, name)?))
+}
+
+/// Returns the draft of what was not looked at.
+pub fn unread<'a>(alloc: Global, unread: &'a Unread) -> Result<Draft<'static, 'a>, AllocError>
+    ensures { IfOk result (λ draft. draft_value draft ≡ unread_draft (unread_value unread.now)) }
+{
+    let mut message = Vec::new(alloc);
+    push_unread_sentence(&mut message, unread)?;
+    Ok(noted(message, package_paths(alloc, unread.folder())?))
+}
+
+/// Returns the draft of a note.
+fn noted<'a>(message: Vec<u8>, paths: Vec<Vec<&'a str>>) -> Draft<'static, 'a>
+    ensures { draft_value result ≡ note_draft message.items (map names_seen paths.entry.items) }
+{
+    Draft {
+        rule: "unchecked",
+        rule_index: UNCHECKED_PLACE,
+        level: Level::Note,
+        message,
+        paths,
+    }
+}

@@ -1,0 +1,109 @@
+//! The report of a lock file as findings without places.
+ghost use Rattle.std.specs.Prelude.{◌≡◌, ◌++◌, OnOk, map};
+ghost use Rattle.findings.specs.Drafts.{draft_value};
+ghost use Rattle.npm_advisories.specs.Audit.{found_value};
+ghost use Rattle.npm_lock.specs.Outcomes.{problem_value, unchecked_value};
+ghost use Rattle.npm_lock_reports.specs.Unread.{unread_value};
+ghost use Rattle.npm_manifests.specs.Mismatches.{mismatch_value};
+ghost use Rattle.npm_lock_findings.specs.Findings.{hit_draft, listed_drafts, mismatch_draft, problem_draft, unchecked_draft};
+ghost use Rattle.npm_lock_findings.specs.Findings.{unread_draft};
+
+use crate::annotations::draft_of::{hit, mismatched, problematic, unchecked, unread};
+use findings::Draft;
+use npm_advisories::Found;
+use npm_lock::{Problem, Unchecked};
+use npm_lock_reports::{Report, Unread};
+use npm_manifests::Mismatch;
+use std::alloc::{AllocError, Global};
+
+/// Adds the drafts of mismatches.
+pub fn push_mismatches<'a>(
+    alloc: Global,
+    drafts: &mut Vec<Draft<'static, 'a>>,
+    mismatches: &'a [Mismatch],
+    exact: bool,
+) -> Result<(), AllocError>
+    ensures { OnOk result (map draft_value drafts.new.items
+        ≡ map draft_value drafts.old.items ++ map (mismatch_draft exact) (map mismatch_value mismatches.now)) }
+{
+    for mismatch in mismatches {
+        drafts.push(mismatched(alloc, mismatch, exact)?)?;
+    }
+    Ok(())
+}
+
+/// Adds the drafts of problems.
+pub fn push_problems<'a>(
+    alloc: Global,
+    drafts: &mut Vec<Draft<'static, 'a>>,
+    problems: &'a [Problem],
+) -> Result<(), AllocError>
+    ensures { OnOk result (map draft_value drafts.new.items
+        ≡ map draft_value drafts.old.items ++ map problem_draft (map problem_value problems.now)) }
+{
+    for problem in problems {
+        drafts.push(problematic(alloc, problem)?)?;
+    }
+    Ok(())
+}
+
+/// Adds the drafts of packages that an advisory hits.
+pub fn push_hits<'a>(
+    alloc: Global,
+    drafts: &mut Vec<Draft<'static, 'a>>,
+    found: &'a [Found<'_, '_>],
+) -> Result<(), AllocError>
+    ensures { OnOk result (map draft_value drafts.new.items
+        ≡ map draft_value drafts.old.items ++ map hit_draft (map found_value found.now)) }
+{
+    for one in found {
+        drafts.push(hit(alloc, one)?)?;
+    }
+    Ok(())
+}
+
+/// Adds the drafts of dependencies that are not checked and of what was not looked at, if the report lists them.
+pub fn push_listed<'a>(
+    alloc: Global,
+    drafts: &mut Vec<Draft<'static, 'a>>,
+    report: &'a Report,
+) -> Result<(), AllocError>
+    ensures { OnOk result (map draft_value drafts.new.items
+        ≡ map draft_value drafts.old.items ++ listed_drafts report.now) }
+{
+    if report.listed {
+        push_all_unchecked(alloc, drafts, &report.problems.unchecked)?;
+        push_all_unread(alloc, drafts, &report.unread)?;
+    }
+    Ok(())
+}
+
+/// Adds the drafts of dependencies that are not checked.
+fn push_all_unchecked<'a>(
+    alloc: Global,
+    drafts: &mut Vec<Draft<'static, 'a>>,
+    all: &'a [Unchecked],
+) -> Result<(), AllocError>
+    ensures { OnOk result (map draft_value drafts.new.items
+        ≡ map draft_value drafts.old.items ++ map unchecked_draft (map unchecked_value all.now)) }
+{
+    for one in all {
+        drafts.push(unchecked(alloc, one)?)?;
+    }
+    Ok(())
+}
+
+/// Adds the drafts of what was not looked at.
+fn push_all_unread<'a>(
+    alloc: Global,
+    drafts: &mut Vec<Draft<'static, 'a>>,
+    all: &'a [Unread],
+) -> Result<(), AllocError>
+    ensures { OnOk result (map draft_value drafts.new.items
+        ≡ map draft_value drafts.old.items ++ map unread_draft (map unread_value all.now)) }
+{
+    for one in all {
+        drafts.push(unread(alloc, one)?)?;
+    }
+    Ok(())
+}

@@ -1,0 +1,43 @@
+//! The report of a lock file as findings.
+ghost use Rattle.std.specs.Prelude.{IfOk, map};
+ghost use Rattle.npm_advisories.specs.Audit.{found_value};
+ghost use Rattle.npm_lock_findings.specs.Findings.{AreFindings};
+
+use crate::annotations::drafts::{push_hits, push_listed, push_mismatches, push_problems};
+use findings::{Finding, findings_in};
+use npm_advisories::Found;
+use npm_lock_reports::Report;
+use std::alloc::{AllocError, Global};
+
+/// Returns the findings of a lock file at this path, with this text, in the order of the report's lines: the mismatches, the problems,
+/// the packages that an advisory hits, and if the report lists them the dependencies that are not checked and what was not looked at.
+/// A mismatch is an error if it counts for the status, and else a warning. What is not checked is a note.
+///
+/// The line and the column are those of the dependency in the group of its dependent, of `engines.node` of a package, or of a package.
+/// In a lock file of version 1 they are those of the dependency in `requires` of its dependent, or of a package. If none of these is in
+/// the text, they are those of the beginning.
+///
+/// # Errors
+///
+/// An allocation failed.
+///
+/// # Memory
+///
+/// Allocates the findings, and while places are looked up the paths of seven members for each.
+pub fn findings_of<'f, 'a>(
+    alloc: Global,
+    text: &str,
+    file: &'f str,
+    report: &'a Report,
+    found: &'a [Found<'_, '_>],
+) -> Result<Vec<Finding<'f>>, AllocError>
+    ensures { IfOk result (λ findings. AreFindings text.now file.now report.now (map found_value found.now)
+        findings.items) }
+{
+    let mut drafts = Vec::new(alloc);
+    push_mismatches(alloc, &mut drafts, &report.mismatches, report.exact)?;
+    push_problems(alloc, &mut drafts, &report.problems.list)?;
+    push_hits(alloc, &mut drafts, found)?;
+    push_listed(alloc, &mut drafts, report)?;
+    findings_in(alloc, text, file, &drafts)
+}

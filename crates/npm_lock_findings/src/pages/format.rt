@@ -1,0 +1,10 @@
+//! Formats for people.
+
+/// How reports are written for people.
+#[derive(Clone, Copy, Debug, PartialEq, Eq, Drop)]
+pub enum PageFormat {
+    /// A page for a browser.
+    Html,
+    /// A JUnit report, which Jenkins and GitLab read.
+    Junit,
+}

@@ -1,0 +1,209 @@
+//! The check of one lock file.
+ghost use Rattle.std.specs.Prelude.{◌≡◌, List, ℕ, IfErr, IfOk, None, OnOk, filter, map, not, option_map};
+ghost use Rattle.std.specs.Fn.{FnOnceReturnsAt};
+ghost use Rattle.serde_json.specs.View.{view};
+ghost use Rattle.npm_packages.specs.Faults.{lock_fault};
+ghost use Rattle.npm_lock.specs.Findings.{IsChecked};
+ghost use Rattle.npm_lock_version_one.specs.VersionOne.{any_fault, converted};
+ghost use Rattle.npm_advisories.specs.Audit.{FoundValue};
+ghost use Rattle.npm_lock_program.specs.Kinds.{has};
+ghost use Rattle.npm_lock_program.specs.Check.{IsReported, IsStopped};
+ghost use Rattle.npm_lock_program.specs.Written.{IsOutput};
+ghost use Rattle.npm_lock_program.specs.Private.Refusals.{IsCheckRefused, IsLockRefused, IsRefused};
+ghost use Rattle.npm_lock_program.specs.Report.{AreLeft, IsReportOf, manifests_of, placed};
+ghost use Rattle.npm_lock_program.specs.Report.{wanted_value};
+ghost use Rattle.npm_manifest_files.specs.Linked.{loaded_value, workspace_value};
+
+use crate::checks::hits::counted_of;
+use crate::checks::kinds::Kinds;
+use crate::checks::output::Output;
+use crate::checks::run_error::{RunError, StopError};
+use crate::checks::sync::{all_unread, compare, is_compared, load_compared};
+use crate::checks::wanted::Wanted;
+use crate::checks::workspace_problems::add_workspaces;
+use crate::checks::written::output_of;
+use command_lines::{Watched, read_json_with_text};
+use npm_lock::{CheckError, Problem, Problems, check};
+use npm_lock_counted::{CountedHits, count_of, leave_out_omitted};
+use npm_lock_faults::{FaultPlace, lock_fault_place};
+use npm_lock_reports::Report;
+use npm_lock_version_one::convert;
+use npm_manifest_files::{LoadError, Loaded, Workspace};
+use serde_json::Value;
+use std::alloc::Global;
+use std::io::Read;
+
+/// Reads a lock file to the end, and returns its report and its output: the mismatches of the manifests, the problems but those of
+/// ignored kinds, the packages that an advisory hits which is not excepted, and the dependencies that are not checked if they are
+/// listed. Packages that are left out have neither problems nor hits.
+///
+/// `load` is called with the lock file if that is compared with a manifest, and not otherwise. It returns the manifests of
+/// workspaces and of other packages that links name, and the folders of those that are not read.
+///
+/// # Errors
+///
+/// - `Check`: the lock file was not read, or it, the manifest or the advisories have a fault, or an allocation failed.
+/// - `Load`: the error of `load`.
+///
+/// # Memory
+///
+/// Allocates the report and the output, and for the time of the call the lock file with its text.
+pub fn checked_in<'f, R: Read, F: FnOnce(&Value) -> Result<Loaded, LoadError>>(
+    alloc: Global,
+    reader: &mut Watched<R>,
+    wanted: Wanted<'_, 'f>,
+    load: F,
+) -> Result<(Report, Output<'f>), StopError>
+    requires { F.IsAlwaysCallable load }
+    ensures found { IfOk result (λ made. (found : List FoundValue)
+        × IsReported R.remaining reader.old reader.new (FnOnceReturnsAt F.FnOnce load) (wanted_value wanted.entry)
+        made.0 found made.1) }
+    ensures refused { IfErr result (λ error. IsStopped R.remaining (FnOnceReturnsAt F.FnOnce load)
+        (wanted_value wanted.entry) reader.old reader.new error) }
+{
+    let (lock, text) = match read_json_with_text(alloc, reader) {
+        Ok(read) => read,
+        Err(error) => return Err(StopError::Check(RunError::Input(error))),
+    };
+    let loaded = match load_compared(alloc, &lock, wanted.manifest, load) {
+        Ok(loaded) => loaded,
+        Err(error) => return Err(StopError::Load(error)),
+    };
+    match report_of(alloc, lock, text.as_str(), loaded, wanted) {
+        Ok(made) => Ok(made),
+        Err(error) => Err(StopError::Check(error)),
+    }
+}
+
+/// Returns the report of a lock file, and its output.
+fn report_of<'f>(
+    alloc: Global,
+    lock: Value,
+    text: &str,
+    loaded: Loaded,
+    wanted: Wanted<'_, 'f>,
+) -> Result<(Report, Output<'f>), RunError>
+    ensures found { IfOk result (λ made. (found : List FoundValue)
+        × IsReportOf (view lock) (loaded_value loaded) (wanted_value wanted.entry) made.0 found
+        × IsOutput (wanted_value wanted.entry) text.now made.0 found made.1) }
+    ensures refused { IfErr result (IsRefused text.now (view lock) (placed (view lock)
+        (manifests_of (wanted_value wanted.entry).manifest (loaded_value loaded).linked))
+        (loaded_value loaded).linked (wanted_value wanted.entry)) }
+{
+    let Loaded {
+        linked,
+        unread,
+        workspaces,
+    } = loaded;
+    let compared = is_compared(&lock, wanted.manifest);
+    let mut lock = lock;
+    let mismatches = compare(alloc, &mut lock, linked, wanted)?;
+    refuse(alloc, &lock, text, wanted.manifest)?;
+    let lock = converted(alloc, lock, wanted.manifest)?;
+    let unread = all_unread(&lock, unread)?;
+    let problems = problems_of(alloc, &lock, &workspaces, wanted)?;
+    let CountedHits { found, excepted } = match counted_of(alloc, &lock, wanted) {
+        Ok(counted) => counted,
+        Err(error) => return Err(error),
+    };
+    let report = Report {
+        compared,
+        mismatches,
+        exact: wanted.exact,
+        unread,
+        problems,
+        audited: wanted.advisories.is_some(),
+        hits: found.len(),
+        excepted,
+        omitted: count_of(wanted.omissions, &lock),
+        listed: wanted.unchecked,
+    };
+    match output_of(alloc, text, &report, &found, wanted) {
+        Ok(output) => Ok((report, output)),
+        Err(_) => Err(RunError::Memory),
+    }
+}
+
+/// Fails if the lock file with this text has a fault, or the manifest beside one of version 1.
+fn refuse(alloc: Global, lock: &Value, text: &str, manifest: Option<&Value>) -> Result<(), RunError>
+    ensures sound { OnOk result
+        (any_fault (view lock.now) (option_map (λ manifest. view manifest.now) manifest.entry) ≡ None) }
+    ensures refused { IfErr result
+        (IsLockRefused text.now (view lock.now) (option_map (λ manifest. view manifest.now) manifest.entry)) }
+{
+    match lock_fault_place(alloc, text, lock, manifest) {
+        Ok(None) => Ok(()),
+        Ok(Some(found)) => Err(RunError::NoLockFile(found)),
+        Err(_) => Err(RunError::Memory),
+    }
+}
+
+/// The lock file as one with `packages`, whose root is the manifest if it is of version 1.
+fn converted(alloc: Global, lock: Value, manifest: Option<&Value>) -> Result<Value, RunError>
+    ensures made { IfOk result (λ made. view made
+        ≡ converted (view lock) (option_map (λ manifest. view manifest.now) manifest.entry)) }
+    ensures sound { OnOk result
+        (lock_fault (converted (view lock) (option_map (λ manifest. view manifest.now) manifest.entry))
+        ≡ any_fault (view lock) (option_map (λ manifest. view manifest.now) manifest.entry)) }
+    ensures memory { IfErr result (λ error.
+        any_fault (view lock) (option_map (λ manifest. view manifest.now) manifest.entry) ≡ None
+        → error ≡ RunError.Memory) }
+{
+    match convert(alloc, lock, manifest) {
+        Ok(made) => Ok(made),
+        Err(CheckError::Refused(fault)) => Err(RunError::NoLockFile(FaultPlace::of_file(
+            alloc, fault,
+        ))),
+        Err(CheckError::Memory) => Err(RunError::Memory),
+    }
+}
+
+/// The problems of workspaces that were found on disk, and those of a lock file, but those of ignored kinds and of what is left out.
+fn problems_of(
+    alloc: Global,
+    lock: &Value,
+    workspaces: &[Workspace],
+    wanted: Wanted<'_, '_>,
+) -> Result<Problems, RunError>
+    ensures found { IfOk result (AreLeft (view lock.now) (map workspace_value workspaces.now)
+        (wanted_value wanted.entry)) }
+    ensures refused { IfErr result (IsCheckRefused (view lock.now)) }
+{
+    match check(alloc, lock, wanted.node) {
+        Ok(problems) => problems_left(alloc, problems, lock, workspaces, wanted),
+        Err(CheckError::Refused(fault)) => Err(RunError::NoLockFile(FaultPlace::of_file(
+            alloc, fault,
+        ))),
+        Err(CheckError::Memory) => Err(RunError::Memory),
+    }
+}
+
+/// These problems after those of workspaces, without those of ignored kinds and those of what is left out.
+fn problems_left(
+    alloc: Global,
+    all: Problems,
+    lock: &Value,
+    workspaces: &[Workspace],
+    wanted: Wanted<'_, '_>,
+) -> Result<Problems, RunError>
+    requires { IsChecked (view lock.now) (wanted_value wanted).node all }
+    ensures found { IfOk result (AreLeft (view lock.now) (map workspace_value workspaces.now)
+        (wanted_value wanted.entry)) }
+    ensures memory { IfErr result (λ error. error ≡ RunError.Memory) }
+{
+    let mut problems = all;
+    match add_workspaces(alloc, &mut problems.list, lock, workspaces) {
+        Ok(()) => {}
+        Err(_) => return Err(RunError::Memory),
+    }
+    leave_out(&mut problems.list, wanted.ignored);
+    leave_out_omitted(&mut problems, lock, wanted.omissions);
+    Ok(problems)
+}
+
+/// Removes the problems of ignored kinds.
+fn leave_out(list: &mut Vec<Problem>, ignored: Kinds)
+    ensures { list.new.items ≡ filter (λ problem. not (has ignored problem.kind)) list.old.items }
+{
+    list.retain(|problem| !ignored.has(problem.kind));
+}

@@ -1,2 +1,0 @@
-pub mod CheckedFiles
-pub mod Examples

@@ -1,3 +1,0 @@
-mod LastNames
-mod Parts
-pub mod Examples

@@ -1,2 +1,0 @@
-pub mod MirrorExamples
-pub mod MirrorLineExamples

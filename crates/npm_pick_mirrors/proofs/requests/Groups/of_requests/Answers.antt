@@ -1,8 +1,0 @@
--- One request more.
-use Rattle.npm_pick_mirrors.proofs.Grouping.{texts_more}
-use Rattle.npm_pick_mirrors.proofs.requests.Groups.of_requests.Goals as goal
-
-pub loop-request-preserved : goal.loop-request-preserved
-loop-request-preserved c = λ name. texts_more name c.args.requests.now c.loop-request.request-index
-    _ _ _ c.loop-request-test.true (c.in_ok-add.ensures name)
-    (c.loop-request.invariant name)

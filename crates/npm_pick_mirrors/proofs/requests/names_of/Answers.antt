@@ -1,5 +1,0 @@
--- The names in order are those that came.
-use Rattle.npm_pick_mirrors.proofs.requests.names_of.Goals as goal
-
-pub returns-clause-exact : goal.returns-clause-exact
-returns-clause-exact c = λ name. rw c.in_ok-names.ensures at (c.put_in_order.ensures.exact name)

@@ -1,2 +1,0 @@
--- What private functions compute.
-pub mod Comparing

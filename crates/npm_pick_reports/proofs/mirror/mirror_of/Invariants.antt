@@ -1,0 +1,10 @@
+-- What is kept of the packages so far.
+use Rattle.std.proofs.Common.{map, string_bytes, take}
+use Rattle.std.specs.Fn.{FnReturnsAt}
+use Rattle.npm_texts.specs.RegistrySpec.{registry_spec_value}
+use Rattle.npm_pick_reports.specs.Private.Mirroring.{AreKeptIn}
+use Rattle.npm_pick_reports.proofs.mirror.mirror_of.Given as goal
+
+abbrev pub invariant-loop-name : goal.invariant-loop-name
+invariant-loop-name g l = AreKeptIn (FnReturnsAt g.F.Fn l.load) l.options l.all (map registry_spec_value l.requests)
+    (map string_bytes (take l.name-index l.name-items)) l.mirror

@@ -1,0 +1,13 @@
+-- What is said of one dependency more.
+use Rattle.npm_pick_reports.specs.Asks.{ask_value}
+use Rattle.npm_pick_reports.specs.Notes.{ask_notes}
+use Rattle.npm_pick_reports.proofs.Gathering.{made_all, made_at}
+use Rattle.npm_pick_reports.proofs.mirror.notes.add_asks.Goals as goal
+
+pub loop-ask-preserved : goal.loop-ask-preserved
+loop-ask-preserved c = made_at ask_value c.args.asks.now ask_notes _ c.loop-ask.ask-index
+    _ _ _ c.loop-ask-test.true c.in_ok-add_ask.ensures c.loop-ask.invariant
+
+pub returns : goal.returns
+returns c = made_all ask_value c.args.asks.now ask_notes _ c.loop-ask.ask-index _ c.loop-ask-test.false
+    c.loop-ask.invariant

@@ -1,0 +1,178 @@
+//! The dependencies of manifests and a lock file.
+ghost use Rattle.std.specs.Prelude.{◌≡◌, ◌↔◌, ◌++◌, IfErr, IfOk, IsTrue, List, OnOk, Some, map, option_map};
+ghost use Rattle.std.specs.List.{flat_map};
+ghost use Rattle.serde_json.specs.View.{members_view, view};
+ghost use Rattle.npm_packages.specs.Edges.{edge_value};
+ghost use Rattle.npm_pick_reports.specs.Asks as Asks;
+ghost use Rattle.npm_pick_reports.specs.LockFailures.{IsLockFailure};
+ghost use Rattle.npm_pick_reports.specs.Asks.{AreAsks, AreEdgeAsks, AreLockAsks, AskValue, IsLinked, ask_value};
+
+use crate::run_error::RunError;
+use npm_packages::{CheckError, Edge, edges_of, is_installed};
+use serde_json::{Map, Value};
+use std::alloc::{AllocError, Global};
+
+/// A dependency, as a manifest or a lock file has it.
+#[derive(Clone, Copy, Debug, PartialEq, Eq, Drop)]
+pub struct Ask<'v> {
+    pub name: &'v str,
+    pub spec: &'v str,
+    /// `overrides` of a lock file change it in a way that is not read here.
+    pub is_overridden: bool,
+}
+
+/// Returns the dependencies of these manifests, in all four groups, and then those of all packages of a lock file. A dependency for
+/// which the lock file has a folder of the project, as a workspace, is left out.
+///
+/// # Errors
+///
+/// - `NoLock`: the value is no lock file that is read here.
+/// - `Memory`: an allocation failed.
+pub fn asks_of<'v>(
+    alloc: Global,
+    manifests: &'v [Value],
+    lock: Option<&'v Value>,
+) -> Result<Vec<Ask<'v>>, RunError>
+    ensures asks { IfOk result (λ asks. AreAsks (map view manifests.now) (option_map (λ lock. view lock.now) lock.entry)
+        (map ask_value asks.items)) }
+    ensures failed { IfErr result (IsLockFailure (option_map (λ lock. view lock.now) lock.entry)) }
+{
+    let mut asks = Vec::new(alloc);
+    add_manifests(&mut asks, manifests)?;
+    add_locked(alloc, &mut asks, lock)?;
+    Ok(asks)
+}
+
+/// Adds the dependencies of manifests.
+fn add_manifests<'v>(asks: &mut Vec<Ask<'v>>, manifests: &'v [Value]) -> Result<(), AllocError>
+    ensures { OnOk result (map ask_value asks.new.items
+        ≡ map ask_value asks.old.items ++ flat_map Asks.manifest_asks (map view manifests.now)) }
+{
+    for manifest in manifests {
+        add_manifest(asks, manifest)?;
+    }
+    Ok(())
+}
+
+/// Adds the dependencies of a manifest.
+fn add_manifest<'v>(asks: &mut Vec<Ask<'v>>, manifest: &'v Value) -> Result<(), AllocError>
+    ensures { OnOk result (map ask_value asks.new.items
+        ≡ map ask_value asks.old.items ++ Asks.manifest_asks (view manifest.now)) }
+{
+    add_group(asks, manifest, "dependencies")?;
+    add_group(asks, manifest, "devDependencies")?;
+    add_group(asks, manifest, "optionalDependencies")?;
+    add_group(asks, manifest, "peerDependencies")?;
+    Ok(())
+}
+
+/// Adds the dependencies of one group.
+fn add_group<'v>(
+    asks: &mut Vec<Ask<'v>>,
+    manifest: &'v Value,
+    group: &str,
+) -> Result<(), AllocError>
+    ensures { OnOk result (map ask_value asks.new.items
+        ≡ map ask_value asks.old.items ++ Asks.asks_in (view manifest.now) group.now) }
+{
+    match manifest.get(group).and_then(Value::as_object) {
+        Some(specs) => add_specs(asks, specs),
+        None => Ok(()),
+    }
+}
+
+/// Adds the dependencies with these specs.
+fn add_specs<'v>(asks: &mut Vec<Ask<'v>>, specs: &'v Map<String, Value>) -> Result<(), AllocError>
+    ensures { OnOk result (map ask_value asks.new.items
+        ≡ map ask_value asks.old.items ++ Asks.asks_among (members_view specs.now.entries)) }
+{
+    for (name, spec) in specs.iter() {
+        add_spec(asks, name.as_str(), spec)?;
+    }
+    Ok(())
+}
+
+/// Adds the dependency with this spec, if it is a string.
+fn add_spec<'v>(asks: &mut Vec<Ask<'v>>, name: &'v str, spec: &'v Value) -> Result<(), AllocError>
+    ensures { OnOk result (map ask_value asks.new.items
+        ≡ map ask_value asks.old.items ++ Asks.spec_asks name.now (view spec.now)) }
+{
+    let Some(spec) = spec.as_str() else {
+        return Ok(());
+    };
+    asks.push(Ask {
+        name,
+        spec,
+        is_overridden: false,
+    })?;
+    Ok(())
+}
+
+/// Adds the dependencies of all packages of a lock file, if there is one.
+fn add_locked<'v>(
+    alloc: Global,
+    asks: &mut Vec<Ask<'v>>,
+    lock: Option<&'v Value>,
+) -> Result<(), RunError>
+    ensures added { OnOk result ((found : List AskValue)
+        × Asks.AreLocksAsks (option_map (λ lock. view lock.now) lock.entry) found
+        × (map ask_value asks.new.items ≡ map ask_value asks.old.items ++ found)) }
+    ensures failed { IfErr result (IsLockFailure (option_map (λ lock. view lock.now) lock.entry)) }
+{
+    match lock {
+        Some(lock) => add_lock(alloc, asks, lock),
+        None => Ok(()),
+    }
+}
+
+/// Adds the dependencies of all packages of a lock file.
+fn add_lock<'v>(alloc: Global, asks: &mut Vec<Ask<'v>>, lock: &'v Value) -> Result<(), RunError>
+    ensures added { OnOk result ((found : List AskValue) × AreLockAsks (view lock.now) found
+        × (map ask_value asks.new.items ≡ map ask_value asks.old.items ++ found)) }
+    ensures failed { IfErr result (IsLockFailure (Some (view lock.now))) }
+{
+    let edges = match edges_of(alloc, lock) {
+        Ok(edges) => edges,
+        Err(CheckError::Refused(fault)) => return Err(RunError::NoLock(fault)),
+        Err(CheckError::Memory) => return Err(RunError::Memory),
+    };
+    add_edges(asks, &edges)?;
+    Ok(())
+}
+
+/// Adds these dependencies.
+fn add_edges<'v>(asks: &mut Vec<Ask<'v>>, edges: &[Edge<'v>]) -> Result<(), AllocError>
+    ensures { OnOk result ((found : List AskValue) × Asks.AreEdgesAsks (map edge_value edges.now) found
+        × (map ask_value asks.new.items ≡ map ask_value asks.old.items ++ found)) }
+{
+    for edge in edges {
+        add_edge(asks, edge)?;
+    }
+    Ok(())
+}
+
+/// Adds a dependency of a package of a lock file, unless a folder of the project is found for it.
+fn add_edge<'v>(asks: &mut Vec<Ask<'v>>, edge: &Edge<'v>) -> Result<(), AllocError>
+    ensures { OnOk result ((found : List AskValue) × AreEdgeAsks (edge_value edge.now) found
+        × (map ask_value asks.new.items ≡ map ask_value asks.old.items ++ found)) }
+{
+    if is_linked(edge.to) {
+        return Ok(());
+    }
+    asks.push(Ask {
+        name: edge.name,
+        spec: edge.spec,
+        is_overridden: edge.is_overridden,
+    })?;
+    Ok(())
+}
+
+/// Returns `true` for a folder of the project: it is in no `node_modules`.
+fn is_linked(folder: Option<&str>) -> bool
+    ensures { IsTrue result ↔ IsLinked (option_map (λ folder. folder.now) folder.entry) }
+{
+    match folder {
+        Some(folder) => !is_installed(folder),
+        None => false,
+    }
+}

@@ -1,0 +1,14 @@
+-- One ask more.
+use Rattle.std.proofs.lemmas.List.{take_all}
+use Rattle.npm_resolve.proofs.Gathering.{ask_more, none_added}
+use Rattle.npm_resolve.proofs.requests.Requests.add_all.Goals as goal
+
+pub loop-ask-init : goal.loop-ask-init
+loop-ask-init c = none_added _
+
+pub loop-ask-preserved : goal.loop-ask-preserved
+loop-ask-preserved c = ask_more c.args.asks.now c.loop-ask.ask-index _ _ _ _ c.loop-ask-test.true
+    c.loop-ask.invariant c.in_ok-add_ask.ensures
+
+pub returns : goal.returns
+returns c = rw (take_all c.loop-ask.ask-index c.args.asks.now c.loop-ask-test.false) at c.loop-ask.invariant

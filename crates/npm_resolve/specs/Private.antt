@@ -1,0 +1,3 @@
+-- What private functions compute.
+pub mod Wishing  -- what one manifest more asks for
+pub mod Gathering  -- names that are asked for

@@ -1,0 +1,35 @@
+//! Errors of the arguments.
+use command_lines::Quoted;
+use thiserror::Error;
+
+/// An error of the arguments, with the word that it is about.
+#[derive(Clone, Copy, Debug, Drop, Error)]
+pub enum ArgumentError<'a> {
+    /// More words than are read.
+    #[error("more than 1000 arguments; --help lists the options")]
+    TooMany,
+    /// A word that is no option, or an option that is not known.
+    #[error("no such option: {0}; --help lists the options")]
+    UnknownOption(Quoted<'a>),
+    /// An option that has a value is the last word.
+    #[error("{0} has no value; --help lists the options")]
+    NoValue(Quoted<'a>),
+    /// The value of `--format` is no format.
+    #[error("--format takes text or json, and not {0}; --help lists the options")]
+    Format(Quoted<'a>),
+    /// The value of `--omit` is no group.
+    #[error("--omit takes dev, optional or peer, and not {0}; --help lists the options")]
+    Omit(Quoted<'a>),
+    /// No manifest is named.
+    #[error("--manifest FILE is missing; --help lists the options")]
+    NoManifest,
+    /// No folder of packuments is named.
+    #[error("--packuments FOLDER is missing; --help lists the options")]
+    NoPackuments,
+    /// The value of `--before` is no time.
+    #[error("--before takes a time, as 2024-03-01 or 2024-03-01T12:00:00Z, and not {0}; --help lists the options")]
+    Time(Quoted<'a>),
+    /// The value of `--steps` is no number.
+    #[error("--steps takes a number below 18446744073709551616, and not {0}; --help lists the options")]
+    Steps(Quoted<'a>),
+}

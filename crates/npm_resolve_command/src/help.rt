@@ -1,0 +1,48 @@
+//! What the program says of itself.
+
+/// What `--version` writes.
+pub const VERSION: &str = "npm_resolve 1.0.0\n";
+
+/// What `--help` writes.
+pub const HELP: &str = "\
+Writes versions of packages that fit together, or says what cannot be installed together.
+
+Usage: npm_resolve [OPTIONS] --manifest FILE.. --packuments FOLDER
+
+It selects a version of each package that a package.json asks for, and of each package that a selected version has as
+a peer, so that all of their ranges are met: what npm install --strict-peer-deps must find, or stops at with ERESOLVE.
+Each version is the best one with which the others fit: the version of the tag, or else the newest. It writes a line
+NAME@VERSION for each. If no versions fit together, it writes which dependencies cannot be installed together; without
+any one of them the others can.
+
+Options, of which the value may also be in the same word, as in --steps=1000:
+  --manifest FILE    A package.json, of which dependencies, devDependencies, optionalDependencies and peerDependencies
+                     count. It may be given more than once. If FILE is -, standard input is read.
+                     Example: npm_resolve --manifest package.json --packuments mirror
+  --packuments FOLDER
+                     A folder with the documents of packages, as a registry serves them: NAME.json or NAME/package.json,
+                     and @SCOPE/NAME alike. Only regular files are read.
+                     Example: npm_resolve --manifest package.json --packuments mirror
+  --peers            Select the packages that the manifests ask for, and peers. This is the default.
+                     Example: npm_resolve --peers --manifest package.json --packuments mirror
+  --omit GROUP       Leave out devDependencies (dev), optionalDependencies (optional), or all peers (peer). It may be
+                     given more than once.
+                     Example: npm_resolve --omit dev --omit optional --manifest package.json --packuments mirror
+  --before TIME      Leave out versions that were published after this time. A date is the beginning of that
+                     day in UTC. Versions without a time count as published.
+                     Example: npm_resolve --before 2024-03-01 --manifest package.json --packuments mirror
+  --tag TAG          Prefer the version of this tag. The default is latest.
+                     Example: npm_resolve --tag next --manifest package.json --packuments mirror
+  --steps N          Stop after N steps of the search; a step tries one version. The default is 10000000.
+                     Example: npm_resolve --steps 100000 --manifest package.json --packuments mirror
+  --format FORMAT    text: write lines for a person. json: write a JSON object. The default is text.
+                     Example: npm_resolve --format json --manifest package.json --packuments mirror
+  -h, --help         Write this text.
+                     Example: npm_resolve --help
+  -V, --version      Write the version of this program.
+                     Example: npm_resolve --version
+
+The exit status is 0 if versions fit together, 1 if none do, 3 if the steps were used up before either was known, and 2
+if nothing was asked: an argument is wrong, or a file is not read. A line on standard error says why, and names each
+dependency that asks no registry, as a folder or a repository: it is left out.
+";

@@ -1,0 +1,147 @@
+//! Writes versions of packages that fit together, for manifests and a folder of documents, or says what cannot be installed together.
+//!
+//! The exit status is 0 if versions fit together, 1 if none do, 3 if the steps were used up before either was known, and 2 after an
+//! error: a wrong argument, or a file that is not read. A line on standard error says what the error is, and which dependencies are
+//! left out since they ask no registry.
+#![tactic(auto)]
+
+ghost use Rattle.std.specs.Prelude.{◌≡◌, IfErr, None, Ok, Some, false, true};
+ghost use Rattle.npm_resolve_command.specs.Status.{status_of_ending};
+ghost use Rattle.npm_resolve_reports.specs.declared.reply.Ending.{Ending};
+
+mod argument_error;
+mod arguments;
+mod help;
+mod program_error;
+mod values;
+
+use arguments::{Arguments, ResolveOptions, read_arguments};
+use command_lines::{Quoted, Shown, words_of};
+use help::{HELP, VERSION};
+use npm_pick_files::{checked_manifest, packument_in, value_at, values_of};
+use npm_resolve::Options;
+use npm_resolve_reports::{Done, Ending, Question, RunError, run};
+use program_error::ProgramError;
+use serde_json::Value;
+use std::alloc::AllocError;
+use std::io;
+use std::io::Write;
+use std::process::ExitCode;
+use values::{before_of, folder_of, steps_of};
+
+/// Ends with the status of `status_of`.
+fn main(rt: HostRuntime) -> ExitCode {
+    let words = words_of(rt.alloc(), &rt);
+    let outcome = match &words {
+        Ok(words) => answered(&rt, words),
+        Err(error) => Err(ProgramError::Words(error)),
+    };
+    let (outcome, said) = match outcome {
+        Ok(None) => (Ok(None), Ok(())),
+        Ok(Some(done)) => {
+            let said = say(&rt, &done);
+            (Ok(Some(done.ending)), said)
+        }
+        Err(error) => {
+            let said = eprintln!(rt; "npm_resolve: {error}");
+            (Err(error), said)
+        }
+    };
+    ExitCode::from(status_of(&outcome, said.is_ok()))
+}
+
+/// Writes the lines for standard error.
+fn say(rt: &HostRuntime, done: &Done) -> io::Result<()> {
+    rt.stderr().write_all(done.notes.as_slice())?;
+    match done.ending {
+        Ending::Selected | Ending::NoSelection => Ok(()),
+        Ending::Undecided => {
+            eprintln!(rt; "npm_resolve: the steps are used up; --steps allows more")
+        }
+    }
+}
+
+/// Does what the arguments ask. Returns how the program ends, or `None` if only a text about it was shown.
+fn answered<'a>(rt: &HostRuntime, words: &'a [String]) -> Result<Option<Done>, ProgramError<'a>> {
+    let asked = read_arguments(words)?;
+    if let Some(shown) = asked.shown {
+        show(rt, shown)?;
+        return Ok(None);
+    }
+    let done = resolved(rt, words, asked)?;
+    Ok(Some(done))
+}
+
+/// Writes a text about the program.
+fn show(rt: &HostRuntime, shown: Shown) -> Result<(), RunError> {
+    let text = match shown {
+        Shown::Help => HELP,
+        Shown::Version => VERSION,
+    };
+    print!(rt; "{text}").map_err(|_| RunError::Write)
+}
+
+/// Reads the manifests, and writes the versions that fit together for them. Documents of packages are in a folder.
+fn resolved<'a>(
+    rt: &HostRuntime,
+    words: &'a [String],
+    asked: Arguments<'a>,
+) -> Result<Done, ProgramError<'a>> {
+    let folder = folder_of(&asked)?;
+    let steps = steps_of(asked.steps)?;
+    let before = before_of(rt.alloc(), asked.before)?;
+    let manifests = manifests_at(rt, words)?;
+    let question = Question {
+        manifests: &manifests,
+        options: Options {
+            default_tag: asked.tag.unwrap_or("latest"),
+            before,
+        },
+        omits: asked.omits,
+        steps,
+    };
+    let load = |name: &str| packument_in(rt, folder, name);
+    let done = run(rt.alloc(), question, asked.format, load, &mut rt.stdout())?;
+    Ok(done)
+}
+
+/// Reads the manifests that the words name.
+fn manifests_at<'a>(rt: &HostRuntime, words: &'a [String]) -> Result<Vec<Value>, ProgramError<'a>> {
+    let mut manifests = Vec::new(rt.alloc());
+    for path in values_of::<ResolveOptions>(rt.alloc(), words, "--manifest")? {
+        let manifest = manifest_at(rt, path)?;
+        manifests.push(manifest).map_err(|_| AllocError)?;
+    }
+    Ok(manifests)
+}
+
+/// Reads a manifest; `-` is standard input.
+fn manifest_at<'a>(rt: &HostRuntime, path: &'a str) -> Result<Value, ProgramError<'a>> {
+    let quoted = Quoted { text: path };
+    let value = match value_at(rt, path) {
+        Ok(value) => value,
+        Err(error) => return Err(ProgramError::File("--manifest", quoted, error)),
+    };
+    match checked_manifest(value) {
+        Ok(manifest) => Ok(manifest),
+        Err(fault) => Err(ProgramError::Manifest(quoted, fault)),
+    }
+}
+
+/// Returns the exit status: 0 if versions fit together or a text was shown, 1 if none do, 3 if the steps were used up before either was
+/// known, and 2 after an error, or if the lines on standard error were not written.
+fn status_of(outcome: &Result<Option<Ending>, ProgramError<'_>>, is_said: bool) -> u8
+    ensures shown { outcome.now ≡ Ok None → is_said ≡ true → result ≡ 0 }
+    ensures ended { (ending : Ending) → outcome.now ≡ Ok (Some ending) → is_said ≡ true
+        → result ≡ status_of_ending ending }
+    ensures stopped { IfErr outcome.now (λ _. result ≡ 2) }
+    ensures unsaid { is_said ≡ false → result ≡ 2 }
+{
+    match outcome {
+        Err(_) => 2,
+        Ok(_) if !is_said => 2,
+        Ok(Some(Ending::NoSelection)) => 1,
+        Ok(Some(Ending::Undecided)) => 3,
+        Ok(None | Some(Ending::Selected)) => 0,
+    }
+}

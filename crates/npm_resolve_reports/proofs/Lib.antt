@@ -1,0 +1,4 @@
+mod Gathered
+mod Texts
+mod Objects
+pub mod Examples

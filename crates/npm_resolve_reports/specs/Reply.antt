@@ -1,0 +1,60 @@
+-- What is written for a question, and how the program ends.
+use Rattle.std.specs.Prelude.{◌≡◌, ℕ, List, Err, map}
+use Rattle.npm_candidates.specs.Asks.{ask_value}
+use Rattle.npm_pick_reports.specs.Loading.{Loads}
+use Rattle.npm_pick_reports.specs.declared.format.Format.{Format}
+use Rattle.npm_pick_reports.specs.declared.format.Format.TheVariants.{Json, Text}
+use Rattle.npm_pick_reports.specs.Loading.{IsLoadFailure}
+use Rattle.npm_pick_reports.specs.declared.run_error.RunError.{RunError}
+use Rattle.npm_resolve.specs.Answers.{IsAnswer}
+use Rattle.npm_resolve.specs.Documents.{AreDocumentsFor}
+use Rattle.npm_resolve.specs.declared.answer.Answer.{Answer}
+use Rattle.npm_resolve.specs.declared.answer.Resolution.{Resolution}
+use Rattle.npm_resolve.specs.declared.answer.Resolution.TheVariants as Resolutions
+use Rattle.npm_resolve.specs.declared.documents.Document.{Document}
+use Rattle.npm_resolve_reports.specs.Notes as Notes
+use Rattle.npm_resolve_reports.specs.Objects.{json_line}
+use Rattle.npm_resolve_reports.specs.Texts.{AreTextLines}
+use Rattle.npm_resolve_reports.specs.declared.reply.Done.{Done}
+use Rattle.npm_resolve_reports.specs.declared.reply.Ending.{Ending}
+use Rattle.npm_resolve_reports.specs.declared.reply.Ending.TheVariants.{NoSelection, Selected, Undecided}
+use Rattle.npm_resolve_reports.specs.declared.reply.Question.{Question}
+use Rattle.npm_resolve_reports.specs.declared.reply.Reply.{Reply}
+
+-- the lines for standard output, the notes for standard error, and how the program ends
+pub record ReplyValue : Type 0 where
+  pub lines : List ℕ
+  pub notes : List ℕ
+  pub ending : Ending
+
+-- the lines of a resolution
+abbrev pub AreLines : Format → List Document → Resolution → (lines : List ℕ) → Type 0
+AreLines Text documents resolution lines = AreTextLines documents resolution lines
+AreLines Json documents resolution lines = lines ≡ json_line documents resolution
+
+abbrev pub ending_of : Resolution → Ending
+ending_of (Resolutions.Selected chosen) = Selected
+ending_of (Resolutions.NoSelection blamed) = NoSelection
+ending_of Resolutions.Undecided = Undecided
+
+-- The reply to a question, where `load` returns these documents: all documents that are needed are read, and the lines are those of the
+-- answer for them.
+pub record IsReply (Gives : Loads) (question : Question) (format : Format) (reply : ReplyValue) : Type 0 where
+  pub documents : List Document
+  pub read : AreDocumentsFor Gives question.manifests.now question.options question.omits documents
+  pub answer : Answer
+  pub answered : IsAnswer question.manifests.now documents question.options question.omits answer
+  pub lines : AreLines format documents answer.resolution reply.lines
+  pub notes : reply.notes ≡ Notes.note_lines (map ask_value answer.left_out.items)
+  pub ending : reply.ending ≡ ending_of answer.resolution
+
+-- the document of a package was not read, or an allocation failed
+abbrev pub IsFailure : Loads → RunError → Type 0
+IsFailure Gives error = IsLoadFailure (λ name. Unit {0}) Gives error
+
+-- what a contract sees of it
+abbrev pub done_value : (lines : List ℕ) → Done → ReplyValue
+done_value lines done = record { lines = lines; notes = done.notes.items; ending = done.ending }
+
+abbrev pub reply_value : Reply → ReplyValue
+reply_value reply = done_value reply.lines.items reply.done

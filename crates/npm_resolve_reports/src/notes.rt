@@ -1,0 +1,31 @@
+//! Notes for standard error.
+ghost use Rattle.std.specs.Prelude.{◌≡◌, ◌++◌, IfOk, OnOk, map};
+ghost use Rattle.npm_candidates.specs.Asks.{ask_value};
+ghost use Rattle.npm_resolve_reports.specs.Notes as Notes;
+
+use crate::Result;
+use command_lines::push_shown;
+use npm_resolve::Ask;
+use std::alloc::Global;
+
+/// Returns a line for each ask that is left out.
+pub(crate) fn note_lines(alloc: Global, left_out: &[Ask<'_>]) -> Result<Vec<u8>>
+    ensures { IfOk result (λ lines. lines.items ≡ Notes.note_lines (map ask_value left_out.now)) }
+{
+    let mut lines = Vec::new(alloc);
+    for ask in left_out {
+        push_note(&mut lines, *ask)?;
+    }
+    Ok(lines)
+}
+
+/// Adds the line of an ask.
+fn push_note(lines: &mut Vec<u8>, ask: Ask<'_>) -> Result<()>
+    ensures { OnOk result (lines.new.items ≡ lines.old.items ++ Notes.note_line (ask_value ask.entry)) }
+{
+    lines.extend_from_slice(b"npm_resolve: not from a registry: ")?;
+    push_shown(lines, ask.name)?;
+    lines.extend_from_slice(b" (")?;
+    push_shown(lines, ask.spec)?;
+    lines.extend_from_slice(b")\n")
+}

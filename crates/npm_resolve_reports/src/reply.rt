@@ -1,0 +1,148 @@
+//! The reply to a question, and how the program ends.
+ghost use Rattle.std.specs.Prelude.{◌≡◌, ◌≢◌, List, ℕ, IfErr, IfOk};
+ghost use Rattle.std.specs.Fn.{FnReturnsAt};
+ghost use Rattle.std.specs.Io.KnownBytes.{Appends};
+ghost use Rattle.npm_resolve_reports.specs.Reply as Replies;
+ghost use Rattle.npm_resolve_reports.specs.Reply.{AreLines, IsFailure, IsReply, done_value, reply_value};
+
+use crate::json::json_line;
+use crate::notes::note_lines;
+use crate::text::text_lines;
+use npm_pick_reports::{Format, LoadError, RunError};
+use npm_resolve::{Document, Omits, Options, Resolution, documents_for, resolved};
+use serde_json::Value;
+use std::alloc::{AllocError, Global};
+use std::io::Write;
+
+/// Which versions fit together for manifests.
+#[derive(Clone, Copy)]
+pub struct Question<'q> {
+    pub manifests: &'q [Value],
+    pub options: Options<'q>,
+    pub omits: Omits,
+    /// So many steps are done at most, and so many again to find what cannot be installed together.
+    pub steps: u64,
+}
+
+/// How the program ends.
+#[derive(Clone, Copy, Debug, PartialEq, Eq, Drop)]
+pub enum Ending {
+    /// Versions fit together.
+    Selected,
+    /// No versions do.
+    NoSelection,
+    /// The steps were used up before either was known.
+    Undecided,
+}
+
+/// How the program ends, and the lines for standard error.
+#[derive(Drop)]
+pub struct Done {
+    pub ending: Ending,
+    pub notes: Vec<u8>,
+}
+
+/// The lines for standard output, and the rest of the reply.
+#[derive(Drop)]
+struct Reply {
+    lines: Vec<u8>,
+    done: Done,
+}
+
+/// Writes the lines of the reply to a question. `load` returns the document of a package, if there is one. Returns how the program
+/// ends, and the lines for standard error.
+///
+/// # Errors
+///
+/// - `Write`: a write failed. A beginning of the lines may have been written.
+/// - `Load`: what `load` returned for a package. Nothing was written, and so for the last one.
+/// - `Memory`: an allocation failed.
+///
+/// # Memory
+///
+/// Allocates all documents, what `resolved` allocates, and all lines.
+///
+/// # Examples
+///
+/// Where `a` has the version 1.0.0 alone, it writes `a@1.0.0` for a manifest that asks for `a` by `^1`.
+pub fn run<W: Write, F: Fn(&str) -> Result<Option<Value>, LoadError>>(
+    alloc: Global,
+    question: Question<'_>,
+    format: Format,
+    load: F,
+    writer: &mut W,
+) -> Result<Done, RunError>
+    requires { F.IsAlwaysCallable load }
+    ensures written { IfOk result (λ done. (text : List ℕ)
+        × IsReply (FnReturnsAt F.Fn load) question.entry format (done_value text done)
+        × Appends (W.contents writer.old) (W.contents writer.new) text) }
+    ensures failed { IfErr result (λ error. error ≢ RunError.Write
+        → IsFailure (FnReturnsAt F.Fn load) error × (writer.new ≡ writer.old)) }
+{
+    let reply = match reply_of(alloc, question, format, load) {
+        Ok(reply) => reply,
+        Err(error) => return Err(error),
+    };
+    match writer.write_all(reply.lines.as_slice()) {
+        Ok(()) => Ok(reply.done),
+        Err(_) => Err(RunError::Write),
+    }
+}
+
+/// The reply to a question.
+fn reply_of<F: Fn(&str) -> Result<Option<Value>, LoadError>>(
+    alloc: Global,
+    question: Question<'_>,
+    format: Format,
+    load: F,
+) -> Result<Reply, RunError>
+    requires { F.IsAlwaysCallable load }
+    ensures reply { IfOk result (λ reply. IsReply (FnReturnsAt F.Fn load) question.entry format (reply_value reply)) }
+    ensures failed { IfErr result (IsFailure (FnReturnsAt F.Fn load)) }
+{
+    let Question {
+        manifests,
+        options,
+        omits,
+        steps,
+    } = question;
+    let documents = match documents_for(alloc, manifests, &options, omits, load) {
+        Ok(documents) => documents,
+        Err(LoadError::Memory) => return Err(RunError::Memory),
+        Err(error) => return Err(RunError::Load(error)),
+    };
+    let answer = resolved(alloc, manifests, &documents, &options, omits, steps)?;
+    Ok(Reply {
+        lines: lines_of(alloc, &documents, &answer.resolution, format)?,
+        done: Done {
+            ending: ending_of(&answer.resolution),
+            notes: note_lines(alloc, &answer.left_out)?,
+        },
+    })
+}
+
+/// The lines of a resolution.
+fn lines_of(
+    alloc: Global,
+    documents: &[Document],
+    resolution: &Resolution<'_>,
+    format: Format,
+) -> Result<Vec<u8>, AllocError>
+    ensures { IfOk result (λ lines. AreLines format documents.now resolution.now lines.items) }
+{
+    match format {
+        Format::Text => text_lines(alloc, documents, resolution),
+        Format::Json => json_line(alloc, documents, resolution),
+    }
+}
+
+/// How the program ends with a resolution.
+fn ending_of(resolution: &Resolution<'_>) -> Ending
+    ensures { result ≡ Replies.ending_of resolution.now }
+{
+    match resolution {
+        Resolution::Selected(_) => Ending::Selected,
+        Resolution::NoSelection(_) => Ending::NoSelection,
+        Resolution::Undecided => Ending::Undecided,
+    }
+}

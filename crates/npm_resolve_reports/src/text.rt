@@ -1,0 +1,160 @@
+//! Lines for a person.
+ghost use Rattle.std.specs.Prelude.{◌≡◌, ◌++◌, IfOk, OnOk, map, string_bytes};
+ghost use Rattle.npm_candidates.specs.Asks.{ask_value};
+ghost use Rattle.npm_resolve.specs.Answers.{chosen_value};
+ghost use Rattle.npm_resolve_reports.specs.Texts as Texts;
+ghost use Rattle.npm_resolve_reports.specs.Texts.{AreTexts, AreTextLines};
+
+use crate::Result;
+use command_lines::push_shown;
+use npm_resolve::{Ask, Chosen, Document, Resolution};
+use npm_texts::filled;
+use std::alloc::Global;
+
+/// Returns the lines of a resolution: a line for each version that is selected, or what cannot be installed together.
+pub(crate) fn text_lines(
+    alloc: Global,
+    documents: &[Document],
+    resolution: &Resolution<'_>,
+) -> Result<Vec<u8>>
+    ensures { IfOk result (λ lines. AreTextLines documents.now resolution.now lines.items) }
+{
+    match resolution {
+        Resolution::Selected(chosen) => chosen_lines(alloc, chosen),
+        Resolution::NoSelection(Some(asks)) => culprit_lines(alloc, documents, asks),
+        Resolution::NoSelection(None) => unblamed_line(alloc),
+        Resolution::Undecided => Ok(Vec::new(alloc)),
+    }
+}
+
+/// A line for each version, in the order of the bytes.
+fn chosen_lines(alloc: Global, chosen: &[Chosen<'_>]) -> Result<Vec<u8>>
+    ensures { IfOk result (λ lines. AreTexts (map chosen_value chosen.now) lines.items) }
+{
+    let mut texts = chosen_texts(alloc, chosen)?;
+    texts.sort_unstable();
+    lines_of(alloc, &texts)
+}
+
+/// The texts of the versions.
+fn chosen_texts(alloc: Global, chosen: &[Chosen<'_>]) -> Result<Vec<String>>
+    ensures { IfOk result (λ texts. map string_bytes texts.items ≡ map Texts.chosen_text (map chosen_value chosen.now)) }
+{
+    let mut texts = Vec::with_capacity(alloc, chosen.len())?;
+    for one in chosen {
+        texts.push(chosen_text(alloc, *one)?)?;
+    }
+    Ok(texts)
+}
+
+/// The text of a version: `react@18.2.0`.
+fn chosen_text(alloc: Global, chosen: Chosen<'_>) -> Result<String>
+    ensures { IfOk result (λ text. string_bytes text ≡ Texts.chosen_text (chosen_value chosen.entry)) }
+{
+    let mut text = String::from_str(alloc, chosen.name)?;
+    text.push_str("@")?;
+    if chosen.name != chosen.package {
+        text.push_str("npm:")?;
+        text.push_str(chosen.package)?;
+        text.push_str("@")?;
+    }
+    text.push_str(chosen.key)?;
+    Ok(text)
+}
+
+/// A line for each text.
+fn lines_of(alloc: Global, texts: &[String]) -> Result<Vec<u8>>
+    ensures { IfOk result (λ lines. lines.items ≡ Texts.lines_of (map string_bytes texts.now)) }
+{
+    let mut lines = Vec::new(alloc);
+    for text in texts {
+        push_line(&mut lines, text.as_str())?;
+    }
+    Ok(lines)
+}
+
+/// Adds the line of a text.
+fn push_line(lines: &mut Vec<u8>, text: &str) -> Result<()>
+    ensures { OnOk result (lines.new.items ≡ lines.old.items ++ Texts.line_of text.now) }
+{
+    push_shown(lines, text)?;
+    lines.extend_from_slice(b"\n")
+}
+
+/// What cannot be installed together.
+fn culprit_lines(alloc: Global, documents: &[Document], asks: &[Ask<'_>]) -> Result<Vec<u8>>
+    ensures { IfOk result (λ lines. lines.items ≡ Texts.culprit_lines documents.now (map ask_value asks.now)) }
+{
+    let mut lines = Vec::new(alloc);
+    if asks.len() == 1 {
+        lines.extend_from_slice(b"This cannot be installed:\n")?;
+    } else {
+        lines.extend_from_slice(b"These cannot be installed together:\n")?;
+    }
+    for ask in asks {
+        push_culprit(&mut lines, documents, *ask)?;
+    }
+    Ok(lines)
+}
+
+/// Adds the line of a culprit.
+fn push_culprit(lines: &mut Vec<u8>, documents: &[Document], ask: Ask<'_>) -> Result<()>
+    ensures { OnOk result (lines.new.items ≡ lines.old.items ++ Texts.culprit_line documents.now (ask_value ask.entry)) }
+{
+    push_ask(lines, ask)?;
+    lines.extend_from_slice(asked_words(ask.needed).as_bytes())?;
+    lines.extend_from_slice(document_words(has_document(documents, ask.name)).as_bytes())?;
+    lines.extend_from_slice(b"\n")
+}
+
+/// Adds a name and its spec.
+fn push_ask(lines: &mut Vec<u8>, ask: Ask<'_>) -> Result<()>
+    ensures { OnOk result (lines.new.items ≡ lines.old.items ++ Texts.ask_words (ask_value ask.entry)) }
+{
+    lines.extend_from_slice(b"  ")?;
+    push_shown(lines, ask.name)?;
+    lines.extend_from_slice(b" ")?;
+    push_shown(lines, filled(ask.spec))
+}
+
+/// What the root does with a name.
+fn asked_words(needed: bool) -> &'static str
+    ensures { result.now ≡ Texts.asked_words needed }
+{
+    if needed {
+        ", which the root asks for"
+    } else {
+        ", to which the root limits it"
+    }
+}
+
+/// Whether there is a document.
+fn document_words(has_document: bool) -> &'static str
+    ensures { result.now ≡ Texts.document_words has_document }
+{
+    if has_document {
+        ""
+    } else {
+        ", and which has no document"
+    }
+}
+
+/// Returns `true` if a name has a document.
+pub(crate) fn has_document(documents: &[Document], name: &str) -> bool
+    ensures { result ≡ Texts.has_document documents.now name.now }
+{
+    documents
+        .iter()
+        .any(|document| document.name.as_str() == name)
+}
+
+/// What is said if it takes too long to find what cannot be installed together.
+fn unblamed_line(alloc: Global) -> Result<Vec<u8>>
+    ensures { IfOk result (λ line. line.items ≡ Texts.unblamed_line) }
+{
+    let mut line = Vec::new(alloc);
+    line.extend_from_slice(
+        b"No versions fit together. To say what cannot be installed together takes more steps.\n",
+    )?;
+    Ok(line)
+}

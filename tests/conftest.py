@@ -1,0 +1,77 @@
+"""Makes a test of each row of `programs/` and of `rows/`, and counts what ran. README.md says how to add one."""
+import os
+import shlex
+
+import pytest
+
+from support import call_rows, counts, documents, rows
+
+
+def pytest_collect_file(parent, file_path):
+    if file_path.suffix == ".rows":
+        return RowsFile.from_parent(parent, path=file_path)
+    if file_path.suffix == ".tsv" and file_path.parent.name == "rows":
+        return CallsFile.from_parent(parent, path=file_path)
+    if file_path.suffix == ".calls":
+        return DocumentsFile.from_parent(parent, path=file_path)
+    return None
+
+
+class Wrong(Exception):
+    """A row whose run is not as it says."""
+
+
+class Row(pytest.Item):
+    """A row of either kind of file."""
+
+    def __init__(self, *, case, **more):
+        super().__init__(**more)
+        self.case = case
+
+    def faults(self):
+        return rows.fault(self.case, self.path.parent.name)
+
+    def runtest(self):
+        told = self.faults()
+        if told:
+            raise Wrong("\n".join(told))
+
+    def repr_failure(self, excinfo, style=None):
+        if not isinstance(excinfo.value, Wrong):
+            return super().repr_failure(excinfo, style)
+        place = os.path.relpath(self.path)
+        alone = shlex.quote(f"{place}::{self.name}")
+        return f"{place}:{self.case.line}: {self.name}\n{excinfo.value}\n    the row alone:\n        /usr/bin/python3 -m pytest {alone}"
+
+    def reportinfo(self):
+        return self.path, self.case.line - 1, self.name
+
+
+class CallRow(Row):
+    def faults(self):
+        return list(self.case.faults())
+
+
+class RowsFile(pytest.File):
+    ROW, READ = Row, staticmethod(rows.read)
+
+    def collect(self):
+        names = set()
+        for case in self.READ(self.path):
+            if case.name in names:
+                raise rows.Malformed(f"{self.path}:{case.line}: there are two rows of the name {case.name}")
+            names.add(case.name)
+            yield self.ROW.from_parent(self, name=case.name, case=case)
+
+
+class CallsFile(RowsFile):
+    ROW, READ = CallRow, staticmethod(call_rows.read)
+
+
+class DocumentsFile(RowsFile):
+    ROW, READ = CallRow, staticmethod(documents.read)
+
+
+def pytest_configure(config):
+    if not hasattr(config, "workerinput"):
+        config.pluginmanager.register(counts.Counts(config))

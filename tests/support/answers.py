@@ -1,0 +1,73 @@
+"""Calls of the libraries, by programs that read a call a line, a JSON array of its name and its arguments, and write its answer, a JSON
+string a line. A program runs until the tests end, and each process of pytest has its own."""
+import atexit
+import functools
+import json
+import shlex
+import subprocess
+import threading
+
+from support import programs
+
+
+SECONDS = 120  # A call that takes longer is ended.
+
+
+class Ended(Exception):
+    """A program ended in place of an answer."""
+
+
+@functools.cache
+def running(program):
+    ran = subprocess.Popen([programs.built(program)], stdin=subprocess.PIPE, stdout=subprocess.PIPE)
+    atexit.register(end, ran)
+    return ran
+
+
+def end(ran):
+    ran.stdin.close()
+    ran.stdout.close()
+    ran.wait()
+
+
+def line_of(call, *arguments):
+    return json.dumps([call, *arguments], ensure_ascii=False)
+
+
+def alone(program, call, *arguments):
+    """The words of a shell that ask one call."""
+    return f"printf '%s\\n' {shlex.quote(line_of(call, *arguments))} | {programs.built(program)}"
+
+
+def ask(program, call, *arguments):
+    """The answer of a call. A program that has ended is started anew for the next one."""
+    ran = running(program)
+    line = answer_line(ran, line_of(call, *arguments).encode() + b"\n")
+    if not line.endswith(b"\n"):
+        running.cache_clear()
+        raise Ended(f"{program} ended with status {ran.wait()}, and without an answer")
+    return json.loads(line)
+
+
+def answer_line(ran, line):
+    """The line that a program writes for this one, or what it has written of it when it ended."""
+    timer = threading.Timer(SECONDS, ran.kill)
+    timer.start()
+    try:
+        ran.stdin.write(line)
+        ran.stdin.flush()
+        return ran.stdout.readline()
+    except OSError:
+        return b""
+    finally:
+        timer.cancel()
+
+
+def ask_all(program, calls):
+    """The answers of calls, each a list of a name and arguments, in one run of a program: for many made cases."""
+    given = "".join(f"{line_of(*call)}\n" for call in calls)
+    ran = subprocess.run([programs.built(program)], input=given.encode(), capture_output=True)
+    lines = ran.stdout.split(b"\n")[:-1]
+    if ran.returncode or len(lines) != len(calls):
+        raise Ended(f"{program} ended with status {ran.returncode} after {len(lines)} answers of {len(calls)}: {ran.stderr.decode()}")
+    return [json.loads(line) for line in lines]

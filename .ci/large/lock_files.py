@@ -130,12 +130,12 @@ def version_one():
 def check_rows():
     for case in cases():
         words = [text_of(case.lock), text_of(case.manifest) if case.manifest else "", case.node or ""]
-        yield "npm_lock_version_one::check_any", words, case.result()
+        yield "npm_lock::check_any", words, case.result()
         if case.lock["lockfileVersion"] == 3:
             yield "npm_lock::check", words, case.result()
     one = version_one()
     packages = {"": asked("^2"), **at_root("1.0.0", dependencies={"z": "1"})}
-    yield "npm_lock_version_one::convert", [text_of(one.lock), text_of(one.manifest)], text_of({"lockfileVersion": 3, "packages": packages})
+    yield "npm_lock::convert", [text_of(one.lock), text_of(one.manifest)], text_of({"lockfileVersion": 3, "packages": packages})
 
 
 def listed(found):
@@ -157,14 +157,14 @@ def manifest_rows():
             both = [mismatch(name, group, at, locked="^1", spec="^2") for name in NAMES]
             one = [mismatch(name, group, at, locked="^1") for name in NAMES]
             other = [mismatch(name, group, at, spec="^2") for name in NAMES]
-            yield "npm_manifests::mismatches_of", [text_of(lock), text_of(asked("^2", group)), at], listed(both)
-            yield "npm_manifests::mismatches_of", [text_of(lock), "{}", at], listed(one)
-            yield "npm_manifests::mismatches_of", [text_of(lock), text_of(asked("^1", group)), at], "nothing"
+            yield "npm_lock::mismatches_of", [text_of(lock), text_of(asked("^2", group)), at], listed(both)
+            yield "npm_lock::mismatches_of", [text_of(lock), "{}", at], listed(one)
+            yield "npm_lock::mismatches_of", [text_of(lock), text_of(asked("^1", group)), at], "nothing"
             empty = {"lockfileVersion": 3, "packages": {at: {}}}
-            yield "npm_manifests::mismatches_of", [text_of(empty), text_of(asked("^2", group)), at], listed(other)
+            yield "npm_lock::mismatches_of", [text_of(empty), text_of(asked("^2", group)), at], listed(other)
         put = {"lockfileVersion": 3, "packages": {"": {**asked("^2", group), **dict.fromkeys(["dev", "link", "optional", "peer"], False)}}}
         lock = {"lockfileVersion": 3, "packages": {"": asked("^1", group)}}
-        yield "npm_manifests::put_manifest", [text_of(lock), text_of(asked("^2", group)), ""], text_of(put)
+        yield "npm_lock::put_manifest", [text_of(lock), text_of(asked("^2", group)), ""], text_of(put)
     links = {f"node_modules/{name}": {"link": True, "resolved": f"w/{name}"} for name in NAMES}
     folders = {f"w/{name}": {} for name in NAMES}
     yield "npm_packages::linked_folders", [text_of({"packages": {**links, **folders}})], "".join(f"w/{name}\t" for name in NAMES)

@@ -8,7 +8,7 @@ import pytest
 from support import programs, rows
 
 SOURCES = ["npm_lock_check/src/*.rt", "npm_lock_program/src/arguments/*.rt", "npm_lock_program/src/checks/*.rt", "npm_packages/src/fault.rt",
-           "npm_advisory_files/src/fault.rt"]
+           "npm_advisories/src/fault.rt"]
 
 
 def texts():

@@ -6,14 +6,14 @@ use Rattle.std.proofs.lemmas.Bool.{eqb-true}
 use Rattle.std.proofs.lemmas.List.{map-append, nil_from_length, take_more}
 use Rattle.std.proofs.lemmas.Slice.Eq.{bytes_eq-Decides}
 use Rattle.node_semver.specs.Versions.{VersionValue}
-use Rattle.npm_advisory_files.specs.Advisories.{AdvisoryValue, about_name}
+use Rattle.npm_advisories.specs.Advisories.{AdvisoryValue, about_name}
 use Rattle.npm_advisories.specs.Audit.{FoundValue, InstalledValue, IsAudit, IsFound, IsSpared, found_value, hit}
 use Rattle.npm_advisories.specs.Audit.{installed_value, names_of, none, spared}
 use Rattle.npm_advisories.specs.Files.{is_among}
 use Rattle.npm_advisories.specs.Private.Auditing.{IsFoundOf}
 use Rattle.npm_advisories.specs.declared.found.Found.{Found}
 use Rattle.npm_advisories.specs.declared.found.Installed.{Installed}
-use Rattle.npm_advisory_files.specs.declared.severity.Severity.{Severity}
+use Rattle.npm_advisories.specs.declared.severity.Severity.{Severity}
 
 module _ (level : Severity) (values : List AdvisoryValue) (one : InstalledValue) where
   one-spared : (before : List InstalledValue) (found : List FoundValue) → IsAudit level values before found

@@ -13,7 +13,7 @@ use Rattle.node_semver.specs.Cuts.{Before, Cut}
 use Rattle.node_semver.specs.Ranges.{IsInside, RangeContains}
 use Rattle.node_semver.specs.Versions.{IsPrerelease, VersionValue, version_cmp}
 use Rattle.npm_advisories.specs.Private.Covering.{AreCovered, HaveReleases, IsAligned, IsAlignedTo}
-use Rattle.npm_advisory_files.specs.Lemmas.Spans.{Have, span_list}
+use Rattle.npm_advisories.specs.Lemmas.Spans.{Have, span_list}
 
 -- ---- one set
 

@@ -1,1 +1,2 @@
 pub mod FormExamples
+pub mod OsvExamples

@@ -2,12 +2,12 @@
 use Rattle.std.proofs.Common.{◌≡◌, ℕ, List, Bool, Option, subst, sym}
 use Rattle.serde_json.specs.Data.{Data}
 use Rattle.npm_advisories.specs.Files.{IsAuditError, IsFileFault, file_fault, is_among}
-use Rattle.npm_advisory_files.specs.Faults.{FaultValue}
-use Rattle.npm_advisory_files.specs.Lemmas.VersionTests.{only-test}
-use Rattle.npm_advisory_files.specs.Private.Reading.{IsErrorOf}
-use Rattle.npm_advisory_files.specs.Private.VersionTest.{is_version}
-use Rattle.npm_advisory_files.specs.declared.fault.AuditError.{AuditError}
-use Rattle.npm_advisory_files.specs.declared.fault.AuditError.TheVariants as Errors
+use Rattle.npm_advisories.specs.Faults.{FaultValue}
+use Rattle.npm_advisories.specs.Lemmas.VersionTests.{only-test}
+use Rattle.npm_advisories.specs.Private.Reading.{IsErrorOf}
+use Rattle.npm_advisories.specs.Private.VersionTest.{is_version}
+use Rattle.npm_advisories.specs.declared.fault.AuditError.{AuditError}
+use Rattle.npm_advisories.specs.declared.fault.AuditError.TheVariants as Errors
 
 module _ (names : List (List ℕ)) (is_wanted : List ℕ → Bool) (same : (name : List ℕ) → is_wanted name ≡ is_among names name)
     (file : Data) where

@@ -2,12 +2,12 @@
 use Rattle.std.proofs.Common.{◌≡◌, ◌++◌, ◌∙◌, ℕ, List, ap, drop, map, subst, take}
 use Rattle.std.proofs.lemmas.List.{map-append, take-append-drop}
 use Rattle.node_semver.specs.Versions.{VersionValue}
-use Rattle.npm_advisory_files.specs.Advisories.{about_value}
+use Rattle.npm_advisories.specs.Advisories.{about_value}
 use Rattle.npm_advisories.specs.Hits.{AreKept, kept, left, none}
 use Rattle.npm_advisories.specs.Private.Spans.{IsHitBy}
-use Rattle.npm_advisory_files.specs.declared.advisory.About.{About}
-use Rattle.npm_advisory_files.specs.declared.advisory.Advisory.{Advisory}
-use Rattle.npm_advisory_files.specs.declared.severity.Severity.{Severity}
+use Rattle.npm_advisories.specs.declared.advisory.About.{About}
+use Rattle.npm_advisories.specs.declared.advisory.Advisory.{Advisory}
+use Rattle.npm_advisories.specs.declared.severity.Severity.{Severity}
 use Rattle.std.proofs.Common.{Option}
 
 -- the elements of two lists that are kept

@@ -5,16 +5,16 @@ use Rattle.std.proofs.lemmas.List.{map-append, take_more}
 use Rattle.std.specs.List.{AllZip}
 use Rattle.semver_cuts.specs.Ends.{Ends}
 use Rattle.node_semver.specs.Versions.{VersionValue}
-use Rattle.npm_advisory_files.specs.Advisories.{AboutValue, AdvisoryValue, about_value}
+use Rattle.npm_advisories.specs.Advisories.{AboutValue, AdvisoryValue, about_value}
 use Rattle.npm_advisories.specs.Hits.{AreHits, AreKept, IsAbout, IsHit, kept, left, none}
 use Rattle.npm_advisories.specs.Offers.{IsAdmitted, IsAffected, IsUnhit}
 use Rattle.npm_advisories.specs.Private.Covering.{AreCovered}
 use Rattle.npm_advisories.specs.Private.Offering.{IsAdmittedBy, IsUnhitBy}
-use Rattle.npm_advisory_files.specs.Index.{IsAdvisory}
+use Rattle.npm_advisories.specs.Index.{IsAdvisory}
 use Rattle.npm_advisories.specs.Private.Spans.{IsHitBy, IsIn, IsInRange, IsPast}
-use Rattle.npm_advisory_files.specs.Severities.{is_at_least}
-use Rattle.npm_advisory_files.specs.declared.advisory.Advisory.{Advisory}
-use Rattle.npm_advisory_files.specs.declared.severity.Severity.{Severity}
+use Rattle.npm_advisories.specs.Severities.{is_at_least}
+use Rattle.npm_advisories.specs.declared.advisory.Advisory.{Advisory}
+use Rattle.npm_advisories.specs.declared.severity.Severity.{Severity}
 
 module _ {A B : Type 0} (Holds : A → Type 0) (seen : A → B) (x : A) where
   one-kept : (xs : List A) (ys : List B) → AreKept Holds seen xs ys → Holds x

@@ -4,7 +4,7 @@ use Rattle.semver_versions.specs.Lemmas.Public.{is-version_in, version_in}
 use Rattle.node_semver.specs.Ranges.{IsRangeEnd}
 use Rattle.node_semver.specs.Versions.{IsVersionText, VersionValue, least_of}
 use Rattle.npm_advisories.specs.Audit.{version_or_least}
-use Rattle.npm_advisory_files.specs.Lemmas.Versions.{version-end}
+use Rattle.npm_advisories.specs.Lemmas.Versions.{version-end}
 
 pub least-text : IsVersionText (codes "0.0.0-0") (least_of 0 0 0)
 unfolding version_in

@@ -17,3 +17,9 @@ pub mod Covering
 pub mod ReleaseCuts
 pub mod SpanPlaces
 pub mod FreeReleases
+pub mod OsvSpans
+pub mod OsvGoing
+pub mod OsvMarks
+pub mod OsvEnds
+pub mod OsvBetween
+pub mod ReadVersions

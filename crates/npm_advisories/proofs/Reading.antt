@@ -6,19 +6,19 @@ use Rattle.std.specs.Option.{option_or}
 use Rattle.serde_json.specs.Data.{Data}
 use Rattle.serde_json.specs.View.{items_view, view}
 use Rattle.serde_json.specs.declared.value.Value.{Value}
-use Rattle.npm_advisory_files.specs.Advisories.{AdvisoryValue, npm_advisory, npm_list}
-use Rattle.npm_advisory_files.specs.Faults.{FaultValue, fault_at, list_fault}
-use Rattle.npm_advisory_files.specs.Ids.{IdValue, id_in}
-use Rattle.npm_advisory_files.specs.Lemmas.Items.{left}
-use Rattle.npm_advisory_files.specs.OsvFaults.{osv_fault, osv_list_fault}
-use Rattle.npm_advisory_files.specs.OsvPackages.{told_name}
-use Rattle.npm_advisory_files.specs.Private.Reading.{IsErrorAt, IsErrorOf, IsUnreadAs, at_place}
-use Rattle.npm_advisory_files.specs.Private.VersionTest.{is_version}
-use Rattle.npm_advisory_files.specs.declared.fault.AuditError.{AuditError}
-use Rattle.npm_advisory_files.specs.declared.fault.AuditError.TheVariants as Errors
-use Rattle.npm_advisory_files.specs.declared.fault.FaultKind.{FaultKind}
-use Rattle.npm_advisory_files.specs.declared.fault.Unread.{Unread}
-use Rattle.npm_advisory_files.specs.declared.fault.Unread.TheVariants.{Memory, Refused}
+use Rattle.npm_advisories.specs.Advisories.{AdvisoryValue, npm_advisory, npm_list}
+use Rattle.npm_advisories.specs.Faults.{FaultValue, fault_at, list_fault}
+use Rattle.npm_advisories.specs.Ids.{IdValue, id_in}
+use Rattle.npm_advisories.specs.Lemmas.Items.{left}
+use Rattle.npm_advisories.specs.OsvFaults.{osv_fault, osv_list_fault}
+use Rattle.npm_advisories.specs.OsvPackages.{told_name}
+use Rattle.npm_advisories.specs.Private.Reading.{IsErrorAt, IsErrorOf, IsUnreadAs, at_place}
+use Rattle.npm_advisories.specs.Private.VersionTest.{is_version}
+use Rattle.npm_advisories.specs.declared.fault.AuditError.{AuditError}
+use Rattle.npm_advisories.specs.declared.fault.AuditError.TheVariants as Errors
+use Rattle.npm_advisories.specs.declared.fault.FaultKind.{FaultKind}
+use Rattle.npm_advisories.specs.declared.fault.Unread.{Unread}
+use Rattle.npm_advisories.specs.declared.fault.Unread.TheVariants.{Memory, Refused}
 
 -- the error of the first advisory that is not read is that of the list
 pub error-of : (unread : Unread) (name : List ℕ) (place : ℕ) (id : Option IdValue) (error : AuditError)

@@ -12,7 +12,7 @@ use Rattle.node_semver.specs.Versions.{HasSameTriple, IsBelow, IsPlain, IsPrerel
 use Rattle.node_semver.specs.Versions.{release, version_cmp}
 use Rattle.semver_texts.specs.Order.{before_release, by_identifiers, by_major, by_minor, by_patch}
 use Rattle.npm_advisories.specs.Private.Covering.{IsAlignedTo, IsReleaseAbove}
-use Rattle.npm_advisory_files.specs.Lemmas.Versions.{below-or_not, cmp-means, up-to}
+use Rattle.npm_advisories.specs.Lemmas.Versions.{below-or_not, cmp-means, up-to}
 
 -- a version without prerelease and build is the release with its numbers
 pub plain-same : (v : VersionValue) → IsPlain v → release v.major v.minor v.patch ≡ v

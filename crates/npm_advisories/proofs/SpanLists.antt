@@ -8,9 +8,9 @@ use Rattle.semver_cuts.specs.Lemmas.Lists.{any-either, any-left, any-right}
 use Rattle.node_semver.specs.RangeAlgebra.{sets_of_answer}
 use Rattle.node_semver.specs.Ranges.{IsInside, IsRangeSet, RangeAdmits, RangeContains}
 use Rattle.node_semver.specs.Versions.{IsPrerelease, VersionValue}
-use Rattle.npm_advisory_files.specs.Lemmas.Spans.{Have, have-more}
+use Rattle.npm_advisories.specs.Lemmas.Spans.{Have, have-more}
 use Rattle.npm_advisories.specs.Private.Spans.{IsInRange}
-use Rattle.npm_advisory_files.specs.declared.advisory.Advisory.{Advisory}
+use Rattle.npm_advisories.specs.declared.advisory.Advisory.{Advisory}
 use Rattle.npm_advisories.proofs.Releases.{admitted-contained, contained-admitted, contains-or_not}
 
 -- ---- the sets of advisories

@@ -6,8 +6,8 @@ use Rattle.serde_json.specs.View.{items_view, view}
 use Rattle.serde_json.specs.declared.value.Value.{Value}
 use Rattle.json_places.specs.Steps.{StepValue, to_item}
 use Rattle.npm_advisories.specs.FaultSteps.{steps_among}
-use Rattle.npm_advisory_files.specs.declared.fault.FaultKind.{FaultKind}
-use Rattle.npm_advisory_files.specs.Lemmas.Items.{left, left-none}
+use Rattle.npm_advisories.specs.declared.fault.FaultKind.{FaultKind}
+use Rattle.npm_advisories.specs.Lemmas.Items.{left, left-none}
 
 module _ (fault_of : Data → Option FaultKind) (steps_of : Data → List StepValue) (entries : List Value) (i : ℕ)
     (whole : List StepValue) (before : whole ≡ steps_among fault_of steps_of i (items_view (drop i entries))) where

@@ -3,10 +3,10 @@ use Rattle.std.proofs.Common.{◌≡◌, ℕ, List, [], Bool, true, false, cond,
 use Rattle.std.proofs.Common.{refl, subst}
 use Rattle.std.proofs.lemmas.Slice.Eq.{bytes_eq-Decides}
 use Rattle.std.specs.Option.{MatchOption}
-use Rattle.npm_advisory_files.specs.Index.{at_name}
+use Rattle.npm_advisories.specs.Index.{at_name}
 use Rattle.npm_advisories.specs.Private.Unions.{IsUnion}
 use Rattle.npm_advisories.specs.declared.unions.Union.{Union}
-use Rattle.npm_advisory_files.specs.declared.index.Index.{Index}
+use Rattle.npm_advisories.specs.declared.index.Index.{Index}
 
 module _ (index : Index) where
   -- the union at a name, if there is one, is that of the advisories about this package

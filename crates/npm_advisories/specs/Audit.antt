@@ -1,13 +1,13 @@
 -- What an audit finds: npm's "npm audit".
 use Rattle.std.specs.Prelude.{◌≡◌, ◌≢◌, ℕ, List, [], ◌∷◌, Option, Some, None, map}
 use Rattle.node_semver.specs.Versions.{VersionValue, least_of}
-use Rattle.npm_advisory_files.specs.Advisories.{AboutValue, AdvisoryValue, about_name, about_value}
-use Rattle.npm_advisory_files.specs.ReadVersions.{IsReadAs}
+use Rattle.npm_advisories.specs.Advisories.{AboutValue, AdvisoryValue, about_name, about_value}
+use Rattle.npm_advisories.specs.ReadVersions.{IsReadAs}
 use Rattle.npm_advisories.specs.Hits.{AreHits}
 use Rattle.npm_advisories.specs.Offers.{IsAdmitted, IsLeastOrNone, IsUnhit}
 use Rattle.npm_advisories.specs.declared.found.Found.{Found}
 use Rattle.npm_advisories.specs.declared.found.Installed.{Installed}
-use Rattle.npm_advisory_files.specs.declared.severity.Severity.{Severity}
+use Rattle.npm_advisories.specs.declared.severity.Severity.{Severity}
 
 -- an installed package: the text of its version, and the range texts of its dependents
 pub record InstalledValue : Type 0 where

@@ -5,17 +5,17 @@ use Rattle.std.specs.Option.{option_map_or}
 use Rattle.serde_json.specs.Data.{Data, Items, item, no_items}
 use Rattle.serde_json.specs.Find.{as_array, at, get}
 use Rattle.json_places.specs.Steps.{StepValue, to_item, to_member}
-use Rattle.npm_advisory_files.specs.Faults.{FaultValue}
+use Rattle.npm_advisories.specs.Faults.{FaultValue}
 use Rattle.npm_advisories.specs.Audit.{InstalledValue, names_of}
 use Rattle.npm_advisories.specs.Files.{is_among, is_osv}
 use Rattle.npm_advisories.specs.LockFile.{AreInstalledOf}
-use Rattle.npm_advisory_files.specs.VersionTest.{IsVersionTest}
-use Rattle.npm_advisory_files.specs.OsvPackages.{package_fault}
-use Rattle.npm_advisory_files.specs.OsvFaults.{affected_fault, event_fault, events_fault, osv_range_fault, ranges_fault}
-use Rattle.npm_advisory_files.specs.OsvFaults.{type_fault, version_text_fault, versions_fault}
-use Rattle.npm_advisory_files.specs.OsvForm.{items_at}
-use Rattle.npm_advisory_files.specs.declared.fault.FaultKind.{FaultKind}
-use Rattle.npm_advisory_files.specs.declared.fault.FaultKind.TheVariants as Faults
+use Rattle.npm_advisories.specs.VersionTest.{IsVersionTest}
+use Rattle.npm_advisories.specs.OsvPackages.{package_fault}
+use Rattle.npm_advisories.specs.OsvFaults.{affected_fault, event_fault, events_fault, osv_range_fault, ranges_fault}
+use Rattle.npm_advisories.specs.OsvFaults.{type_fault, version_text_fault, versions_fault}
+use Rattle.npm_advisories.specs.OsvForm.{items_at}
+use Rattle.npm_advisories.specs.declared.fault.FaultKind.{FaultKind}
+use Rattle.npm_advisories.specs.declared.fault.FaultKind.TheVariants as Faults
 
 -- the step to the member of this name; none if it is absent, and then the object that has to have it is at fault
 abbrev pub step_in : (name : List ℕ) → (entry : Data) → List StepValue

@@ -4,15 +4,15 @@ use Rattle.std.specs.List.{list_any}
 use Rattle.std.specs.Option.{option_map_or}
 use Rattle.serde_json.specs.Data.{Data}
 use Rattle.serde_json.specs.Find.{as_array, as_object}
-use Rattle.npm_advisory_files.specs.Advisories.{AdvisoryValue, npm_members, text_of}
-use Rattle.npm_advisory_files.specs.Faults.{FaultValue, fault_at, fault_value, npm_file_fault}
-use Rattle.npm_advisory_files.specs.Ids.{id_in}
-use Rattle.npm_advisory_files.specs.OsvFaults.{osv_fault, osv_list_fault}
-use Rattle.npm_advisory_files.specs.OsvForm.{osv_advisories, osv_list}
-use Rattle.npm_advisory_files.specs.OsvPackages.{told_name}
-use Rattle.npm_advisory_files.specs.VersionTest.{IsVersionTest}
-use Rattle.npm_advisory_files.specs.declared.fault.AuditError.{AuditError}
-use Rattle.npm_advisory_files.specs.declared.fault.AuditError.TheVariants as Errors
+use Rattle.npm_advisories.specs.Advisories.{AdvisoryValue, npm_members, text_of}
+use Rattle.npm_advisories.specs.Faults.{FaultValue, fault_at, fault_value, npm_file_fault}
+use Rattle.npm_advisories.specs.Ids.{id_in}
+use Rattle.npm_advisories.specs.OsvFaults.{osv_fault, osv_list_fault}
+use Rattle.npm_advisories.specs.OsvForm.{osv_advisories, osv_list}
+use Rattle.npm_advisories.specs.OsvPackages.{told_name}
+use Rattle.npm_advisories.specs.VersionTest.{IsVersionTest}
+use Rattle.npm_advisories.specs.declared.fault.AuditError.{AuditError}
+use Rattle.npm_advisories.specs.declared.fault.AuditError.TheVariants as Errors
 
 -- A list is OSV's form, and so is an object whose `id` is a string. In npm's form each member is a list, also that of a
 -- package whose name is `id`

@@ -3,9 +3,9 @@ use Rattle.std.specs.Prelude.{ℕ, List, map, Option, Some, None, codes}
 use Rattle.serde_json.specs.Data.{Data, Members, array, no_members, object, put, string}
 use Rattle.serde_json.specs.View.{items_of}
 use Rattle.node_semver.specs.Versions.{VersionValue, version_text}
-use Rattle.npm_advisory_files.specs.Advisories.{AboutValue}
+use Rattle.npm_advisories.specs.Advisories.{AboutValue}
 use Rattle.npm_advisories.specs.Audit.{FoundValue}
-use Rattle.npm_advisory_files.specs.Severities.{word_of}
+use Rattle.npm_advisories.specs.Severities.{word_of}
 
 -- the members with a string, if there is a text
 abbrev pub with_text : (key : List ℕ) → Option (List ℕ) → Members → Members

@@ -1,9 +1,9 @@
 -- Which advisories hit an installed version.
 use Rattle.std.specs.Prelude.{◌≡◌, List, [], ◌∷◌, Option, Some, None, true}
 use Rattle.node_semver.specs.Versions.{VersionValue}
-use Rattle.npm_advisory_files.specs.Advisories.{AboutValue, AdvisoryValue, Affected, Affects}
-use Rattle.npm_advisory_files.specs.Severities.{is_at_least}
-use Rattle.npm_advisory_files.specs.declared.severity.Severity.{Severity}
+use Rattle.npm_advisories.specs.Advisories.{AboutValue, AdvisoryValue, Affected, Affects}
+use Rattle.npm_advisories.specs.Severities.{is_at_least}
+use Rattle.npm_advisories.specs.declared.severity.Severity.{Severity}
 
 -- the elements of a list for which something holds, in the list's order, each by its value
 pub data AreKept {A B : Type 0} (Holds : A → Type 0) (seen : A → B) : List A → List B → Type 0 where

@@ -1,5 +1,4 @@
--- What the contracts of this crate say: all of it that is trusted, in reading order. What an advisory says, and what is wrong with
--- one, the crate `npm_advisory_files` says.
+-- What the contracts of this crate say: all of it that is trusted, in reading order.
 -- `IsAudit` of Audit is the claim of `audit`, `file_fault` of Files says what it refuses, and `found_data` of FoundJson
 -- is the JSON object for a package. All other words are there for these three.
 
@@ -15,5 +14,21 @@ pub mod FoundJson  -- a package that is hit as a JSON object
 pub mod LockFile  -- its installed packages
 pub mod LockFaults  -- why there is no audit of it
 pub mod FaultSteps  -- where in a file of advisories a fault is
--- ---- not part of any public contract: what private functions compute
+-- ---- what advisories say
+pub mod Severities  -- how severe an advisory is
+pub mod VersionTest  -- a test for the texts of versions
+pub mod ReadVersions  -- how the text of a version is read
+pub mod OsvRanges  -- which versions the ranges of OSV's form have
+pub mod Advisories  -- what an advisory says, and which versions it is about; npm's form
+pub mod Timestamps  -- times
+pub mod OsvForm  -- OSV's form
+-- ---- what is wrong with an advisory
+pub mod Ids  -- what an error calls an advisory
+pub mod Faults  -- which values are no advisories in npm's form
+pub mod OsvPackages  -- which packages an OSV object is about
+pub mod OsvFaults  -- which values are no advisories in OSV's form
+-- ---- advisories that were read
+pub mod Index  -- by the names of packages
+-- ---- not part of any public contract: what private functions compute, and lemmas
 pub mod Private
+pub mod Lemmas

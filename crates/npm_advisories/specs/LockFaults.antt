@@ -3,7 +3,7 @@ use Rattle.std.specs.Prelude.{◌≡◌, List, Option, Some}
 use Rattle.serde_json.specs.Data.{Data}
 use Rattle.npm_packages.specs.Faults.{lock_fault}
 use Rattle.npm_advisories.specs.Audit.{InstalledValue, names_of}
-use Rattle.npm_advisory_files.specs.Faults.{FaultValue, fault_value}
+use Rattle.npm_advisories.specs.Faults.{FaultValue, fault_value}
 use Rattle.npm_advisories.specs.Files.{IsFileFault}
 use Rattle.npm_advisories.specs.LockFile.{AreInstalledOf}
 use Rattle.npm_advisories.specs.declared.lock.LockError.{LockError}

@@ -4,7 +4,7 @@ use Rattle.serde_json.specs.Data.{Data, Members, member, no_members, object}
 use Rattle.serde_json.specs.Find.{get}
 use Rattle.npm_packages.specs.Dependents.{AreDependents}
 use Rattle.npm_packages.specs.Packages.{is_link}
-use Rattle.npm_advisory_files.specs.Advisories.{text_of}
+use Rattle.npm_advisories.specs.Advisories.{text_of}
 use Rattle.npm_advisories.specs.Audit.{InstalledValue}
 use Rattle.npm_packages.specs.LastParts.{IsEnd}
 

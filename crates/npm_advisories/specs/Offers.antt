@@ -9,7 +9,7 @@ use Rattle.node_semver.specs.Least.{IsLeastOf, IsNoneOf}
 use Rattle.npm_semver.specs.NpmRanges.{NpmOptions, NpmTextAdmits, with_plain_spaces}
 use Rattle.node_semver.specs.Ranges.{AnyByRecursion}
 use Rattle.node_semver.specs.Versions.{IsBelow, IsPrerelease, VersionValue}
-use Rattle.npm_advisory_files.specs.Advisories.{AdvisoryValue, Affects}
+use Rattle.npm_advisories.specs.Advisories.{AdvisoryValue, Affects}
 
 -- one of the advisories is about the version
 abbrev pub IsAffected : List AdvisoryValue → VersionValue → Type 0

@@ -12,7 +12,7 @@ ghost use Rattle.node_semver.specs.Ranges.{IsInside, IsRangeSet, RangeContains};
 ghost use Rattle.node_semver.specs.Versions.{IsPlain, VersionValue, version_cmp};
 ghost use Rattle.npm_advisories.specs.Offers.{IsLeastOrNone};
 ghost use Rattle.npm_advisories.specs.Private.Covering.{AreCovered, AreSteps, HaveReleases, IsFreeFrom, IsFreeOfBoth};
-ghost use Rattle.npm_advisory_files.specs.Lemmas.Spans.{span_list};
+ghost use Rattle.npm_advisories.specs.Lemmas.Spans.{span_list};
 
 use crate::Result;
 use crate::release::{aligned, release_at, release_of, release_past};

@@ -3,20 +3,19 @@ ghost use Rattle.std.specs.Prelude.{◌≡◌, List, IfErr, IfOk, None, OnOk, Op
 ghost use Rattle.std.specs.List.{AllZip};
 ghost use Rattle.std.specs.Option.{MatchOption};
 ghost use Rattle.serde_json.specs.View.{view};
-ghost use Rattle.npm_advisory_files.specs.Advisories.{AdvisoryValue, about_name};
+ghost use Rattle.npm_advisories.specs.Advisories.{AdvisoryValue, about_name};
 ghost use Rattle.npm_advisories.specs.Audit.{IsAudit, IsSpared, found_value, installed_value, names_of};
 ghost use Rattle.npm_advisories.specs.Files.{IsAuditError, IsFileFault, advisories_of, is_among};
 ghost use Rattle.npm_advisories.specs.Private.Auditing.{IsFoundOf};
-ghost use Rattle.npm_advisory_files.specs.Index.{IsAdvisory, IsIndex, at_name};
+ghost use Rattle.npm_advisories.specs.Index.{IsAdvisory, IsIndex, at_name};
 ghost use Rattle.npm_advisories.specs.Private.Unions.{IsKnown};
 
-use crate::Result;
 use crate::names::names_of;
 use crate::offer::offer_above;
 use crate::read::read_file;
 use crate::unions::Unions;
+use crate::{About, AuditError, Index, Result, Severity, read_version};
 use node_semver::Version;
-use npm_advisory_files::{About, AuditError, Index, Severity, read_version};
 use serde_json::Value;
 use std::alloc::Global;
 

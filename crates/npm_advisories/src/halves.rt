@@ -3,18 +3,17 @@ ghost use Rattle.std.specs.Prelude.{◌≡◌, ◌++◌, ◌↔◌, IfOk, IsTrue
 ghost use Rattle.node_semver.specs.RangeAlgebra.{sets_of_answer};
 ghost use Rattle.node_semver.specs.Ranges.{RangeContains};
 ghost use Rattle.node_semver.specs.Versions.{VersionValue};
-ghost use Rattle.npm_advisory_files.specs.Advisories.{about_value};
+ghost use Rattle.npm_advisories.specs.Advisories.{about_value};
 ghost use Rattle.npm_advisories.specs.Hits.{AreKept};
 ghost use Rattle.npm_advisories.specs.Private.Halves.{AreHalves, IsRangeAbout};
 ghost use Rattle.npm_advisories.specs.Private.Spans.{IsHitBy, IsPast};
-ghost use Rattle.npm_advisory_files.specs.declared.advisory.About.{About};
-ghost use Rattle.npm_advisory_files.specs.declared.advisory.Advisory.{Advisory};
+ghost use Rattle.npm_advisories.specs.declared.advisory.About.{About};
+ghost use Rattle.npm_advisories.specs.declared.advisory.Advisory.{Advisory};
 
-use crate::Result;
 use crate::hits::hits_of;
 use crate::spans::sets_of;
+use crate::{About, Advisory, Result, Severity};
 use node_semver::{Range, VersionRef};
-use npm_advisory_files::{About, Advisory, Severity};
 use npm_semver::range_from_sets;
 use std::alloc::Global;
 

@@ -1,12 +1,11 @@
 //! Which advisories hit a version.
 ghost use Rattle.std.specs.Prelude.{◌↔◌, IfOk, IsTrue, map};
 ghost use Rattle.npm_advisories.specs.Hits.{AreKept};
-ghost use Rattle.npm_advisory_files.specs.Advisories.{about_value};
+ghost use Rattle.npm_advisories.specs.Advisories.{about_value};
 ghost use Rattle.npm_advisories.specs.Private.Spans.{IsHitBy, IsIn};
 
-use crate::Result;
+use crate::{About, Advisory, Result, Severity};
 use node_semver::VersionRef;
-use npm_advisory_files::{About, Advisory, Severity};
 use std::alloc::Global;
 
 /// What the advisories of a list that hit a version say of themselves; all of the level if there is no version.

@@ -1,14 +1,13 @@
 //! An installed package that is hit, as a JSON object.
 ghost use Rattle.std.specs.Prelude.{◌≡◌, IfOk, OnOk, map, option_map};
 ghost use Rattle.serde_json.specs.View.{members_view, view};
-ghost use Rattle.npm_advisory_files.specs.Advisories.{about_value};
+ghost use Rattle.npm_advisories.specs.Advisories.{about_value};
 ghost use Rattle.npm_advisories.specs.Audit.{found_value};
 ghost use Rattle.npm_advisories.specs.FoundJson.{about_data, found_data, with_text, with_version};
 
-use crate::Result;
 use crate::found::Found;
+use crate::{About, Result};
 use node_semver::Version;
-use npm_advisory_files::About;
 use serde_json::{Map, Value, put};
 use std::alloc::Global;
 

@@ -1,24 +1,40 @@
 //! Which installed packages security advisories hit, and the least version that they do not hit.
 #![tactic(auto)]
 
+mod advisory;
 mod covered;
+mod fault;
 mod found;
 mod halves;
 mod hits;
+mod id;
+mod index;
 mod json;
 mod lock;
+mod member;
 mod names;
 mod offer;
+pub mod osv;
 mod read;
 mod release;
+mod severity;
 mod spans;
 mod steps;
 mod unions;
+mod version;
+mod wanted;
 
+pub use advisory::{About, Advisory, formed_id, npm_advisory};
+pub use fault::{AuditError, Fault, FaultKind, Unread, is_refused};
 pub use found::{Found, Installed, audit};
+pub use id::{AdvisoryId, id_in};
+pub use index::Index;
 pub use lock::{LockError, audit_lock};
-pub use npm_advisory_files::{About, AdvisoryId, AuditError, Fault, FaultKind, Severity};
+pub use member::{items_at, listed_at, text_at};
+pub use severity::Severity;
 pub use steps::fault_steps;
+pub use version::read_version;
+pub use wanted::Names;
 
 /// The result of what fails by memory alone, if no other error is named.
 type Result<T, E = std::alloc::AllocError> = std::result::Result<T, E>;

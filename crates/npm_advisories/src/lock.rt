@@ -12,9 +12,8 @@ ghost use Rattle.npm_packages.specs.LastParts.{IsEnd};
 ghost use Rattle.npm_advisories.specs.LockFaults.{IsFileFaultBeside, IsLockError};
 ghost use Rattle.npm_advisories.specs.LockFile.{AreInstalled, AreInstalledOf, IsInstalledAs, IsName, IsOther};
 
-use crate::Result;
 use crate::found::{Found, Installed, audit};
-use npm_advisory_files::{AuditError, Fault, Severity, text_at};
+use crate::{AuditError, Fault, Result, Severity, text_at};
 use npm_packages::{CheckError, Dependents, end_of};
 use serde_json::{Map, Value};
 use std::alloc::Global;

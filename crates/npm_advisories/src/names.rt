@@ -2,11 +2,10 @@
 ghost use Rattle.std.specs.Prelude.{◌≡◌, IfOk, List, map, ℕ};
 ghost use Rattle.npm_advisories.specs.Audit.{installed_value, names_of};
 ghost use Rattle.npm_advisories.specs.Files.{is_among};
-ghost use Rattle.npm_advisory_files.specs.Index.{has_name};
+ghost use Rattle.npm_advisories.specs.Index.{has_name};
 
-use crate::Result;
 use crate::found::Installed;
-use npm_advisory_files::Names;
+use crate::{Names, Result};
 use std::alloc::Global;
 
 /// The names of these packages.

@@ -3,24 +3,23 @@ ghost use Rattle.std.specs.Prelude.{◌≡◌, [], Bool, IfErr, IfOk, List, None
 ghost use Rattle.std.specs.Option.{option_map_or};
 ghost use Rattle.serde_json.specs.Find.{as_array, as_object};
 ghost use Rattle.serde_json.specs.View.{items_view, view};
-ghost use Rattle.npm_advisory_files.specs.Advisories.{npm_list, npm_members};
-ghost use Rattle.npm_advisory_files.specs.Faults.{form_fault, list_fault, member_fault, npm_fault, npm_file_fault};
+ghost use Rattle.npm_advisories.specs.Advisories.{npm_list, npm_members};
+ghost use Rattle.npm_advisories.specs.Faults.{form_fault, list_fault, member_fault, npm_fault, npm_file_fault};
 ghost use Rattle.npm_advisories.specs.Files.{advisories_of, file_fault};
-ghost use Rattle.npm_advisory_files.specs.Ids.{id_in, id_value};
-ghost use Rattle.npm_advisory_files.specs.OsvFaults.{osv_fault, osv_list_fault};
-ghost use Rattle.npm_advisory_files.specs.OsvPackages.{told_name};
-ghost use Rattle.npm_advisory_files.specs.OsvForm.{osv_advisories, osv_list};
-ghost use Rattle.npm_advisory_files.specs.Index.{IsIndex, has_name};
-ghost use Rattle.npm_advisory_files.specs.Private.Index.{Adds};
-ghost use Rattle.npm_advisory_files.specs.Private.Reading.{IsErrorAt, IsErrorOf, at_place};
-ghost use Rattle.npm_advisory_files.specs.Private.VersionTest.{is_version};
+ghost use Rattle.npm_advisories.specs.Ids.{id_in, id_value};
+ghost use Rattle.npm_advisories.specs.OsvFaults.{osv_fault, osv_list_fault};
+ghost use Rattle.npm_advisories.specs.OsvPackages.{told_name};
+ghost use Rattle.npm_advisories.specs.OsvForm.{osv_advisories, osv_list};
+ghost use Rattle.npm_advisories.specs.Index.{IsIndex, has_name};
+ghost use Rattle.npm_advisories.specs.Private.Index.{Adds};
+ghost use Rattle.npm_advisories.specs.Private.Reading.{IsErrorAt, IsErrorOf, at_place};
+ghost use Rattle.npm_advisories.specs.Private.VersionTest.{is_version};
 
-use crate::Result;
-use npm_advisory_files::osv::add_osv;
-use npm_advisory_files::osv::packages::told_name;
-use npm_advisory_files::{
-    AdvisoryId, AuditError, Fault, FaultKind, Index, Names, Unread, formed_id, id_in, npm_advisory,
-    text_at,
+use crate::osv::add_osv;
+use crate::osv::packages::told_name;
+use crate::{
+    AdvisoryId, AuditError, Fault, FaultKind, Index, Names, Result, Unread, formed_id, id_in,
+    npm_advisory, text_at,
 };
 use serde_json::Value;
 use std::alloc::Global;

@@ -5,12 +5,11 @@ ghost use Rattle.std.specs.List.{AllByRecursion};
 ghost use Rattle.node_semver.specs.Ranges.{IsRangeSet, RangeAdmits, RangeContains};
 ghost use Rattle.node_semver.specs.Versions.{IsPrerelease, VersionValue};
 ghost use Rattle.npm_advisories.specs.Offers.{IsAskedFor};
-ghost use Rattle.npm_advisory_files.specs.Lemmas.Spans.{Have};
+ghost use Rattle.npm_advisories.specs.Lemmas.Spans.{Have};
 ghost use Rattle.npm_advisories.specs.Private.Spans.{IsInRange};
 
-use crate::Result;
+use crate::{Advisory, Result};
 use node_semver::{Range, Version};
-use npm_advisory_files::Advisory;
 use npm_semver::NpmOptions;
 use semver_cuts::Span;
 use std::alloc::{AllocError, Global};

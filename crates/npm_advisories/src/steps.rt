@@ -5,19 +5,18 @@ ghost use Rattle.serde_json.specs.View.{view};
 ghost use Rattle.json_places.specs.Steps.{steps_seen};
 ghost use Rattle.npm_advisories.specs.FaultSteps as FaultSteps;
 ghost use Rattle.npm_advisories.specs.FaultSteps.{AreFaultStepsBeside};
-ghost use Rattle.npm_advisory_files.specs.Faults.{fault_value};
+ghost use Rattle.npm_advisories.specs.Faults.{fault_value};
 ghost use Rattle.npm_advisories.specs.LockFaults.{IsLockError};
-ghost use Rattle.npm_advisory_files.specs.Index.{has_name};
-ghost use Rattle.npm_advisory_files.specs.Private.VersionTest.{is_version};
+ghost use Rattle.npm_advisories.specs.Index.{has_name};
+ghost use Rattle.npm_advisories.specs.Private.VersionTest.{is_version};
 
 mod osv;
 
-use crate::Result;
 use crate::lock::{LockError, installed_in};
 use crate::names::names_of;
 use crate::steps::osv::push_osv;
+use crate::{Fault, FaultKind, Names, Result, text_at};
 use json_places::Step;
-use npm_advisory_files::{Fault, FaultKind, Names, text_at};
 use serde_json::Value;
 use std::alloc::Global;
 

@@ -1,17 +1,16 @@
 //! All versions that the advisories about one package are about, merged once: copies of the package are searched in them.
 ghost use Rattle.std.specs.Prelude.{◌≡◌, IfOk, OnOk, map, option_map};
-ghost use Rattle.npm_advisory_files.specs.Advisories.{about_value};
+ghost use Rattle.npm_advisories.specs.Advisories.{about_value};
 ghost use Rattle.npm_advisories.specs.Hits.{AreKept};
 ghost use Rattle.npm_advisories.specs.Private.Spans.{IsHitBy};
 ghost use Rattle.npm_advisories.specs.Private.Unions.{AreUnions, IsKnown, IsUnion, union_at};
-ghost use Rattle.npm_advisory_files.specs.declared.index.Index.{Index};
+ghost use Rattle.npm_advisories.specs.declared.index.Index.{Index};
 
-use crate::Result;
 use crate::covered::covered_by;
 use crate::halves::Halves;
 use crate::spans::sets_of;
+use crate::{About, Advisory, Index, Result, Severity};
 use node_semver::{Version, VersionRef};
-use npm_advisory_files::{About, Advisory, Index, Severity};
 use semver_cuts::Span;
 use std::alloc::Global;
 use std::collections::BTreeMap;

@@ -1,10 +1,10 @@
 //! Security advisories and the packages that they hit.
-use crate::answer;
 use crate::answer::Answer;
 use crate::arguments::Arguments;
 use crate::audits::{audited, fault_text, found_offers, found_packages, installed_of};
 use crate::lists::text_of_steps;
 use crate::paths::shown_place;
+use crate::{answer, borrowed};
 use npm_advisories::{
     AuditError, Found, Installed, LockError, Severity, audit, audit_lock, fault_steps,
 };
@@ -20,6 +20,10 @@ pub(crate) enum Name {
     FaultOfAudit,
     /// Whether a package is hit, of the name and the version in the texts.
     HitOfAudit,
+    /// The title of the first advisory that hits it. The package does not live as long as the title.
+    TitleOfAudit,
+    /// The folder of the first package of a list that is hit. The advisories, which are a text, do not live as long as the folder.
+    FolderOfAudit,
     /// Of a lock file, from the severity of the text on.
     AuditLock,
     /// The folders, names and offered versions.
@@ -35,6 +39,8 @@ pub(crate) fn named(name: &str) -> Option<(Name, usize)> {
         "npm_advisories::audit" => (Name::Audit, 2),
         "npm_advisories::audit, its fault" => (Name::FaultOfAudit, 2),
         "npm_advisories::audit, of one package" => (Name::HitOfAudit, 1),
+        "npm_advisories::audit, a title alone" => (Name::TitleOfAudit, 1),
+        "npm_advisories::audit, a folder alone" => (Name::FolderOfAudit, 1),
         "npm_advisories::audit_lock" => (Name::AuditLock, 2),
         "npm_advisories::audit_lock, its offers" => (Name::OffersOfAuditLock, 2),
         "npm_advisories::fault_steps" => (Name::FaultSteps, 2),
@@ -50,6 +56,8 @@ pub(crate) fn answer(alloc: Global, name: Name, arguments: &Arguments) -> Answer
         Name::Audit => audit_of_list(alloc, file, level, second),
         Name::FaultOfAudit => fault_of_list(alloc, file, second),
         Name::HitOfAudit => hit(alloc, file, arguments.text(0), arguments.text(1)),
+        Name::TitleOfAudit => borrowed::title(alloc, file, arguments.text(0), arguments.text(1)),
+        Name::FolderOfAudit => borrowed::folder(alloc, file, arguments.text(0)),
         Name::AuditLock => match audit_lock(alloc, file, level, second) {
             Ok(found) => answer::list(found_packages(alloc, &found)),
             Err(error) => refused(alloc, error),

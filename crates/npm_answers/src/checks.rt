@@ -26,8 +26,8 @@ pub(crate) fn named(name: &str) -> Option<(Name, usize)> {
         "npm_lock::check" => (Name::Check, 2),
         "npm_lock::check, its problems" => (Name::ProblemsOfCheck, 2),
         "npm_lock::check, in few words" => (Name::InFewWords, 2),
-        "npm_lock_version_one::check_any" => (Name::CheckAny, 2),
-        "npm_lock_version_one::check_any, its problems" => (Name::ProblemsOfCheckAny, 2),
+        "npm_lock::check_any" => (Name::CheckAny, 2),
+        "npm_lock::check_any, its problems" => (Name::ProblemsOfCheckAny, 2),
         _ => return None,
     })
 }
@@ -53,7 +53,7 @@ fn any_check(
     manifest: Option<&Value>,
     node: Option<&Version>,
 ) -> Result<Problems, CheckError> {
-    npm_lock_version_one::check_any(alloc, lock, manifest, node)
+    npm_lock::check_any(alloc, lock, manifest, node)
 }
 
 /// The version of Node, of which no text here needs memory.

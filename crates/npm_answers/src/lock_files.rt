@@ -4,7 +4,7 @@ use crate::answer::Answer;
 use crate::arguments::Arguments;
 use crate::checks::all_found;
 use crate::lists::push_json;
-use npm_manifests::{Mismatch, mismatches_of, put_manifest};
+use npm_lock::{Mismatch, mismatches_of, put_manifest};
 use serde_json::Value;
 use std::alloc::{AllocError, Global};
 
@@ -22,10 +22,10 @@ pub(crate) enum Name {
 
 pub(crate) fn named(name: &str) -> Option<(Name, usize)> {
     Some(match name {
-        "npm_lock_version_one::convert" => (Name::Convert, 2),
-        "npm_manifests::mismatches_of" => (Name::Mismatches, 2),
-        "npm_manifests::put_manifest" => (Name::Put, 2),
-        "npm_manifests::put_manifest, and a check" => (Name::PutAndCheck, 2),
+        "npm_lock::convert" => (Name::Convert, 2),
+        "npm_lock::mismatches_of" => (Name::Mismatches, 2),
+        "npm_lock::put_manifest" => (Name::Put, 2),
+        "npm_lock::put_manifest, and a check" => (Name::PutAndCheck, 2),
         _ => return None,
     })
 }
@@ -45,7 +45,7 @@ fn converted(alloc: Global, lock: &Value, manifest: Option<&Value>) -> Answer {
     let Ok(copy) = lock.clone() else {
         return Answer::OutOfMemory;
     };
-    match npm_lock_version_one::convert(alloc, copy, manifest) {
+    match npm_lock::convert(alloc, copy, manifest) {
         Ok(made) => Answer::Json(made),
         Err(error) => answer::refused(error),
     }

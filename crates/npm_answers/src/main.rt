@@ -10,6 +10,7 @@ mod advisories;
 mod answer;
 mod arguments;
 mod audits;
+mod borrowed;
 mod call;
 mod checks;
 mod drafts;

@@ -1,8 +1,8 @@
 //! Paths in JSON texts.
 use crate::members::{items_in, items_of, number_in, number_of};
 use json_places::{Path, Step};
+use npm_lock_faults::ShownPlace;
 use serde_json::Value;
-use shown_places::ShownPlace;
 use std::alloc::{AllocError, Global};
 
 /// The paths of a list: each is the list of its names and positions, or an object with these as `steps`, `subject` and `rank`.

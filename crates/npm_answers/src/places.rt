@@ -6,8 +6,8 @@ use crate::lists::push_item;
 use crate::members::number_of;
 use crate::paths::{path_of, paths_of, shown_path};
 use json_places::{Place, chosen_places, places_of};
+use npm_lock_faults::ShownPlace;
 use serde_json::Value;
-use shown_places::ShownPlace;
 use std::alloc::{AllocError, Global};
 
 /// Of paths and a text. A place is its offset, line and column.

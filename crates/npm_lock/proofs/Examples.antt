@@ -4,3 +4,6 @@ pub mod SpecExamples
 pub mod WorkspaceExamples
 pub mod PatternExamples
 pub mod WordExamples
+pub mod TarballExamples
+pub mod VersionOneExamples
+pub mod ManifestExamples

@@ -5,3 +5,9 @@ pub mod PatternLists
 pub mod StarPatterns
 pub mod ProblemTexts
 pub mod Reports
+pub mod Converting
+pub mod LastParts
+pub mod PackageLists
+pub mod Slashes
+pub mod GroupWalk
+pub mod ManifestWrites

@@ -1,6 +1,6 @@
 -- The values of the elements that are kept are those of all that are kept, and a package without hits is not.
 use Rattle.std.proofs.Common.{◌≡◌, List, [], ◌∷◌, Bool, ap, cond, false, filter, map, refl, true}
-use Rattle.npm_advisory_files.specs.Advisories.{AboutValue}
+use Rattle.npm_advisories.specs.Advisories.{AboutValue}
 use Rattle.npm_advisories.specs.Audit.{FoundValue}
 use Rattle.npm_lock_counted.specs.Exceptions.{some_list, with_hits}
 

@@ -1,7 +1,7 @@
 -- What is excepted.
 use Rattle.std.specs.Prelude.{ℕ, List, Option, None, map, option_map, string_bytes}
 use Rattle.std.specs.List.{filter_map, flat_map}
-use Rattle.npm_advisory_files.specs.Advisories.{AboutValue}
+use Rattle.npm_advisories.specs.Advisories.{AboutValue}
 use Rattle.npm_advisories.specs.Audit.{FoundValue}
 use Rattle.npm_lock_counted.specs.Exceptions.{ExceptionsValue, place_of, some_list}
 use Rattle.npm_lock_counted.specs.declared.excepted.Excepted.{Excepted}

@@ -7,7 +7,7 @@ use Rattle.std.specs.Prelude.{nat_eq}
 use Rattle.serde_json.specs.Data.{Data, number, string, unsigned}
 use Rattle.toml_datetime.specs.declared.datetime.Date.{Date}
 use Rattle.advisory_exceptions.specs.Exceptions.{ExceptionValue, exception_value, is_over}
-use Rattle.npm_advisory_files.specs.Advisories.{AboutValue}
+use Rattle.npm_advisories.specs.Advisories.{AboutValue}
 use Rattle.npm_advisories.specs.Audit.{FoundValue}
 use Rattle.npm_lock_counted.specs.declared.exceptions.Exceptions.{Exceptions}
 

@@ -1,7 +1,7 @@
 //! What is excepted.
 ghost use Rattle.std.specs.Prelude.{◌≡◌, ◌++◌, IfOk, OnOk, map};
 ghost use Rattle.npm_advisories.specs.Audit.{found_value};
-ghost use Rattle.npm_advisory_files.specs.Advisories.{about_value};
+ghost use Rattle.npm_advisories.specs.Advisories.{about_value};
 ghost use Rattle.npm_lock_counted.specs.Exceptions.{exceptions_value};
 ghost use Rattle.npm_lock_counted.specs.Excepted as Lists;
 ghost use Rattle.npm_lock_counted.specs.Excepted.{excepted_value};

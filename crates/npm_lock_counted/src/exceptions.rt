@@ -2,7 +2,7 @@
 ghost use Rattle.std.specs.Prelude.{◌≡◌, option_map};
 ghost use Rattle.serde_json.specs.View.{view};
 ghost use Rattle.advisory_exceptions.specs.Exceptions.{exception_value};
-ghost use Rattle.npm_advisory_files.specs.Advisories.{about_value};
+ghost use Rattle.npm_advisories.specs.Advisories.{about_value};
 ghost use Rattle.npm_lock_counted.specs.Exceptions as Excepted;
 ghost use Rattle.npm_lock_counted.specs.Exceptions.{exceptions_value};
 

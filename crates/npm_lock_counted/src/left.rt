@@ -1,7 +1,7 @@
 //! What is left of the packages that advisories hit.
 ghost use Rattle.std.specs.Prelude.{◌≡◌, ◌++◌, IfOk, OnOk, map};
 ghost use Rattle.npm_advisories.specs.Audit.{found_value};
-ghost use Rattle.npm_advisory_files.specs.Advisories.{about_value};
+ghost use Rattle.npm_advisories.specs.Advisories.{about_value};
 ghost use Rattle.npm_lock_counted.specs.Exceptions.{exceptions_value, hits_among, left_in, left_one, some_list};
 
 use crate::exceptions::Exceptions;

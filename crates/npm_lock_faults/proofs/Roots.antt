@@ -4,8 +4,8 @@ use Rattle.std.specs.Option.{option_or}
 use Rattle.serde_json.specs.Data.{Data}
 use Rattle.npm_packages.specs.Faults.{lock_fault}
 use Rattle.npm_packages.specs.declared.fault.Fault.{Fault}
-use Rattle.npm_lock_version_one.specs.VersionOne.{any_fault, has_named, is_version_one, manifest_fault, packages_below}
-use Rattle.npm_lock_version_one.specs.VersionOne.{packages_fault}
+use Rattle.npm_lock.specs.VersionOne.{any_fault, has_named, is_version_one, manifest_fault, packages_below}
+use Rattle.npm_lock.specs.VersionOne.{packages_fault}
 use Rattle.npm_packages.specs.declared.fault.Fault.TheVariants as Faults
 
 -- the fault of the manifest, if the lock file is of version 1

@@ -13,11 +13,11 @@ use Rattle.npm_packages.specs.Folders.{is_folder, place_in}
 use Rattle.npm_packages.specs.Packages.{Package, is_link}
 use Rattle.npm_packages.specs.declared.fault.Fault.{Fault}
 use Rattle.npm_packages.specs.declared.fault.Fault.TheVariants as Faults
-use Rattle.npm_lock_version_one.specs.VersionOne as VersionOne
-use Rattle.npm_lock_version_one.specs.VersionOne.{any_fault, entry_fault, has_named, is_version_one, packages_below}
-use Rattle.npm_lock_version_one.specs.VersionOne.{packages_fault, packages_named, packages_of_entries, placed_fault, required_of}
-use Rattle.npm_lock_version_one.specs.VersionOne.{packages_of_members, requires_fault, version_one_fault}
-use Rattle.npm_manifests.specs.Mismatches.{manifest_fault}
+use Rattle.npm_lock.specs.VersionOne as VersionOne
+use Rattle.npm_lock.specs.VersionOne.{any_fault, entry_fault, has_named, is_version_one, packages_below}
+use Rattle.npm_lock.specs.VersionOne.{packages_fault, packages_named, packages_of_entries, placed_fault, required_of}
+use Rattle.npm_lock.specs.VersionOne.{packages_of_members, requires_fault, version_one_fault}
+use Rattle.npm_lock.specs.Mismatches.{manifest_fault}
 use Rattle.npm_lock_faults.specs.FaultPaths.{FaultPathValue, among_entries, among_members, any_fault_path}
 use Rattle.npm_lock_faults.specs.FaultPaths.{below_fault_path, entry_fault_path, fault_of, fault_path_value, first_other}
 use Rattle.npm_lock_faults.specs.FaultPaths.{group_fault_path, groups_fault_path, inside, lock_fault_path}

@@ -10,7 +10,7 @@ use Rattle.npm_packages.specs.Folders.{is_folder, place_in}
 use Rattle.npm_packages.specs.Packages.{is_link}
 use Rattle.npm_packages.specs.declared.fault.Fault.{Fault}
 use Rattle.npm_packages.specs.declared.fault.Fault.TheVariants as Faults
-use Rattle.npm_lock_version_one.specs.VersionOne.{has_named, is_version_one, required_of}
+use Rattle.npm_lock.specs.VersionOne.{has_named, is_version_one, required_of}
 use Rattle.npm_lock_faults.specs.declared.fault_path.FaultPath.{FaultPath}
 
 -- A fault, and the names of the members that lead to what it is about, from the value inwards. With no name it is about

@@ -3,8 +3,8 @@ use Rattle.std.specs.Prelude.{◌≡◌, ℕ, List, Some}
 use Rattle.std.specs.Option.{MatchOption}
 use Rattle.serde_json.specs.Data.{Data}
 use Rattle.json_places.specs.Steps.{member_steps}
-use Rattle.shown_places.specs.ShownPlaces as Shown
-use Rattle.shown_places.specs.ShownPlaces.{IsPlaceIn, ShownPlaceValue, shown_place_value}
+use Rattle.npm_lock_faults.specs.ShownPlaces as Shown
+use Rattle.npm_lock_faults.specs.ShownPlaces.{IsPlaceIn, ShownPlaceValue, shown_place_value}
 use Rattle.npm_packages.specs.declared.fault.Fault.{Fault}
 use Rattle.npm_lock_faults.specs.FaultPaths.{FaultPathValue, any_fault_path, manifest_fault_path}
 use Rattle.npm_lock_faults.specs.declared.fault_place.FaultPlace.{FaultPlace}

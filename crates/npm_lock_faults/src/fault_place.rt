@@ -4,11 +4,10 @@ ghost use Rattle.npm_lock_faults.specs.FaultPaths.{fault_path_value};
 ghost use Rattle.npm_lock_faults.specs.FaultPlaces as FaultPlaces;
 ghost use Rattle.npm_lock_faults.specs.FaultPlaces.{IsFaultPlace, fault_place_value};
 
-use crate::Result;
 use crate::fault_path::FaultPath;
+use crate::{Result, ShownPlace};
 use json_places::Path;
 use npm_packages::Fault;
-use shown_places::ShownPlace;
 use std::alloc::Global;
 use std::fmt;
 
@@ -31,7 +30,7 @@ impl FaultPlace {
     ///
     /// # Memory
     ///
-    /// Allocates what [`ShownPlace::of_path`](shown_places::ShownPlace::of_path) does, and a copy of the path.
+    /// Allocates what [`ShownPlace::of_path`](crate::ShownPlace::of_path) does, and a copy of the path.
     pub fn in_text(alloc: Global, text: &str, found: &FaultPath<'_>) -> Result<FaultPlace>
         ensures { IfOk result (λ made. IsFaultPlace text.now (fault_path_value found.now) (fault_place_value made)) }
     {

@@ -11,14 +11,18 @@ mod fault_place;
 mod lock_file;
 mod manifest;
 mod package;
+mod place;
 mod places;
+mod step;
 mod version_one;
 
 pub use fault_path::FaultPath;
 pub use fault_place::FaultPlace;
 pub use lock_file::lock_fault_path;
 pub use manifest::{manifest_fault_path, root_fault_path};
+pub use place::ShownPlace;
 pub use places::{lock_fault_place, manifest_fault_place};
+pub use step::ShownStep;
 
 /// The result of what fails by memory alone.
 type Result<T, E = std::alloc::AllocError> = std::result::Result<T, E>;

@@ -2,7 +2,7 @@
 ghost use Rattle.std.specs.Prelude.{◌≡◌, IfOk, None, option_map};
 ghost use Rattle.serde_json.specs.View.{view};
 ghost use Rattle.npm_packages.specs.PackageValue.{packages_data};
-ghost use Rattle.npm_lock_version_one.specs.VersionOne.{any_fault};
+ghost use Rattle.npm_lock.specs.VersionOne.{any_fault};
 ghost use Rattle.npm_lock_faults.specs.FaultPaths as FaultPaths;
 ghost use Rattle.npm_lock_faults.specs.FaultPaths.{fault_of, fault_path_value};
 
@@ -10,12 +10,12 @@ use crate::Result;
 use crate::fault_path::FaultPath;
 use crate::package::{of_member, package_fault_path};
 use crate::version_one::version_one_fault_path;
-use npm_lock_version_one::is_version_one;
+use npm_lock::is_version_one;
 use npm_packages::{Fault, Lock, has_format, has_patterns, is_folder, is_link, link_fault};
 use serde_json::Value;
 use std::alloc::Global;
 
-/// Returns the fault of a lock file of any version, and where it is, if it has one. `check_any` of npm_lock_version_one refuses such
+/// Returns the fault of a lock file of any version, and where it is, if it has one. `check_any` of npm_lock refuses such
 /// a lock file, and also one of version 1 whose manifest has a fault: see [`root_fault_path`](crate::root_fault_path).
 ///
 /// # Errors

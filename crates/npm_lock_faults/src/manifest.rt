@@ -1,8 +1,8 @@
 //! Where the fault of a manifest is, `package.json`.
 ghost use Rattle.std.specs.Prelude.{◌≡◌, IfOk, option_map};
 ghost use Rattle.serde_json.specs.View.{view};
-ghost use Rattle.npm_lock_version_one.specs.VersionOne as VersionOne;
-ghost use Rattle.npm_manifests.specs.Mismatches as Mismatches;
+ghost use Rattle.npm_lock.specs.VersionOne as VersionOne;
+ghost use Rattle.npm_lock.specs.Mismatches as Mismatches;
 ghost use Rattle.npm_lock_faults.specs.FaultPaths as FaultPaths;
 ghost use Rattle.npm_lock_faults.specs.FaultPaths.{fault_of, fault_path_value};
 
@@ -13,7 +13,7 @@ use npm_packages::{Fault, has_patterns, is_link};
 use serde_json::Value;
 use std::alloc::Global;
 
-/// Returns the fault of a manifest, and where it is, if it has one. `mismatches_of` of npm_manifests refuses such a manifest.
+/// Returns the fault of a manifest, and where it is, if it has one. `mismatches_of` of npm_lock refuses such a manifest.
 ///
 /// # Errors
 ///
@@ -43,7 +43,7 @@ fn path_in_manifest<'v>(alloc: Global, manifest: &'v Value) -> Result<Option<Fau
 }
 
 /// Returns the fault of the manifest beside a lock file of version 1, and where it is, if it has one. `convert` of
-/// npm_lock_version_one refuses such a manifest. It must not be a link.
+/// npm_lock refuses such a manifest. It must not be a link.
 ///
 /// # Errors
 ///

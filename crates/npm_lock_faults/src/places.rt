@@ -1,21 +1,21 @@
 //! The fault of a file and its place, or that there is none.
 ghost use Rattle.std.specs.Prelude.{◌≡◌, IfOk, IfSome, None, if◌then◌else◌, option_and_then, option_map};
 ghost use Rattle.serde_json.specs.View.{view};
-ghost use Rattle.npm_manifests.specs.Mismatches as Mismatches;
-ghost use Rattle.npm_lock_version_one.specs.VersionOne as VersionOne;
-ghost use Rattle.npm_lock_version_one.specs.VersionOne.{any_fault};
+ghost use Rattle.npm_lock.specs.Mismatches as Mismatches;
+ghost use Rattle.npm_lock.specs.VersionOne as VersionOne;
+ghost use Rattle.npm_lock.specs.VersionOne.{any_fault};
 ghost use Rattle.npm_lock_faults.specs.FaultPlaces.{IsLockFaultPlace, IsManifestFaultPlace, fault_place_value};
 
 use crate::Result;
 use crate::fault_place::FaultPlace;
 use crate::lock_file::lock_fault_path;
 use crate::manifest::{manifest_fault_path, root_fault_path};
-use npm_lock_version_one::is_version_one;
+use npm_lock::is_version_one;
 use npm_packages::Fault;
 use serde_json::Value;
 use std::alloc::Global;
 
-/// Returns the fault of a lock file with this text, and its place, if `check_any` of npm_lock_version_one refuses the lock file beside
+/// Returns the fault of a lock file with this text, and its place, if `check_any` of npm_lock refuses the lock file beside
 /// this manifest. A fault of the manifest has no place in this text.
 ///
 /// # Errors
@@ -63,7 +63,7 @@ fn root_fault(alloc: Global, lock: &Value, manifest: Option<&Value>) -> Result<O
     }
 }
 
-/// Returns the fault of a manifest with this text, and its place, if `mismatches_of` of npm_manifests refuses the manifest.
+/// Returns the fault of a manifest with this text, and its place, if `mismatches_of` of npm_lock refuses the manifest.
 ///
 /// # Errors
 ///

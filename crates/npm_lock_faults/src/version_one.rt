@@ -8,7 +8,7 @@ ghost use Rattle.npm_lock_faults.specs.FaultPaths.{fault_path_value};
 use crate::Result;
 use crate::fault_path::FaultPath;
 use crate::package::{of_member, specs_fault_path};
-use npm_lock_version_one::{has_named, required_of};
+use npm_lock::{has_named, required_of};
 use npm_packages::{Fault, has_text_version, is_folder, place_text};
 use serde_json::Value;
 use std::alloc::Global;

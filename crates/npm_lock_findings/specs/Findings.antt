@@ -12,7 +12,7 @@ use Rattle.findings.specs.Drafts.{AreFindingsOf, DraftValue, draft_value}
 use Rattle.findings.specs.declared.draft.Draft.{Draft}
 use Rattle.npm_advisories.specs.Audit.{FoundValue}
 use Rattle.npm_lock.specs.Outcomes.{ProblemValue, UncheckedValue, problem_value, unchecked_value}
-use Rattle.npm_manifests.specs.Mismatches.{MismatchValue, group_text, mismatch_value}
+use Rattle.npm_lock.specs.Mismatches.{MismatchValue, group_text, mismatch_value}
 use Rattle.npm_lock_reports.specs.HitSentence.{hit_sentence}
 use Rattle.npm_lock_reports.specs.Unread.{UnreadValue, unread_folder, unread_sentence, unread_value}
 use Rattle.npm_lock_reports.specs.declared.report.Report.{Report}

@@ -5,14 +5,14 @@ use Rattle.findings.specs.Entries.{part_place}
 use Rattle.findings.specs.declared.pages.entry.Part.{Part}
 use Rattle.findings.specs.declared.pages.entry.Part.TheVariants as Parts
 use Rattle.npm_advisories.specs.Audit.{FoundValue}
-use Rattle.npm_advisory_files.specs.Advisories.{AboutValue}
-use Rattle.npm_advisory_files.specs.declared.severity.Severity.{Severity}
-use Rattle.npm_advisory_files.specs.declared.severity.Severity.TheVariants as Severities
+use Rattle.npm_advisories.specs.Advisories.{AboutValue}
+use Rattle.npm_advisories.specs.declared.severity.Severity.{Severity}
+use Rattle.npm_advisories.specs.declared.severity.Severity.TheVariants as Severities
 use Rattle.npm_lock.specs.Outcomes.{ProblemValue, UncheckedValue, problem_value, unchecked_value}
 use Rattle.npm_lock_findings.specs.Entries.{SubjectValue}
 use Rattle.npm_lock_reports.specs.Unread.{UnreadValue, manifest_in, root_of_file, unread_value, workspaces_on_disk}
 use Rattle.npm_lock_reports.specs.declared.report.Report.{Report}
-use Rattle.npm_manifests.specs.Mismatches.{MismatchValue, mismatch_value}
+use Rattle.npm_lock.specs.Mismatches.{MismatchValue, mismatch_value}
 
 -- ---- packages that are hit
 

@@ -2,10 +2,10 @@
 use Rattle.std.proofs.Common.{◌≡◌, ◌∙◌, ℕ, List, None, Option, Some, ap, inl, inr, is_some, length, map, option_map, refl}
 use Rattle.std.proofs.lemmas.List.{length-map}
 use Rattle.serde_json.specs.Data.{Data}
-use Rattle.npm_advisory_files.specs.Faults.{FaultValue}
+use Rattle.npm_advisories.specs.Faults.{FaultValue}
 use Rattle.npm_advisories.specs.LockFaults.{IsFileFaultBeside}
 use Rattle.npm_packages.specs.Faults.{lock_fault}
-use Rattle.npm_lock_version_one.specs.VersionOne.{any_fault, converted}
+use Rattle.npm_lock.specs.VersionOne.{any_fault, converted}
 use Rattle.npm_manifest_files.specs.Linked.{LinkedValue}
 use Rattle.npm_lock_program.specs.Private.Refusals.{AreRefusedAs, IsAuditRefused, IsCheckRefused, IsLockRefused}
 use Rattle.npm_lock_program.specs.Private.Refusals.{IsRefused}

@@ -6,11 +6,11 @@ use Rattle.std.proofs.lemmas.List.{drop_more}
 use Rattle.serde_json.specs.Data.{Data}
 use Rattle.serde_json.specs.View.{view}
 use Rattle.serde_json.specs.declared.value.Value.{Value}
-use Rattle.npm_manifests.specs.Mismatches.{AreMismatches, manifest_fault}
+use Rattle.npm_lock.specs.Mismatches.{AreMismatches, manifest_fault}
 use Rattle.npm_packages.specs.declared.fault.CheckError.{CheckError}
 use Rattle.npm_packages.specs.declared.fault.CheckError.TheVariants.{Refused}
 use Rattle.npm_packages.specs.declared.fault.Fault.{Fault}
-use Rattle.npm_manifests.specs.declared.mismatch.Mismatch.{Mismatch}
+use Rattle.npm_lock.specs.declared.mismatch.Mismatch.{Mismatch}
 use Rattle.npm_manifest_files.specs.Linked.{LinkedValue, linked_value, loaded_value}
 use Rattle.npm_lock_program.specs.Check.{linked_fault}
 use Rattle.npm_lock_program.specs.Private.Refusals.{AreLinkedRefused, IsOneRefused}

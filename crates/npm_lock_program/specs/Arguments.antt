@@ -8,9 +8,9 @@ use Rattle.std.specs.Result.{result_map_both}
 use Rattle.std.specs.Str.{bytes_eq}
 use Rattle.std.specs.Global.{Global}
 use denote.Ref.{Bor}
-use Rattle.npm_advisory_files.specs.Severities.{is_unknown, severity_of_text}
-use Rattle.npm_advisory_files.specs.declared.severity.Severity.{Severity}
-use Rattle.npm_advisory_files.specs.declared.severity.Severity.TheVariants.{Info}
+use Rattle.npm_advisories.specs.Severities.{is_unknown, severity_of_text}
+use Rattle.npm_advisories.specs.declared.severity.Severity.{Severity}
+use Rattle.npm_advisories.specs.declared.severity.Severity.TheVariants.{Info}
 use Rattle.command_lines.specs.Arguments as Words
 use Rattle.command_lines.specs.Arguments.{ArgumentValue}
 use Rattle.command_lines.specs.declared.argument.TheConstants.{MAX_WORDS}

@@ -5,20 +5,20 @@ use Rattle.std.specs.Option.{option_or}
 use Rattle.serde_json.specs.Data.{Data}
 use Rattle.serde_json.specs.View.{view}
 use Rattle.serde_json.specs.declared.value.Value.{Value}
-use Rattle.npm_manifests.specs.Mismatches.{manifest_fault}
-use Rattle.npm_lock_version_one.specs.VersionOne.{any_fault}
+use Rattle.npm_lock.specs.Mismatches.{manifest_fault}
+use Rattle.npm_lock.specs.VersionOne.{any_fault}
 use Rattle.npm_lock_faults.specs.FaultPlaces.{IsLockFaultPlace, fault_place_value}
 use Rattle.npm_lock_faults.specs.declared.fault_place.FaultPlace.{FaultPlace}
 use Rattle.npm_packages.specs.declared.fault.Fault.{Fault}
 use Rattle.npm_advisories.specs.Audit.{FoundValue}
 use Rattle.json_places.specs.Steps.{StepValue}
-use Rattle.shown_places.specs.ShownPlaces.{IsPlaceIn, shown_place_value}
-use Rattle.shown_places.specs.declared.place.ShownPlace.{ShownPlace}
-use Rattle.npm_advisory_files.specs.Faults.{FaultValue, fault_at}
+use Rattle.npm_lock_faults.specs.ShownPlaces.{IsPlaceIn, shown_place_value}
+use Rattle.npm_lock_faults.specs.declared.place.ShownPlace.{ShownPlace}
+use Rattle.npm_advisories.specs.Faults.{FaultValue, fault_at}
 use Rattle.npm_advisories.specs.FaultSteps.{AreFaultStepsBeside}
 use Rattle.npm_advisories.specs.LockFaults.{IsFileFaultBeside}
-use Rattle.npm_advisory_files.specs.Ids.{IdValue}
-use Rattle.npm_advisory_files.specs.declared.fault.FaultKind.{FaultKind}
+use Rattle.npm_advisories.specs.Ids.{IdValue}
+use Rattle.npm_advisories.specs.declared.fault.FaultKind.{FaultKind}
 use Rattle.npm_manifest_files.specs.Linked.{LinkedValue, LoadedValue}
 use Rattle.command_lines.specs.Inputs as Inputs
 use Rattle.command_lines.specs.Inputs.{IsInput, IsInputText, IsWholeInput}

@@ -1,9 +1,9 @@
 -- Which advisory has a fault, and where in a file it is.
 use Rattle.std.specs.Prelude.{ℕ, List, [], ◌∷◌, ◌++◌, Option, Some, None, codes, decimal}
 use Rattle.command_lines.specs.Shown.{quoted}
-use Rattle.npm_advisory_files.specs.Ids.{IdValue, number, text}
-use Rattle.npm_advisory_files.specs.declared.fault.FaultKind.{FaultKind}
-use Rattle.npm_advisory_files.specs.declared.fault.FaultKind.TheVariants as FaultKinds
+use Rattle.npm_advisories.specs.Ids.{IdValue, number, text}
+use Rattle.npm_advisories.specs.declared.fault.FaultKind.{FaultKind}
+use Rattle.npm_advisories.specs.declared.fault.FaultKind.TheVariants as FaultKinds
 
 -- the name of a list of advisories, or the first installed package of one in OSV's form; it may be empty: `, of "lodash"`
 abbrev pub list_words : (name : List ℕ) → List ℕ

@@ -7,7 +7,7 @@ use Rattle.advisory_exceptions.specs.declared.error.ExceptionsError.TheVariants 
 use Rattle.findings.specs.Findings.{FindingValue}
 use Rattle.command_lines.specs.declared.input_error.InputError.{InputError}
 use Rattle.command_lines.specs.declared.input_error.InputError.TheVariants as Inputs
-use Rattle.shown_places.specs.declared.place.ShownPlace.{ShownPlace}
+use Rattle.npm_lock_faults.specs.declared.place.ShownPlace.{ShownPlace}
 use Rattle.npm_manifest_files.specs.declared.load_error.LoadError.TheVariants as Loads
 use Rattle.npm_manifest_files.specs.declared.load_error.ManifestError.{ManifestError}
 use Rattle.npm_manifest_files.specs.declared.load_error.ManifestError.TheVariants as Manifests

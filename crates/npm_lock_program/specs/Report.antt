@@ -12,17 +12,17 @@ use Rattle.serde_json.specs.declared.value.Value.{Value}
 use Rattle.node_semver.specs.Versions.{VersionValue}
 use Rattle.npm_lock.specs.Findings as Findings
 use Rattle.npm_lock.specs.FoundWorkspaces.{workspace_problem}
-use Rattle.npm_manifests.specs.ManifestPlace.{with_manifest}
-use Rattle.npm_manifests.specs.Mismatches.{AreMismatches}
+use Rattle.npm_lock.specs.ManifestPlace.{with_manifest}
+use Rattle.npm_lock.specs.Mismatches.{AreMismatches}
 use Rattle.npm_lock.specs.Outcomes.{ProblemValue, problem_value}
-use Rattle.npm_lock_version_one.specs.VersionOne.{converted}
-use Rattle.npm_manifests.specs.declared.mismatch.Mismatch.{Mismatch}
+use Rattle.npm_lock.specs.VersionOne.{converted}
+use Rattle.npm_lock.specs.declared.mismatch.Mismatch.{Mismatch}
 use Rattle.npm_lock.specs.declared.problem.Problem.{Problem}
 use Rattle.npm_lock.specs.declared.problem.Problems.{Problems}
 use Rattle.npm_advisories.specs.Files.{advisories_of}
 use Rattle.npm_advisories.specs.Audit.{FoundValue, InstalledValue, IsAudit}
 use Rattle.npm_advisories.specs.LockFile.{AreInstalledOf}
-use Rattle.npm_advisory_files.specs.declared.severity.Severity.{Severity}
+use Rattle.npm_advisories.specs.declared.severity.Severity.{Severity}
 use Rattle.npm_lock_reports.specs.Unread.{UnreadValue, root_of_file, unread_value}
 use Rattle.npm_lock_reports.specs.declared.report.Report.{Report}
 use Rattle.npm_lock_counted.specs.Count.{count_of}

@@ -22,12 +22,12 @@ use Rattle.npm_lock.specs.Outcomes.{IsEngineOutcome, IsOutcome, JudgementValue, 
 use Rattle.npm_lock.specs.Outcomes as Outcomes
 use Rattle.npm_lock.specs.Outcomes.{dependency_of, problem_value, unchecked_value, version_of}
 use Rattle.npm_lock.specs.declared.problem.Problems.{Problems}
-use Rattle.npm_advisory_files.specs.Advisories.{AdvisoryValue}
+use Rattle.npm_advisories.specs.Advisories.{AdvisoryValue}
 use Rattle.npm_advisories.specs.Audit as Audit
 use Rattle.npm_advisories.specs.Audit.{FoundValue, InstalledValue, IsAudit}
 use Rattle.npm_advisories.specs.LockFile as LockFiles
 use Rattle.npm_advisories.specs.LockFile.{AreInstalled, AreInstalledOf}
-use Rattle.npm_advisory_files.specs.declared.severity.Severity.{Severity}
+use Rattle.npm_advisories.specs.declared.severity.Severity.{Severity}
 use Rattle.npm_lock_reports.specs.VersionLaws.{HasFileVersions, HasVersions, version_in}
 
 -- ---- members

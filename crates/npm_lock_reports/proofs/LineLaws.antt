@@ -7,12 +7,12 @@ use Rattle.std.specs.List.{AllByRecursion, AllZip, count_by, slice_split}
 use Rattle.serde_json.specs.Written.{has_float}
 use Rattle.node_semver.specs.Versions.{IdentifierValue, IsPrerelease, VersionValue}
 use Rattle.npm_lock.specs.Outcomes.{problem_value, unchecked_value}
-use Rattle.npm_manifests.specs.Mismatches.{mismatch_value}
-use Rattle.npm_advisory_files.specs.Advisories.{AdvisoryValue}
+use Rattle.npm_lock.specs.Mismatches.{mismatch_value}
+use Rattle.npm_advisories.specs.Advisories.{AdvisoryValue}
 use Rattle.npm_advisories.specs.Audit.{FoundValue, InstalledValue, IsAudit, hit, none, spared}
 use Rattle.npm_advisories.specs.FoundJson.{found_data}
 use Rattle.npm_advisories.specs.Offers.{IsLeastOrNone}
-use Rattle.npm_advisory_files.specs.declared.severity.Severity.{Severity}
+use Rattle.npm_advisories.specs.declared.severity.Severity.{Severity}
 use Rattle.npm_lock_reports.specs.Report as Reports
 use Rattle.npm_lock_reports.specs.Report.{AreLines, IsHitLine, line_text, lines, mismatch_text, one_more}
 use Rattle.npm_lock_reports.specs.Report.{unchecked_text, unread_text}

@@ -10,8 +10,8 @@ use Rattle.std.specs.Prelude.{⊤}
 use Rattle.serde_json.proofs.OnLiterals.{serde_json_on_literals}
 use Rattle.serde_json.specs.Data.{Data, Members, array, boolean, member, no_members, null, number, object, put, string}
 use Rattle.serde_json.specs.Written.{compact_text, has_float, members_have_float}
-use Rattle.npm_manifests.specs.MismatchJson.{mismatch_data}
-use Rattle.npm_manifests.specs.Mismatches.{MismatchValue}
+use Rattle.npm_lock.specs.MismatchJson.{mismatch_data}
+use Rattle.npm_lock.specs.Mismatches.{MismatchValue}
 use Rattle.npm_lock.specs.Outcomes.{ProblemValue, UncheckedValue}
 use Rattle.npm_lock.specs.ProblemJson.{problem_data, reason_text, unchecked_data, with_text}
 use Rattle.npm_lock_reports.specs.Report.{AreLines, IsJsonLine, lines, one_more}

@@ -3,22 +3,22 @@ use Rattle.std.proofs.Common.{◌≡◌, ◌++◌, ℕ, List, [], ◌∷◌, Opt
 use Rattle.serde_json.specs.Data.{Data, array, boolean, null, number, object, string, unsigned, negative, float}
 use Rattle.serde_json.specs.Written.{has_float}
 use Rattle.node_semver.specs.Versions.{VersionValue, version_text}
-use Rattle.npm_manifests.specs.Mismatches.{MismatchValue, group_text}
-use Rattle.npm_manifests.specs.MismatchJson.{mismatch_data}
-use Rattle.npm_manifests.specs.declared.group.Group.{Group}
-use Rattle.npm_manifests.specs.declared.group.Group.TheVariants.{Dependencies, DevDependencies, OptionalDependencies, PeerDependencies}
+use Rattle.npm_lock.specs.Mismatches.{MismatchValue, group_text}
+use Rattle.npm_lock.specs.MismatchJson.{mismatch_data}
+use Rattle.npm_lock.specs.declared.group.Group.{Group}
+use Rattle.npm_lock.specs.declared.group.Group.TheVariants.{Dependencies, DevDependencies, OptionalDependencies, PeerDependencies}
 use Rattle.npm_lock.specs.Outcomes.{DependencyValue, ProblemValue, UncheckedValue}
 use Rattle.npm_lock.specs.ProblemJson.{problem_data, unchecked_data}
 use Rattle.npm_lock.specs.declared.problem.Kind.{Kind}
 use Rattle.npm_lock.specs.declared.problem.Kind.TheVariants.{Engine, Invalid, Missing, PeerLocal}
 use Rattle.npm_lock.specs.declared.problem.Reason.{Reason}
 use Rattle.npm_lock.specs.declared.problem.Reason.TheVariants.{Location, Override, Tag, Workspace}
-use Rattle.npm_advisory_files.specs.Advisories.{AboutValue}
+use Rattle.npm_advisories.specs.Advisories.{AboutValue}
 use Rattle.npm_advisories.specs.Audit.{FoundValue}
 use Rattle.npm_advisories.specs.FoundJson.{found_data}
-use Rattle.npm_advisory_files.specs.Severities.{word_of}
-use Rattle.npm_advisory_files.specs.declared.severity.Severity.{Severity}
-use Rattle.npm_advisory_files.specs.declared.severity.Severity.TheVariants as Severities
+use Rattle.npm_advisories.specs.Severities.{word_of}
+use Rattle.npm_advisories.specs.declared.severity.Severity.{Severity}
+use Rattle.npm_advisories.specs.declared.severity.Severity.TheVariants as Severities
 use Rattle.npm_lock_reports.specs.Sentence.{after, asker, last_name, manifest_words, mismatch_sentence, named_asker, reason, said}
 use Rattle.npm_lock_reports.specs.Sentence.{sentence, shown_spec, spec_words, unchecked_sentence, verdict}
 use Rattle.command_lines.specs.Shown.{shown, shown_first}

@@ -2,9 +2,9 @@
 use Rattle.std.specs.Prelude.{ℕ, List, [], ◌∷◌, ◌++◌, Option, Some, None, codes, decimal}
 use Rattle.serde_json.specs.Data.{Data, number, string, unsigned}
 use Rattle.node_semver.specs.Versions.{VersionValue, version_text}
-use Rattle.npm_advisory_files.specs.Advisories.{AboutValue}
+use Rattle.npm_advisories.specs.Advisories.{AboutValue}
 use Rattle.npm_advisories.specs.Audit.{FoundValue}
-use Rattle.npm_advisory_files.specs.Severities.{word_of}
+use Rattle.npm_advisories.specs.Severities.{word_of}
 use Rattle.npm_lock_reports.specs.Sentence.{after}
 use Rattle.command_lines.specs.Shown.{shown, shown_first}
 

@@ -3,8 +3,8 @@ use Rattle.std.specs.Prelude.{◌≡◌, ◌≤◌, ℕ, List, [], ◌∷◌, �
 use Rattle.serde_json.specs.Data.{Data, depth}
 use Rattle.serde_json.specs.Read.{max_depth, read}
 use Rattle.serde_json.specs.Written.{compact_text, has_float}
-use Rattle.npm_manifests.specs.MismatchJson.{mismatch_data}
-use Rattle.npm_manifests.specs.Mismatches.{MismatchValue, mismatch_value}
+use Rattle.npm_lock.specs.MismatchJson.{mismatch_data}
+use Rattle.npm_lock.specs.Mismatches.{MismatchValue, mismatch_value}
 use Rattle.npm_lock.specs.Outcomes.{ProblemValue, UncheckedValue, problem_value, unchecked_value}
 use Rattle.npm_lock.specs.ProblemJson.{problem_data, unchecked_data}
 use Rattle.npm_advisories.specs.Audit.{FoundValue}

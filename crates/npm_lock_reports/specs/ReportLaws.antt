@@ -2,12 +2,12 @@
 use Rattle.std.specs.Prelude.{◌≡◌, ◌==◌, ◌+◌, ℕ, List, [], ◌∷◌, ◌++◌, Bool, false, if◌then◌else◌, count_by, length, map}
 use Rattle.std.specs.List.{AllByRecursion, AllZip, slice_split}
 use Rattle.serde_json.specs.Written.{has_float}
-use Rattle.npm_manifests.specs.Mismatches.{mismatch_value}
+use Rattle.npm_lock.specs.Mismatches.{mismatch_value}
 use Rattle.npm_lock.specs.Outcomes.{problem_value, unchecked_value}
-use Rattle.npm_advisory_files.specs.Advisories.{AdvisoryValue}
+use Rattle.npm_advisories.specs.Advisories.{AdvisoryValue}
 use Rattle.npm_advisories.specs.Audit.{FoundValue, InstalledValue, IsAudit}
 use Rattle.npm_advisories.specs.FoundJson.{found_data}
-use Rattle.npm_advisory_files.specs.declared.severity.Severity.{Severity}
+use Rattle.npm_advisories.specs.declared.severity.Severity.{Severity}
 use Rattle.npm_lock_reports.specs.Report.{IsHitLine, IsReportText, line_text, mismatch_text, unchecked_text, unread_text}
 use Rattle.npm_lock_reports.specs.Style.{StyleValue}
 use Rattle.npm_lock_reports.specs.Unread.{unread_value}

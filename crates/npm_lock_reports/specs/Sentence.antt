@@ -1,7 +1,7 @@
 -- A problem, or a dependency that is not checked, as a sentence for a person.
 use Rattle.std.specs.Prelude.{ℕ, List, [], ◌∷◌, ◌++◌, Option, Some, None, codes}
 use Rattle.std.specs.Option.{option_or}
-use Rattle.npm_manifests.specs.Mismatches.{MismatchValue, group_text}
+use Rattle.npm_lock.specs.Mismatches.{MismatchValue, group_text}
 use Rattle.npm_lock.specs.Outcomes.{DependencyValue, ProblemValue, UncheckedValue}
 use Rattle.npm_texts.specs.Texts.{rest_after}
 use Rattle.npm_lock.specs.declared.problem.Kind.{Kind}

@@ -9,10 +9,10 @@ use Rattle.npm_lock.specs.Outcomes.{DependencyValue, problem_value, unchecked_va
 use Rattle.npm_lock.specs.declared.problem.Kind.{Kind}
 use Rattle.npm_lock.specs.declared.problem.Kind.TheVariants.{Engine}
 use Rattle.npm_lock.specs.declared.problem.Problems.{Problems}
-use Rattle.npm_advisory_files.specs.Advisories.{AdvisoryValue}
+use Rattle.npm_advisories.specs.Advisories.{AdvisoryValue}
 use Rattle.npm_advisories.specs.Audit.{FoundValue, InstalledValue, IsAudit}
 use Rattle.npm_advisories.specs.LockFile.{AreInstalledOf}
-use Rattle.npm_advisory_files.specs.declared.severity.Severity.{Severity}
+use Rattle.npm_advisories.specs.declared.severity.Severity.{Severity}
 
 -- the version that a lock file has of the package in a folder
 abbrev pub version_in : (lock : Data) → (folder : List ℕ) → Option (List ℕ)

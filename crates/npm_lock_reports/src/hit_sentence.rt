@@ -2,7 +2,7 @@
 ghost use Rattle.std.specs.Prelude.{◌≡◌, ◌++◌, codes, OnOk, map, option_map};
 ghost use Rattle.serde_json.specs.View.{view};
 ghost use Rattle.node_semver.specs.Versions.{version_text};
-ghost use Rattle.npm_advisory_files.specs.Advisories.{about_value};
+ghost use Rattle.npm_advisories.specs.Advisories.{about_value};
 ghost use Rattle.npm_advisories.specs.Audit.{found_value};
 ghost use Rattle.npm_lock_reports.specs.HitSentence as HitSentence;
 

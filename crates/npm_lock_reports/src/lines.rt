@@ -1,7 +1,7 @@
 //! The lines that are written about a lock file.
 ghost use Rattle.std.specs.Prelude.{◌≡◌, ◌++◌, List, ℕ, IfOk, OnOk, map};
 ghost use Rattle.npm_advisories.specs.Audit.{found_value};
-ghost use Rattle.npm_manifests.specs.Mismatches.{mismatch_value};
+ghost use Rattle.npm_lock.specs.Mismatches.{mismatch_value};
 ghost use Rattle.npm_lock.specs.Outcomes.{problem_value, unchecked_value};
 ghost use Rattle.npm_lock_reports.specs.Report as Reports;
 ghost use Rattle.npm_lock_reports.specs.Report.{AreLines, IsHitLine, IsReportText, line_text, mismatch_text};
@@ -16,8 +16,7 @@ use crate::sentence::{push_mismatch_sentence, push_sentence, push_unchecked_sent
 use crate::style::{LineStyle, push_file, push_object};
 use crate::unread::{Unread, push_unread_sentence, unread_json};
 use npm_advisories::Found;
-use npm_lock::{Problem, Unchecked};
-use npm_manifests::Mismatch;
+use npm_lock::{Mismatch, Problem, Unchecked};
 use std::alloc::{AllocError, Global};
 
 /// Returns the lines of a report, and of the packages that are hit: of the mismatches, of the problems, of the packages, and if

@@ -3,9 +3,8 @@ ghost use Rattle.std.specs.Prelude.{◌≡◌, ◌↔◌, IsTrue};
 ghost use Rattle.npm_lock_reports.specs.Report.{IsClean};
 
 use crate::unread::Unread;
-use npm_lock::Problems;
+use npm_lock::{Mismatch, Problems};
 use npm_lock_counted::Excepted;
-use npm_manifests::Mismatch;
 use std::fmt;
 
 /// The report of a lock file.

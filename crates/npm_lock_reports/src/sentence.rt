@@ -4,13 +4,12 @@
 ghost use Rattle.std.specs.Prelude.{◌≡◌, ◌++◌, ℕ, List, None, Some, codes, OnOk, option_map, string_bytes};
 ghost use Rattle.std.specs.Option.{MatchOption};
 ghost use Rattle.std.specs.Str.Pattern.{RFindsText, SplitsAroundMatch};
-ghost use Rattle.npm_manifests.specs.Mismatches.{mismatch_value};
+ghost use Rattle.npm_lock.specs.Mismatches.{mismatch_value};
 ghost use Rattle.npm_lock.specs.Outcomes.{dependency_value, problem_value, unchecked_value};
 ghost use Rattle.npm_lock_reports.specs.Sentence as Sentence;
 
 use command_lines::{push_shown, push_shown_first};
-use npm_lock::{Dependency, Kind, Problem, Reason, Unchecked};
-use npm_manifests::Mismatch;
+use npm_lock::{Dependency, Kind, Mismatch, Problem, Reason, Unchecked};
 use std::alloc::AllocError;
 
 /// Adds the sentence of a problem.

@@ -3,7 +3,7 @@ ghost use Rattle.std.specs.Prelude.{◌≡◌, IfOk, IsErrOf, None, string_bytes
 ghost use Rattle.serde_json.specs.View.{view};
 ghost use Rattle.command_lines.specs.Inputs.{IsInput};
 ghost use Rattle.npm_lock_faults.specs.declared.fault_place.FaultPlace.{FaultPlace};
-ghost use Rattle.npm_manifests.specs.Mismatches.{manifest_fault};
+ghost use Rattle.npm_lock.specs.Mismatches.{manifest_fault};
 ghost use Rattle.npm_manifest_files.specs.ManifestFile.{IsFaultyInput, IsNoFile, IsNotOpened, IsNotRead, path_of};
 ghost use Rattle.npm_manifest_files.specs.Paths as Paths;
 

@@ -4,15 +4,15 @@ use Rattle.serde_json.specs.Data.{Data, Items, array, item, member, no_items, no
 use Rattle.serde_json.specs.Data.{unsigned}
 use Rattle.semver_versions.specs.Lemmas.Public.{is-version_in, version_in}
 use Rattle.node_semver.specs.Versions.{IsVersionText, release}
-use Rattle.npm_advisory_files.specs.Advisories.{AboutValue, in_osv, range_text}
-use Rattle.npm_advisory_files.specs.Faults.{fault_at}
+use Rattle.npm_advisories.specs.Advisories.{AboutValue, in_osv, range_text}
+use Rattle.npm_advisories.specs.Faults.{fault_at}
 use Rattle.npm_advisories.specs.Files.{IsFileFault, advisories_of}
-use Rattle.npm_advisory_files.specs.Ids.{id_in, number as id_number, text as id_text}
-use Rattle.npm_advisory_files.specs.OsvRanges.{fixed, introduced}
-use Rattle.npm_advisory_files.specs.Severities.{is_at_least, severity_of_text}
-use Rattle.npm_advisory_files.specs.Timestamps.{is_timestamp}
-use Rattle.npm_advisory_files.specs.declared.fault.FaultKind.TheVariants as Faults
-use Rattle.npm_advisory_files.specs.declared.severity.Severity.TheVariants.{Critical, High, Info, Low, Moderate, Unknown}
+use Rattle.npm_advisories.specs.Ids.{id_in, number as id_number, text as id_text}
+use Rattle.npm_advisories.specs.OsvRanges.{fixed, introduced}
+use Rattle.npm_advisories.specs.Severities.{is_at_least, severity_of_text}
+use Rattle.npm_advisories.specs.Timestamps.{is_timestamp}
+use Rattle.npm_advisories.specs.declared.fault.FaultKind.TheVariants as Faults
+use Rattle.npm_advisories.specs.declared.severity.Severity.TheVariants.{Critical, High, Info, Low, Moderate, Unknown}
 
 two : IsVersionText (codes "2.0.0") (release 2 0 0)
 unfolding version_in

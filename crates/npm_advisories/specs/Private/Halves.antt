@@ -5,7 +5,7 @@ use Rattle.node_semver.specs.RangeAlgebra.{sets_of_answer}
 use Rattle.node_semver.specs.Ranges.{RangeContains}
 use Rattle.node_semver.specs.Versions.{VersionValue}
 use Rattle.npm_advisories.specs.Private.Spans.{IsInRange}
-use Rattle.npm_advisory_files.specs.declared.advisory.Advisory.{Advisory}
+use Rattle.npm_advisories.specs.declared.advisory.Advisory.{Advisory}
 use Rattle.npm_advisories.specs.declared.halves.Halves.{Halves}
 use Rattle.npm_advisories.specs.declared.halves.Halves.TheVariants.{Whole, Halved'}
 

@@ -3,9 +3,9 @@ use Rattle.std.specs.Prelude.{◌≡◌, List, Option, Some, None, true}
 use Rattle.node_semver.specs.RangeAlgebra.{sets_of_answer}
 use Rattle.node_semver.specs.Ranges.{AnyByRecursion, RangeContains}
 use Rattle.node_semver.specs.Versions.{VersionValue}
-use Rattle.npm_advisory_files.specs.Severities.{is_at_least}
-use Rattle.npm_advisory_files.specs.declared.advisory.Advisory.{Advisory}
-use Rattle.npm_advisory_files.specs.declared.severity.Severity.{Severity}
+use Rattle.npm_advisories.specs.Severities.{is_at_least}
+use Rattle.npm_advisories.specs.declared.advisory.Advisory.{Advisory}
+use Rattle.npm_advisories.specs.declared.severity.Severity.{Severity}
 
 -- the advisory is about the installed version, or that is none
 abbrev pub IsIn : Advisory → Option VersionValue → Type 0

@@ -6,10 +6,10 @@ use Rattle.std.specs.Option.{MatchOption}
 use Rattle.std.specs.Ordering.{nat_cmp}
 use Rattle.npm_advisories.specs.Private.Covering.{AreCovered}
 use Rattle.npm_advisories.specs.Private.Halves.{AreHalves}
-use Rattle.npm_advisory_files.specs.Index.{at_name}
+use Rattle.npm_advisories.specs.Index.{at_name}
 use Rattle.npm_advisories.specs.Private.Spans.{IsInRange}
-use Rattle.npm_advisory_files.specs.declared.advisory.Advisory.{Advisory}
-use Rattle.npm_advisory_files.specs.declared.index.Index.{Index}
+use Rattle.npm_advisories.specs.declared.advisory.Advisory.{Advisory}
+use Rattle.npm_advisories.specs.declared.index.Index.{Index}
 use Rattle.npm_advisories.specs.declared.unions.Union.{Union}
 use Rattle.npm_advisories.specs.declared.unions.Unions.{Unions}
 

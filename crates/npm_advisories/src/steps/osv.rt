@@ -4,21 +4,20 @@ ghost use Rattle.serde_json.specs.View.{items_view, view};
 ghost use Rattle.json_places.specs.Steps.{steps_seen};
 ghost use Rattle.npm_advisories.specs.FaultSteps as FaultSteps;
 ghost use Rattle.npm_advisories.specs.FaultSteps.{steps_among};
-ghost use Rattle.npm_advisory_files.specs.Faults.{first_fault};
-ghost use Rattle.npm_advisory_files.specs.OsvFaults as Faults;
-ghost use Rattle.npm_advisory_files.specs.Index.{has_name};
-ghost use Rattle.npm_advisory_files.specs.Private.VersionTest.{is_version};
+ghost use Rattle.npm_advisories.specs.Faults.{first_fault};
+ghost use Rattle.npm_advisories.specs.OsvFaults as Faults;
+ghost use Rattle.npm_advisories.specs.Index.{has_name};
+ghost use Rattle.npm_advisories.specs.Private.VersionTest.{is_version};
 
-use crate::Result;
-use crate::steps::push_member;
-use json_places::Step;
-use npm_advisory_files::osv::affected::{
+use crate::osv::affected::{
     has_versions, range_of, spans_of_range, spans_of_ranges, spans_of_versions,
 };
-use npm_advisory_files::osv::events;
-use npm_advisory_files::osv::events::has_fault;
-use npm_advisory_files::osv::packages::npm_name;
-use npm_advisory_files::{FaultKind, Names, is_refused, items_at, listed_at};
+use crate::osv::events;
+use crate::osv::events::has_fault;
+use crate::osv::packages::npm_name;
+use crate::steps::push_member;
+use crate::{FaultKind, Names, Result, is_refused, items_at, listed_at};
+use json_places::Step;
 use serde_json::Value;
 use std::alloc::Global;
 

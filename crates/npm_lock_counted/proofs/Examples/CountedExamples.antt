@@ -2,8 +2,8 @@
 use Rattle.std.proofs.Common.{◌≡◌, ◌++◌, ◌∷◌, [], List, ℕ, Option, None, Some, codes, false, refl, true}
 use Rattle.serde_json.specs.Data.{Data, boolean, member, no_members, object, string}
 use Rattle.toml_datetime.specs.declared.datetime.Date.{Date}
-use Rattle.npm_advisory_files.specs.Advisories.{AboutValue}
-use Rattle.npm_advisory_files.specs.declared.severity.Severity.TheVariants.{High}
+use Rattle.npm_advisories.specs.Advisories.{AboutValue}
+use Rattle.npm_advisories.specs.declared.severity.Severity.TheVariants.{High}
 use Rattle.npm_advisories.specs.Audit.{FoundValue}
 use Rattle.npm_lock_counted.specs.declared.omissions.Omissions.{Omissions}
 use Rattle.npm_lock_counted.specs.Exceptions.{ExceptionsValue}

@@ -5,8 +5,8 @@ use Rattle.serde_json.specs.Data.{Data, number, string, unsigned}
 use Rattle.toml_datetime.specs.declared.datetime.Date.{Date}
 use Rattle.toml_datetime.specs.Text.{date_text, two_wide}
 use Rattle.advisory_exceptions.specs.Exceptions.{ExceptionValue}
-use Rattle.npm_advisory_files.specs.Advisories.{AboutValue}
-use Rattle.npm_advisory_files.specs.declared.severity.Severity.TheVariants.{High}
+use Rattle.npm_advisories.specs.Advisories.{AboutValue}
+use Rattle.npm_advisories.specs.declared.severity.Severity.TheVariants.{High}
 use Rattle.npm_advisories.specs.Audit.{FoundValue}
 use Rattle.npm_lock_counted.specs.Excepted.{excepted_in}
 use Rattle.npm_lock_counted.specs.Exceptions.{ExceptionsValue, has_id, left_in}

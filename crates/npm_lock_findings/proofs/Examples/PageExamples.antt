@@ -4,9 +4,9 @@ use Rattle.findings.specs.Findings.{FindingValue}
 use Rattle.findings.specs.declared.finding.Level.TheVariants.{Error, Warning}
 use Rattle.findings.specs.Pieces.{text, written}
 use Rattle.findings.specs.declared.pages.entry.Part.TheVariants as Parts
-use Rattle.npm_advisory_files.specs.Advisories.{AboutValue}
-use Rattle.npm_advisory_files.specs.declared.severity.Severity.{Severity}
-use Rattle.npm_advisory_files.specs.declared.severity.Severity.TheVariants as Severities
+use Rattle.npm_advisories.specs.Advisories.{AboutValue}
+use Rattle.npm_advisories.specs.declared.severity.Severity.{Severity}
+use Rattle.npm_advisories.specs.declared.severity.Severity.TheVariants as Severities
 use Rattle.npm_lock_findings.specs.Entries.{SubjectValue, entries_of, entry_of}
 use Rattle.npm_lock_findings.specs.Parts.{looked_for}
 use Rattle.npm_lock_findings.specs.Subjects.{hit_part, unread_subject}

@@ -4,7 +4,7 @@ ghost use Rattle.findings.specs.Drafts.{draft_value};
 ghost use Rattle.npm_advisories.specs.Audit.{found_value};
 ghost use Rattle.npm_lock.specs.Outcomes.{problem_value, unchecked_value};
 ghost use Rattle.npm_lock_reports.specs.Unread.{unread_value};
-ghost use Rattle.npm_manifests.specs.Mismatches.{mismatch_value};
+ghost use Rattle.npm_lock.specs.Mismatches.{mismatch_value};
 ghost use Rattle.npm_lock_findings.specs.Findings.{hit_draft, mismatch_draft, names_seen, note_draft, problem_draft};
 ghost use Rattle.npm_lock_findings.specs.Findings.{unchecked_draft, unread_draft};
 
@@ -14,12 +14,11 @@ use crate::annotations::rules::{
 };
 use findings::{Draft, Level};
 use npm_advisories::Found;
-use npm_lock::{Problem, Unchecked};
+use npm_lock::{Mismatch, Problem, Unchecked};
 use npm_lock_reports::{
     Unread, push_hit_sentence, push_mismatch_sentence, push_sentence, push_unchecked_sentence,
     push_unread_sentence,
 };
-use npm_manifests::Mismatch;
 use std::alloc::{AllocError, Global};
 
 /// Returns the draft of a problem.

@@ -4,16 +4,15 @@ ghost use Rattle.findings.specs.Drafts.{draft_value};
 ghost use Rattle.npm_advisories.specs.Audit.{found_value};
 ghost use Rattle.npm_lock.specs.Outcomes.{problem_value, unchecked_value};
 ghost use Rattle.npm_lock_reports.specs.Unread.{unread_value};
-ghost use Rattle.npm_manifests.specs.Mismatches.{mismatch_value};
+ghost use Rattle.npm_lock.specs.Mismatches.{mismatch_value};
 ghost use Rattle.npm_lock_findings.specs.Findings.{hit_draft, listed_drafts, mismatch_draft, problem_draft, unchecked_draft};
 ghost use Rattle.npm_lock_findings.specs.Findings.{unread_draft};
 
 use crate::annotations::draft_of::{hit, mismatched, problematic, unchecked, unread};
 use findings::Draft;
 use npm_advisories::Found;
-use npm_lock::{Problem, Unchecked};
+use npm_lock::{Mismatch, Problem, Unchecked};
 use npm_lock_reports::{Report, Unread};
-use npm_manifests::Mismatch;
 use std::alloc::{AllocError, Global};
 
 /// Adds the drafts of mismatches.

@@ -2,19 +2,18 @@
 ghost use Rattle.std.specs.Prelude.{◌≡◌, ◌==◌, map};
 ghost use Rattle.std.specs.List.{list_any};
 ghost use Rattle.npm_advisories.specs.Audit.{found_value};
-ghost use Rattle.npm_advisory_files.specs.Advisories.{about_value};
+ghost use Rattle.npm_advisories.specs.Advisories.{about_value};
 ghost use Rattle.npm_lock.specs.Outcomes.{problem_value, unchecked_value};
 ghost use Rattle.npm_lock_findings.specs.Subjects as Subjects;
 ghost use Rattle.npm_lock_findings.specs.Entries.{subject_value};
 ghost use Rattle.npm_lock_reports.specs.Unread.{unread_value};
-ghost use Rattle.npm_manifests.specs.Mismatches.{mismatch_value};
+ghost use Rattle.npm_lock.specs.Mismatches.{mismatch_value};
 
 use crate::pages::entries::Subject;
 use findings::Part;
 use npm_advisories::{About, Found, Severity};
-use npm_lock::{Problem, Unchecked};
+use npm_lock::{Mismatch, Problem, Unchecked};
 use npm_lock_reports::Unread;
-use npm_manifests::Mismatch;
 
 /// Returns what a problem is about.
 pub fn problematic<'a>(problem: &'a Problem) -> Subject<'a>

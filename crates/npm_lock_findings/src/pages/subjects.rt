@@ -5,14 +5,13 @@ ghost use Rattle.npm_lock.specs.Outcomes.{problem_value, unchecked_value};
 ghost use Rattle.npm_lock_findings.specs.Entries.{subject_value};
 ghost use Rattle.npm_lock_findings.specs.Subjects as Subjects;
 ghost use Rattle.npm_lock_reports.specs.Unread.{unread_value};
-ghost use Rattle.npm_manifests.specs.Mismatches.{mismatch_value};
+ghost use Rattle.npm_lock.specs.Mismatches.{mismatch_value};
 
 use crate::pages::entries::Subject;
 use crate::pages::subject::{hit, mismatched, problematic, unchecked, unread};
 use npm_advisories::Found;
-use npm_lock::{Problem, Unchecked};
+use npm_lock::{Mismatch, Problem, Unchecked};
 use npm_lock_reports::{Report, Unread};
-use npm_manifests::Mismatch;
 use std::alloc::{AllocError, Global};
 
 /// Returns what each finding of a report and of the packages that are hit is about.

@@ -2,7 +2,7 @@
 use Rattle.std.proofs.Common.{◌≡◌, ◌∷◌, [], Err, Ok, Some, codes, false, map, refl, true}
 use Rattle.command_lines.specs.Given.{is_among}
 use Rattle.command_lines.specs.declared.argument.given.Shown.TheVariants.{Help, Version}
-use Rattle.npm_advisory_files.specs.declared.severity.Severity.TheVariants.{High}
+use Rattle.npm_advisories.specs.declared.severity.Severity.TheVariants.{High}
 use Rattle.npm_lock.specs.declared.problem.Kind.TheVariants.{Engine, Invalid, Missing, PeerLocal}
 use Rattle.npm_lock_program.specs.Arguments.{ArgumentsValue, asked_by, files_of, many_files, no_group, no_kind, no_severity, no_value, read_arguments, second_input, twice, unknown_option}
 use Rattle.npm_lock_program.specs.Arguments.{kind_words, kinds_of, omissions_of}

@@ -1,7 +1,7 @@
 -- What the definitions say of the manifests of linked folders.
 use Rattle.std.proofs.Common.{◌≡◌, ◌∷◌, ℕ, List, [], None, Some, codes, refl}
 use Rattle.serde_json.specs.Data.{Data, member, no_members, object, string}
-use Rattle.npm_manifests.specs.ManifestPlace.{as_package}
+use Rattle.npm_lock.specs.ManifestPlace.{as_package}
 use Rattle.npm_packages.specs.declared.fault.Fault.TheVariants as Faults
 use Rattle.npm_manifest_files.specs.Linked.{LinkedValue}
 use Rattle.npm_lock_program.specs.Check.{linked_fault}

@@ -1,8 +1,8 @@
 -- What the definitions say of the names of lists of advisories.
 use Rattle.std.proofs.Common.{◌≡◌, [], None, Some, codes, refl}
 use Rattle.std.specs.Fmt.{digits}
-use Rattle.npm_advisory_files.specs.declared.fault.FaultKind.TheVariants as FaultKinds
-use Rattle.npm_advisory_files.specs.declared.fault.FaultKind.TheVariants.{File, Range}
+use Rattle.npm_advisories.specs.declared.fault.FaultKind.TheVariants as FaultKinds
+use Rattle.npm_advisories.specs.declared.fault.FaultKind.TheVariants.{File, Range}
 use Rattle.npm_lock_program.specs.ListNames.{list_words, place_words}
 
 pub a_list_of_advisories : list_words (codes "lodash") ≡ codes ", of \"lodash\""

@@ -3,9 +3,9 @@ use Rattle.std.proofs.Common.{◌≡◌, ◌∙◌, ◌∷◌, ◌++◌, ℕ, Li
 use Rattle.std.proofs.Common.{sym, true, zero}
 use Rattle.std.specs.List.{Contains, cons_option, filter_map}
 use Rattle.serde_json.specs.Data.{Data, member, no_members, number, object, string, unsigned}
-use Rattle.npm_manifests.specs.ManifestPlace.{as_package}
-use Rattle.npm_manifests.specs.Mismatches.{AreMismatches, MismatchValue, mismatch_of}
-use Rattle.npm_manifests.specs.declared.group.Group.TheVariants.{Dependencies, DevDependencies}
+use Rattle.npm_lock.specs.ManifestPlace.{as_package}
+use Rattle.npm_lock.specs.Mismatches.{AreMismatches, MismatchValue, mismatch_of}
+use Rattle.npm_lock.specs.declared.group.Group.TheVariants.{Dependencies, DevDependencies}
 use Rattle.npm_lock_program.specs.Report.{is_compared, manifests_of, placed}
 use Rattle.npm_lock_reports.specs.Sentence.{mismatch_sentence}
 

@@ -3,15 +3,15 @@
 use Rattle.std.specs.Prelude.{◌≡◌, ◌⊎◌, ℕ, List, Option, None, Some, option_map, string_bytes}
 use Rattle.serde_json.specs.Data.{Data}
 use Rattle.npm_packages.specs.Faults.{lock_fault}
-use Rattle.npm_manifests.specs.Mismatches.{manifest_fault}
-use Rattle.npm_lock_version_one.specs.VersionOne.{converted}
+use Rattle.npm_lock.specs.Mismatches.{manifest_fault}
+use Rattle.npm_lock.specs.VersionOne.{converted}
 use Rattle.npm_packages.specs.declared.fault.Fault.{Fault}
 use Rattle.npm_lock_faults.specs.declared.fault_place.FaultPlace.{FaultPlace}
-use Rattle.npm_advisory_files.specs.Faults.{FaultValue}
-use Rattle.npm_advisory_files.specs.declared.fault.FaultKind.{FaultKind}
+use Rattle.npm_advisories.specs.Faults.{FaultValue}
+use Rattle.npm_advisories.specs.declared.fault.FaultKind.{FaultKind}
 use Rattle.npm_manifest_files.specs.Linked.{LinkedValue}
 use Rattle.npm_lock_program.specs.Check.{AreNoAdvisories, IsFaultShown, IsNoLinked, IsNoLockFile, IsNoManifest}
-use Rattle.shown_places.specs.declared.place.ShownPlace.{ShownPlace}
+use Rattle.npm_lock_faults.specs.declared.place.ShownPlace.{ShownPlace}
 use Rattle.npm_lock_program.specs.Report.{WantedValue}
 use Rattle.npm_lock_program.specs.ListNames.{id_text}
 use Rattle.npm_lock_reports.specs.declared.folder_name.FolderName.{FolderName}

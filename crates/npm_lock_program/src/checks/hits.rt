@@ -2,8 +2,8 @@
 ghost use Rattle.std.specs.Prelude.{◌≡◌, IfErr, IfOk, map, option_map, string_bytes};
 ghost use Rattle.serde_json.specs.View.{view};
 ghost use Rattle.npm_advisories.specs.Audit.{found_value};
-ghost use Rattle.npm_advisory_files.specs.Faults.{fault_value};
-ghost use Rattle.npm_advisory_files.specs.Ids.{id_value};
+ghost use Rattle.npm_advisories.specs.Faults.{fault_value};
+ghost use Rattle.npm_advisories.specs.Ids.{id_value};
 ghost use Rattle.npm_lock_program.specs.Check.{IsFaultShown};
 ghost use Rattle.npm_lock_program.specs.ListNames.{id_text};
 ghost use Rattle.npm_lock_program.specs.Private.Refusals.{AreRefusedAs, IsAuditRefused, IsNameOf};
@@ -16,9 +16,8 @@ use crate::checks::wanted::Wanted;
 use json_places::Path;
 use npm_advisories::{AdvisoryId, Fault, Found, LockError, audit_lock, fault_steps};
 use npm_lock_counted::{CountedHits, counted_hits};
-use npm_lock_faults::FaultPlace;
+use npm_lock_faults::{FaultPlace, ShownPlace};
 use serde_json::Value;
-use shown_places::ShownPlace;
 use std::alloc::{AllocError, Global};
 
 /// Returns what counts of the hits of a lock file, and what is excepted.

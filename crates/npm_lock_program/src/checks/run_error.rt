@@ -4,10 +4,9 @@ use advisory_exceptions::ExceptionsError;
 use command_lines::InputError;
 use npm_advisories::FaultKind;
 use npm_lock::Fault;
-use npm_lock_faults::FaultPlace;
+use npm_lock_faults::{FaultPlace, ShownPlace};
 use npm_lock_reports::FolderName;
 use npm_manifest_files::{LoadError, ManifestError};
-use shown_places::ShownPlace;
 use thiserror::Error;
 
 /// Why a lock file was not checked.

@@ -2,7 +2,7 @@
 ghost use Rattle.std.specs.Prelude.{◌≡◌, ◌++◌, [], List, None, IfErr, IfOk, OnOk, Some, map, option_map};
 ghost use Rattle.std.specs.Fn.{FnOnceReturnsAt};
 ghost use Rattle.serde_json.specs.View.{view};
-ghost use Rattle.npm_manifests.specs.Mismatches.{AreMismatches, manifest_fault};
+ghost use Rattle.npm_lock.specs.Mismatches.{AreMismatches, manifest_fault};
 ghost use Rattle.npm_manifest_files.specs.Linked.{linked_value, loaded_value};
 ghost use Rattle.npm_lock_program.specs.Private.Refusals.{AreLinkedRefused, IsCompareRefused, IsManifestRefused, IsOneRefused};
 ghost use Rattle.npm_lock_program.specs.Report.{AreAllMismatches, AreLeftMismatches, AreLoaded, IsNotLoaded, has_packages};
@@ -11,10 +11,9 @@ ghost use Rattle.npm_lock_reports.specs.Unread.{unread_value};
 
 use crate::checks::run_error::RunError;
 use crate::checks::wanted::Wanted;
-use npm_lock::{CheckError, Fault};
+use npm_lock::{CheckError, Fault, Mismatch, mismatches_of, put_manifest};
 use npm_lock_reports::{FolderName, Unread};
 use npm_manifest_files::{Linked, LoadError, Loaded};
-use npm_manifests::{Mismatch, mismatches_of, put_manifest};
 use serde_json::Value;
 use std::alloc::Global;
 

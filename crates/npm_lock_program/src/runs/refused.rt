@@ -11,11 +11,10 @@ use crate::{Arguments, RunError, StopError};
 use advisory_exceptions::ExceptionsError;
 use command_lines::InputError;
 use findings::Finding;
-use npm_lock_faults::FaultPlace;
+use npm_lock_faults::{FaultPlace, ShownPlace};
 use npm_lock_findings::refused_finding;
 use npm_lock_reports::{FolderName, Report};
 use npm_manifest_files::{LoadError, ManifestError, path_of};
-use shown_places::ShownPlace;
 use std::alloc::{AllocError, Global};
 
 /// A line and a column of a file, counted from 1.

@@ -4,10 +4,10 @@ use Rattle.std.specs.Prelude.{ℤ}
 use Rattle.std.specs.Fmt.{digits}
 use Rattle.serde_json.specs.Data.{Data, negative, number, string, unsigned}
 use Rattle.node_semver.specs.Versions.{release}
-use Rattle.npm_advisory_files.specs.Advisories.{AboutValue}
+use Rattle.npm_advisories.specs.Advisories.{AboutValue}
 use Rattle.npm_advisories.specs.Audit.{FoundValue}
-use Rattle.npm_advisory_files.specs.declared.severity.Severity.{Severity}
-use Rattle.npm_advisory_files.specs.declared.severity.Severity.TheVariants.{High, Low}
+use Rattle.npm_advisories.specs.declared.severity.Severity.{Severity}
+use Rattle.npm_advisories.specs.declared.severity.Severity.TheVariants.{High, Low}
 use Rattle.npm_lock_reports.specs.HitSentence.{hit_sentence, id_words, offer_words}
 
 abbrev advisory : (id : Data) → Severity → (title : Option (List ℕ)) → AboutValue

@@ -2,7 +2,7 @@
 use Rattle.std.proofs.Common.{map, rules}
 use Rattle.serde_json.specs.View.{view}
 use Rattle.npm_advisories.specs.Audit.{installed_value, names_of}
-use Rattle.npm_advisory_files.specs.Index.{has_name}
+use Rattle.npm_advisories.specs.Index.{has_name}
 use Rattle.npm_advisories.proofs.FileFaults.{audit-error, fault-each}
 use Rattle.npm_advisories.proofs.found.audit.Goals as goal
 

@@ -1,9 +1,9 @@
 -- What was found so far is found of the packages so far.
 use Rattle.std.proofs.Common.{List, map, take}
-use Rattle.npm_advisory_files.specs.Advisories.{AdvisoryValue}
+use Rattle.npm_advisories.specs.Advisories.{AdvisoryValue}
 use Rattle.npm_advisories.specs.Audit.{IsAudit, found_value, installed_value, names_of}
 use Rattle.npm_advisories.specs.Files.{is_among}
-use Rattle.npm_advisory_files.specs.Index.{IsIndex}
+use Rattle.npm_advisories.specs.Index.{IsIndex}
 use Rattle.npm_advisories.specs.Private.Unions.{AreUnions}
 use Rattle.npm_advisories.proofs.found.found_in.Given as goal
 

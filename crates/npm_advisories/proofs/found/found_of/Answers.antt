@@ -1,11 +1,11 @@
 -- The advisories of the index about the name were read of those of the file.
 use Rattle.std.proofs.Common.{◌≡◌, ◌∙◌, [], map, refl, subst, sym}
 use Rattle.std.specs.List.{AllZip}
-use Rattle.npm_advisory_files.specs.Advisories.{about_name, about_value}
+use Rattle.npm_advisories.specs.Advisories.{about_name, about_value}
 use Rattle.npm_advisories.specs.Audit.{version_or_least}
 use Rattle.npm_advisories.specs.Hits.{AreHits, none}
 use Rattle.npm_advisories.specs.Private.Covering.{AreCovered}
-use Rattle.npm_advisory_files.specs.Index.{IsAdvisory}
+use Rattle.npm_advisories.specs.Index.{IsAdvisory}
 use Rattle.npm_advisories.specs.Private.Spans.{IsInRange}
 use Rattle.npm_advisories.proofs.Auditing.{empty-of, some-of}
 use Rattle.npm_advisories.proofs.LeastVersion.{end-or_least}

@@ -1,6 +1,6 @@
 -- The range of the sets has the versions that they have.
 use Rattle.npm_advisories.specs.Private.Spans.{IsInRange}
-use Rattle.npm_advisory_files.specs.Lemmas.Spans.{range-means}
+use Rattle.npm_advisories.specs.Lemmas.Spans.{range-means}
 use Rattle.npm_advisories.proofs.Results.{ok-map3}
 use Rattle.npm_advisories.proofs.halves.range_about.Goals as goal
 

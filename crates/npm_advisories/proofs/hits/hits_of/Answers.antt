@@ -1,7 +1,7 @@
 -- Each advisory is one hit more, or none.
 use Rattle.std.proofs.Common.{◌∙◌, ap, refl}
 use Rattle.npm_advisories.specs.Hits.{none}
-use Rattle.npm_advisory_files.specs.Advisories.{about_value}
+use Rattle.npm_advisories.specs.Advisories.{about_value}
 use Rattle.npm_advisories.specs.Private.Spans.{IsHitBy}
 use Rattle.npm_advisories.proofs.Keeping.{next-kept, next-left}
 use Rattle.npm_advisories.proofs.hits.hits_of.Goals as goal

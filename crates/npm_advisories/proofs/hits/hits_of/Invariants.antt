@@ -1,7 +1,7 @@
 -- The hits so far are those of the advisories so far.
 use Rattle.std.proofs.Common.{map, take}
 use Rattle.npm_advisories.specs.Hits.{AreKept}
-use Rattle.npm_advisory_files.specs.Advisories.{about_value}
+use Rattle.npm_advisories.specs.Advisories.{about_value}
 use Rattle.npm_advisories.specs.Private.Spans.{IsHitBy}
 use Rattle.npm_advisories.proofs.hits.hits_of.Given as goal
 

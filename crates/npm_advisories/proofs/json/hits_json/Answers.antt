@@ -1,7 +1,7 @@
 -- One hit more is one value more.
 use Rattle.std.proofs.Common.{◌∙◌}
 use Rattle.std.proofs.lemmas.List.{take_all}
-use Rattle.npm_advisory_files.specs.Advisories.{about_value}
+use Rattle.npm_advisories.specs.Advisories.{about_value}
 use Rattle.npm_advisories.specs.FoundJson.{about_data}
 use Rattle.npm_advisories.proofs.Listing.{map-twice, next-value}
 use Rattle.npm_advisories.proofs.json.hits_json.Goals as goal

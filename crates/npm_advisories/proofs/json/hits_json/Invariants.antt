@@ -1,7 +1,7 @@
 -- The values so far are those of the hits so far.
 use Rattle.std.proofs.Common.{◌≡◌, map, take}
 use Rattle.serde_json.specs.View.{view}
-use Rattle.npm_advisory_files.specs.Advisories.{about_value}
+use Rattle.npm_advisories.specs.Advisories.{about_value}
 use Rattle.npm_advisories.specs.FoundJson.{about_data}
 use Rattle.npm_advisories.proofs.json.hits_json.Given as goal
 

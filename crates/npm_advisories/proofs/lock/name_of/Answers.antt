@@ -1,7 +1,7 @@
 -- The name that the member says, or else that of its folder.
 use Rattle.std.proofs.Common.{◌≡◌, ◌∙◌, Some, ap, codes, inl, inr, option_map, subst, sym}
 use Rattle.serde_json.specs.View.{view}
-use Rattle.npm_advisory_files.specs.Advisories.{text_of}
+use Rattle.npm_advisories.specs.Advisories.{text_of}
 use Rattle.npm_advisories.specs.LockFile.{IsName, placed, said}
 use Rattle.npm_advisories.proofs.lock.name_of.Goals as goal
 

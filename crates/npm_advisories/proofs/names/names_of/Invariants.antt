@@ -2,7 +2,7 @@
 use Rattle.std.proofs.Common.{◌≡◌, ◌||◌, ℕ, List, drop, map}
 use Rattle.npm_advisories.specs.Audit.{installed_value, names_of}
 use Rattle.npm_advisories.specs.Files.{is_among}
-use Rattle.npm_advisory_files.specs.Index.{has_name}
+use Rattle.npm_advisories.specs.Index.{has_name}
 use Rattle.npm_advisories.proofs.names.names_of.Given as goal
 
 abbrev pub invariant-loop-one : goal.invariant-loop-one

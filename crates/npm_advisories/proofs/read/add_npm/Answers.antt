@@ -4,9 +4,9 @@ use Rattle.std.proofs.lemmas.List.{append_assoc}
 use Rattle.std.specs.Option.{option_map_or}
 use Rattle.serde_json.specs.Find.{as_array}
 use Rattle.serde_json.specs.View.{members_view, view}
-use Rattle.npm_advisory_files.specs.Advisories.{npm_list, npm_members}
-use Rattle.npm_advisory_files.specs.Index.{has_name}
-use Rattle.npm_advisory_files.specs.Lemmas.Adding.{adds-both}
+use Rattle.npm_advisories.specs.Advisories.{npm_list, npm_members}
+use Rattle.npm_advisories.specs.Index.{has_name}
+use Rattle.npm_advisories.specs.Lemmas.Adding.{adds-both}
 use Rattle.npm_advisories.proofs.Reading.{error-first}
 use Rattle.npm_advisories.proofs.read.add_npm.Goals as goal
 

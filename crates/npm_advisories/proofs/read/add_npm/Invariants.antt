@@ -1,10 +1,10 @@
 -- The members so far are read, and none of them has a fault.
 use Rattle.std.proofs.Common.{◌≡◌, ◌++◌, List}
 use Rattle.serde_json.specs.View.{members_view}
-use Rattle.npm_advisory_files.specs.Advisories.{AdvisoryValue, npm_members}
-use Rattle.npm_advisory_files.specs.Faults.{members_fault}
-use Rattle.npm_advisory_files.specs.Index.{has_name}
-use Rattle.npm_advisory_files.specs.Private.Index.{Adds}
+use Rattle.npm_advisories.specs.Advisories.{AdvisoryValue, npm_members}
+use Rattle.npm_advisories.specs.Faults.{members_fault}
+use Rattle.npm_advisories.specs.Index.{has_name}
+use Rattle.npm_advisories.specs.Private.Index.{Adds}
 use Rattle.npm_advisories.proofs.read.add_npm.Given as goal
 
 abbrev pub invariant-loop-name : goal.invariant-loop-name

@@ -1,10 +1,10 @@
 -- One object more is read, or is at fault.
 use Rattle.std.proofs.Common.{◌++◌, refl, rules}
 use Rattle.serde_json.specs.View.{view}
-use Rattle.npm_advisory_files.specs.OsvForm.{osv_advisories, osv_list}
-use Rattle.npm_advisory_files.specs.Index.{has_name}
-use Rattle.npm_advisory_files.specs.Lemmas.Adding.{adds-both}
-use Rattle.npm_advisory_files.specs.Lemmas.Items.{read-passed}
+use Rattle.npm_advisories.specs.OsvForm.{osv_advisories, osv_list}
+use Rattle.npm_advisories.specs.Index.{has_name}
+use Rattle.npm_advisories.specs.Lemmas.Adding.{adds-both}
+use Rattle.npm_advisories.specs.Lemmas.Items.{read-passed}
 use Rattle.npm_advisories.proofs.Reading.{osv-found, osv-passed}
 use Rattle.npm_advisories.proofs.read.add_osv_list.Goals as goal
 

@@ -1,12 +1,12 @@
 -- The objects so far are read, and none of them has a fault.
 use Rattle.std.proofs.Common.{◌≡◌, ◌++◌, List, drop}
 use Rattle.serde_json.specs.View.{items_view}
-use Rattle.npm_advisory_files.specs.Advisories.{AdvisoryValue}
-use Rattle.npm_advisory_files.specs.OsvFaults.{osv_list_fault}
-use Rattle.npm_advisory_files.specs.OsvForm.{osv_list}
-use Rattle.npm_advisory_files.specs.Index.{has_name}
-use Rattle.npm_advisory_files.specs.Private.Index.{Adds}
-use Rattle.npm_advisory_files.specs.Private.VersionTest.{is_version}
+use Rattle.npm_advisories.specs.Advisories.{AdvisoryValue}
+use Rattle.npm_advisories.specs.OsvFaults.{osv_list_fault}
+use Rattle.npm_advisories.specs.OsvForm.{osv_list}
+use Rattle.npm_advisories.specs.Index.{has_name}
+use Rattle.npm_advisories.specs.Private.Index.{Adds}
+use Rattle.npm_advisories.specs.Private.VersionTest.{is_version}
 use Rattle.npm_advisories.proofs.read.add_osv_list.Given as goal
 
 abbrev pub invariant-loop-place : goal.invariant-loop-place

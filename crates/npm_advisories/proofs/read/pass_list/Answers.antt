@@ -1,6 +1,6 @@
 -- One advisory more is in npm's form.
 use Rattle.std.proofs.Common.{◌∙◌, sym}
-use Rattle.npm_advisory_files.specs.Faults.{form_fault}
+use Rattle.npm_advisories.specs.Faults.{form_fault}
 use Rattle.npm_advisories.proofs.Reading.{fault-none}
 use Rattle.npm_advisories.proofs.read.pass_list.Goals as goal
 

@@ -1,7 +1,7 @@
 -- None of the advisories so far is in another form.
 use Rattle.std.proofs.Common.{◌≡◌, drop}
 use Rattle.serde_json.specs.View.{items_view}
-use Rattle.npm_advisory_files.specs.Faults.{form_fault, list_fault}
+use Rattle.npm_advisories.specs.Faults.{form_fault, list_fault}
 use Rattle.npm_advisories.proofs.read.pass_list.Given as goal
 
 abbrev pub invariant-loop-place : goal.invariant-loop-place

@@ -1,9 +1,9 @@
 -- One advisory more is read.
 use Rattle.std.proofs.Common.{◌∙◌, ◌++◌, ◌∷◌, []}
 use Rattle.serde_json.specs.View.{view}
-use Rattle.npm_advisory_files.specs.Advisories.{npm_advisory}
-use Rattle.npm_advisory_files.specs.Faults.{npm_fault}
-use Rattle.npm_advisory_files.specs.Lemmas.Adding.{adds-both, adds-one}
+use Rattle.npm_advisories.specs.Advisories.{npm_advisory}
+use Rattle.npm_advisories.specs.Faults.{npm_fault}
+use Rattle.npm_advisories.specs.Lemmas.Adding.{adds-both, adds-one}
 use Rattle.npm_advisories.proofs.Reading.{fault-none, read-next}
 use Rattle.npm_advisories.proofs.read.read_list.Goals as goal
 

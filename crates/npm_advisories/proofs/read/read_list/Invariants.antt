@@ -1,9 +1,9 @@
 -- The advisories so far are read, and none of them has a fault.
 use Rattle.std.proofs.Common.{◌≡◌, ◌++◌, ℕ, Bool, List, drop}
 use Rattle.serde_json.specs.View.{items_view}
-use Rattle.npm_advisory_files.specs.Advisories.{AdvisoryValue, npm_list}
-use Rattle.npm_advisory_files.specs.Faults.{list_fault, npm_fault}
-use Rattle.npm_advisory_files.specs.Private.Index.{Adds}
+use Rattle.npm_advisories.specs.Advisories.{AdvisoryValue, npm_list}
+use Rattle.npm_advisories.specs.Faults.{list_fault, npm_fault}
+use Rattle.npm_advisories.specs.Private.Index.{Adds}
 use Rattle.npm_advisories.proofs.read.read_list.Given as goal
 
 abbrev pub invariant-loop-place : goal.invariant-loop-place

@@ -2,10 +2,10 @@
 use Rattle.std.proofs.Common.{◌≡◌, ◌∙◌, Some, rules, sym}
 use Rattle.serde_json.specs.Find.{as_array}
 use Rattle.serde_json.specs.View.{items_view, view}
-use Rattle.npm_advisory_files.specs.Index.{has_name}
-use Rattle.npm_advisory_files.specs.Lemmas.Adding.{adds-other}
+use Rattle.npm_advisories.specs.Index.{has_name}
+use Rattle.npm_advisories.specs.Lemmas.Adding.{adds-other}
 use Rattle.npm_advisories.proofs.Results.{ok-at}
-use Rattle.npm_advisory_files.specs.Lemmas.Unwanted.{member-other}
+use Rattle.npm_advisories.specs.Lemmas.Unwanted.{member-other}
 use Rattle.npm_advisories.proofs.read.read_member.Goals as goal
 
 pub returns-then-not-has-clause-read : goal.returns-then-not-has-clause-read

@@ -1,6 +1,6 @@
 -- The sets so far have what the advisories so far are about.
 use Rattle.std.proofs.Common.{take}
-use Rattle.npm_advisory_files.specs.Lemmas.Spans.{Have}
+use Rattle.npm_advisories.specs.Lemmas.Spans.{Have}
 use Rattle.npm_advisories.specs.Private.Spans.{IsInRange}
 use Rattle.npm_advisories.proofs.spans.sets_of.Given as goal
 

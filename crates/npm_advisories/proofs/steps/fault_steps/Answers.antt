@@ -5,12 +5,12 @@ use Rattle.serde_json.specs.Data.{Data}
 use Rattle.serde_json.specs.View.{view}
 use Rattle.json_places.specs.Steps.{StepValue, steps_seen}
 use Rattle.npm_advisories.specs.Audit.{installed_value, names_of}
-use Rattle.npm_advisory_files.specs.Faults.{FaultValue, fault_value}
+use Rattle.npm_advisories.specs.Faults.{FaultValue, fault_value}
 use Rattle.npm_advisories.specs.FaultSteps.{AreFaultSteps, fault_steps}
 use Rattle.npm_advisories.specs.Files.{is_among}
-use Rattle.npm_advisory_files.specs.Index.{has_name}
-use Rattle.npm_advisory_files.specs.Private.VersionTest.{is_version}
-use Rattle.npm_advisory_files.specs.Lemmas.VersionTests.{only-test}
+use Rattle.npm_advisories.specs.Index.{has_name}
+use Rattle.npm_advisories.specs.Private.VersionTest.{is_version}
+use Rattle.npm_advisories.specs.Lemmas.VersionTests.{only-test}
 use Rattle.npm_advisories.proofs.steps.fault_steps.Goals as goal
 
 each : (names : List (List ℕ)) (is_wanted : List ℕ → Bool) → ((name : List ℕ) → is_wanted name ≡ is_among names name)

@@ -1,7 +1,7 @@
 -- What is excepted so far, and of the advisories that are left, is that of all.
 use Rattle.std.proofs.Common.{◌≡◌, ◌++◌, drop, map}
 use Rattle.npm_advisories.specs.Audit.{found_value}
-use Rattle.npm_advisory_files.specs.Advisories.{about_value}
+use Rattle.npm_advisories.specs.Advisories.{about_value}
 use Rattle.npm_lock_counted.specs.Excepted.{excepted_among, excepted_value}
 use Rattle.npm_lock_counted.specs.Exceptions.{exceptions_value}
 use Rattle.npm_lock_counted.proofs.excepted.push_excepted.Given as goal

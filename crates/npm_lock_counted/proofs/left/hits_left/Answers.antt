@@ -1,6 +1,6 @@
 use Rattle.std.proofs.Common.{◌≡◌, ◌∙◌, ap, filter, is_none, map, rules}
 use Rattle.std.proofs.lemmas.Fn.{filter_same}
-use Rattle.npm_advisory_files.specs.Advisories.{about_value}
+use Rattle.npm_advisories.specs.Advisories.{about_value}
 use Rattle.npm_lock_counted.specs.Exceptions.{exceptions_value, place_of}
 use Rattle.npm_lock_counted.proofs.Keeping.{map-kept}
 use Rattle.npm_lock_counted.proofs.left.hits_left.Goals as goal

@@ -1,7 +1,7 @@
 -- The lock file has no fault, and the manifest has one or not.
 use Rattle.std.proofs.Common.{◌≡◌, ◌∙◌, None, Some, ap, option_map, sym}
 use Rattle.serde_json.specs.View.{view}
-use Rattle.npm_lock_version_one.specs.VersionOne.{any_fault}
+use Rattle.npm_lock.specs.VersionOne.{any_fault}
 use Rattle.npm_lock_faults.specs.FaultPlaces.{FaultPlaceValue}
 use Rattle.npm_lock_faults.proofs.Roots.{in_root}
 use Rattle.npm_lock_faults.proofs.places.lock_fault_place.Goals as goal

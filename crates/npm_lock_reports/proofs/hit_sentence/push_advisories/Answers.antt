@@ -2,8 +2,8 @@
 use Rattle.std.proofs.Common.{◌≡◌, ◌∙◌, ◌+◌, ◌<◌, ◌++◌, ◌∷◌, ℕ, List, ap, append_assoc, codes, drop, get_or, length}
 use Rattle.std.proofs.Common.{map, sym}
 use Rattle.std.proofs.lemmas.List.{drop_more}
-use Rattle.npm_advisory_files.specs.Advisories.{about_value}
-use Rattle.npm_advisory_files.specs.declared.advisory.About.{About}
+use Rattle.npm_advisories.specs.Advisories.{about_value}
+use Rattle.npm_advisories.specs.declared.advisory.About.{About}
 use Rattle.npm_lock_reports.specs.HitSentence.{advisory_words, joined}
 use Rattle.npm_lock_reports.proofs.hit_sentence.push_advisories.Goals as goal
 

@@ -1,6 +1,6 @@
 -- The line so far, and the advisories that are left, are all.
 use Rattle.std.proofs.Common.{◌≡◌, ◌++◌, codes, drop, map}
-use Rattle.npm_advisory_files.specs.Advisories.{about_value}
+use Rattle.npm_advisories.specs.Advisories.{about_value}
 use Rattle.npm_lock_reports.specs.HitSentence.{joined}
 use Rattle.npm_lock_reports.proofs.hit_sentence.push_advisories.Given as goal
 

@@ -1,6 +1,6 @@
 -- Eight parts, one after the other.
 use Rattle.std.proofs.Common.{◌≡◌, ◌∙◌, ◌++◌, ℕ, List, append_assoc, codes, map, refl}
-use Rattle.npm_advisory_files.specs.Advisories.{about_value}
+use Rattle.npm_advisories.specs.Advisories.{about_value}
 use Rattle.npm_advisories.specs.Audit.{found_value}
 use Rattle.npm_lock_reports.specs.HitSentence.{hit_sentence, joined, offer_words}
 use Rattle.command_lines.specs.Shown.{shown, shown_first}

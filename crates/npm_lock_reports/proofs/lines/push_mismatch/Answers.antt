@@ -1,7 +1,7 @@
 -- The text of an object without a number is compact.
 use Rattle.std.proofs.Common.{option_map}
-use Rattle.npm_manifests.specs.MismatchJson.{mismatch_data}
-use Rattle.npm_manifests.specs.Mismatches.{mismatch_value}
+use Rattle.npm_lock.specs.MismatchJson.{mismatch_data}
+use Rattle.npm_lock.specs.Mismatches.{mismatch_value}
 use Rattle.npm_lock_reports.proofs.OutputLines.{compact_line, no_float_mismatch}
 use Rattle.npm_lock_reports.proofs.lines.push_mismatch.Goals as goal
 

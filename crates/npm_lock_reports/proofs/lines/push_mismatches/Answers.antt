@@ -1,5 +1,5 @@
 use Rattle.std.proofs.Common.{◌≡◌, ◌++◌, [], ◌∷◌}
-use Rattle.npm_manifests.specs.Mismatches.{mismatch_value}
+use Rattle.npm_lock.specs.Mismatches.{mismatch_value}
 use Rattle.npm_lock_reports.specs.Report.{mismatch_text}
 use Rattle.npm_lock_reports.specs.Style.{style_value}
 use Rattle.npm_lock_reports.proofs.OutputLines.{line_more}

@@ -1,6 +1,6 @@
 -- The lines so far, and those that are left, are all lines.
 use Rattle.std.proofs.Common.{◌≡◌, ◌++◌, drop, map}
-use Rattle.npm_manifests.specs.Mismatches.{mismatch_value}
+use Rattle.npm_lock.specs.Mismatches.{mismatch_value}
 use Rattle.npm_lock_reports.specs.Report.{lines, mismatch_text}
 use Rattle.npm_lock_reports.specs.Style.{style_value}
 use Rattle.npm_lock_reports.proofs.lines.push_mismatches.Given as goal

@@ -1,6 +1,6 @@
 -- Ten parts, one after the other.
 use Rattle.std.proofs.Common.{◌≡◌, ◌∙◌, ◌++◌, ℕ, List, append_assoc, codes, option_map, refl, string_bytes}
-use Rattle.npm_manifests.specs.Mismatches.{group_text, mismatch_value}
+use Rattle.npm_lock.specs.Mismatches.{group_text, mismatch_value}
 use Rattle.npm_lock_reports.specs.Sentence.{manifest_words, mismatch_sentence, spec_words}
 use Rattle.command_lines.specs.Shown.{shown_first}
 use Rattle.npm_lock_reports.proofs.Parts.{last, seen}

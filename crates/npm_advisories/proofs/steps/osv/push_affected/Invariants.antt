@@ -3,9 +3,9 @@ use Rattle.std.proofs.Common.{◌≡◌, drop}
 use Rattle.serde_json.specs.View.{items_view}
 use Rattle.json_places.specs.Steps.{steps_seen}
 use Rattle.npm_advisories.specs.FaultSteps.{affected_steps, steps_among}
-use Rattle.npm_advisory_files.specs.OsvFaults.{affected_fault}
-use Rattle.npm_advisory_files.specs.Index.{has_name}
-use Rattle.npm_advisory_files.specs.Private.VersionTest.{is_version}
+use Rattle.npm_advisories.specs.OsvFaults.{affected_fault}
+use Rattle.npm_advisories.specs.Index.{has_name}
+use Rattle.npm_advisories.specs.Private.VersionTest.{is_version}
 use Rattle.npm_advisories.proofs.steps.osv.push_affected.Given as goal
 
 abbrev pub invariant-loop-position : goal.invariant-loop-position

@@ -3,8 +3,8 @@ use Rattle.std.proofs.Common.{◌≡◌, drop}
 use Rattle.serde_json.specs.View.{items_view}
 use Rattle.json_places.specs.Steps.{steps_seen}
 use Rattle.npm_advisories.specs.FaultSteps.{range_steps, steps_among}
-use Rattle.npm_advisory_files.specs.OsvFaults.{osv_range_fault}
-use Rattle.npm_advisory_files.specs.Private.VersionTest.{is_version}
+use Rattle.npm_advisories.specs.OsvFaults.{osv_range_fault}
+use Rattle.npm_advisories.specs.Private.VersionTest.{is_version}
 use Rattle.npm_advisories.proofs.steps.osv.push_ranges.Given as goal
 
 abbrev pub invariant-loop-position : goal.invariant-loop-position

@@ -3,7 +3,7 @@ use Rattle.std.proofs.Common.{◌≡◌, drop, []}
 use Rattle.serde_json.specs.View.{items_view}
 use Rattle.json_places.specs.Steps.{steps_seen}
 use Rattle.npm_advisories.specs.FaultSteps.{steps_among}
-use Rattle.npm_advisory_files.specs.OsvFaults.{version_text_fault}
+use Rattle.npm_advisories.specs.OsvFaults.{version_text_fault}
 use Rattle.npm_advisories.proofs.steps.osv.push_version.Given as goal
 
 abbrev pub invariant-loop-position : goal.invariant-loop-position

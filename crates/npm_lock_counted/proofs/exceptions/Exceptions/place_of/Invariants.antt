@@ -2,7 +2,7 @@
 use Rattle.std.proofs.Common.{◌≡◌, drop, map}
 use Rattle.std.specs.List.{position_from}
 use Rattle.advisory_exceptions.specs.Exceptions.{exception_value}
-use Rattle.npm_advisory_files.specs.Advisories.{about_value}
+use Rattle.npm_advisories.specs.Advisories.{about_value}
 use Rattle.npm_lock_counted.specs.Exceptions as Excepted
 use Rattle.npm_lock_counted.proofs.exceptions.Exceptions.place_of.Given as goal
 

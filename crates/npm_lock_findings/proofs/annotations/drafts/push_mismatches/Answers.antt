@@ -1,6 +1,6 @@
 -- One draft more.
 use Rattle.std.proofs.Common.{◌≡◌, ◌++◌, ◌∷◌, [], rules}
-use Rattle.npm_manifests.specs.Mismatches.{mismatch_value}
+use Rattle.npm_lock.specs.Mismatches.{mismatch_value}
 use Rattle.npm_lock_findings.specs.Findings.{mismatch_draft}
 use Rattle.npm_lock_findings.proofs.More.{draft_more}
 use Rattle.npm_lock_findings.proofs.annotations.drafts.push_mismatches.Goals as goal

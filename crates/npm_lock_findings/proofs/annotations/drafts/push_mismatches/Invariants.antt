@@ -1,7 +1,7 @@
 -- The drafts so far, and those of the mismatches that are left, are all.
 use Rattle.std.proofs.Common.{◌≡◌, ◌++◌, drop, map}
 use Rattle.findings.specs.Drafts.{draft_value}
-use Rattle.npm_manifests.specs.Mismatches.{mismatch_value}
+use Rattle.npm_lock.specs.Mismatches.{mismatch_value}
 use Rattle.npm_lock_findings.specs.Findings.{mismatch_draft}
 use Rattle.npm_lock_findings.proofs.annotations.drafts.push_mismatches.Given as goal
 

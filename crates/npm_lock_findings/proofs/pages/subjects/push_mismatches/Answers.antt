@@ -1,6 +1,6 @@
 -- One subject more.
 use Rattle.std.proofs.Common.{◌≡◌, ◌++◌, ◌∷◌, [], rules}
-use Rattle.npm_manifests.specs.Mismatches.{mismatch_value}
+use Rattle.npm_lock.specs.Mismatches.{mismatch_value}
 use Rattle.npm_lock_findings.proofs.MorePieces.{subject_more}
 use Rattle.npm_lock_findings.specs.Subjects.{mismatch_subject}
 use Rattle.npm_lock_findings.proofs.pages.subjects.push_mismatches.Goals as goal

@@ -1,6 +1,6 @@
 -- The subjects so far, and those of the mismatches that are left, are all.
 use Rattle.std.proofs.Common.{◌≡◌, ◌++◌, drop, map}
-use Rattle.npm_manifests.specs.Mismatches.{mismatch_value}
+use Rattle.npm_lock.specs.Mismatches.{mismatch_value}
 use Rattle.npm_lock_findings.specs.Entries.{subject_value}
 use Rattle.npm_lock_findings.specs.Subjects.{mismatch_subject}
 use Rattle.npm_lock_findings.proofs.pages.subjects.push_mismatches.Given as goal

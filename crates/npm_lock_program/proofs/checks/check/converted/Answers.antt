@@ -1,7 +1,7 @@
 -- A lock file without a fault is not refused.
 use Rattle.std.proofs.Common.{◌≡◌, ◌∙◌, Some, ap, Err, option_map}
 use Rattle.serde_json.specs.View.{view}
-use Rattle.npm_lock_version_one.specs.VersionOne.{any_fault}
+use Rattle.npm_lock.specs.VersionOne.{any_fault}
 use Rattle.npm_lock_program.proofs.checks.check.converted.Goals as goal
 
 pub returns-in-Err-Refused-clause-memory : goal.returns-in-Err-Refused-clause-memory

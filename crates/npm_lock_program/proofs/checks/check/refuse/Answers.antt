@@ -1,7 +1,7 @@
 -- The lock file or the manifest has a fault.
 use Rattle.std.proofs.Common.{◌≡◌, Some, inl, option_map, refl, sym}
 use Rattle.serde_json.specs.View.{view}
-use Rattle.npm_lock_version_one.specs.VersionOne.{any_fault}
+use Rattle.npm_lock.specs.VersionOne.{any_fault}
 use Rattle.npm_lock_faults.specs.FaultPlaces.{IsLockFaultPlace, fault_place_value}
 use Rattle.npm_lock_program.proofs.checks.check.refuse.Goals as goal
 

@@ -1,7 +1,7 @@
 -- The advisories are refused.
 use Rattle.std.proofs.Common.{◌≡◌, Some, ap, option_map}
 use Rattle.serde_json.specs.View.{view}
-use Rattle.npm_advisory_files.specs.Faults.{fault_value}
+use Rattle.npm_advisories.specs.Faults.{fault_value}
 use Rattle.npm_advisories.specs.LockFaults.{IsFileFaultBeside}
 use Rattle.npm_lock_program.specs.Report.{wanted_value}
 use Rattle.npm_lock_program.proofs.Auditing.{refused_as}

@@ -1,7 +1,7 @@
 -- Before the mismatches of the manifests that are left, those so far make the mismatches of all. None so far has a fault.
 use Rattle.std.proofs.Common.{◌≡◌, ◌++◌, List, drop, map}
 use Rattle.serde_json.specs.View.{view}
-use Rattle.npm_manifests.specs.declared.mismatch.Mismatch.{Mismatch}
+use Rattle.npm_lock.specs.declared.mismatch.Mismatch.{Mismatch}
 use Rattle.npm_manifest_files.specs.Linked.{linked_value}
 use Rattle.npm_lock_program.specs.Check.{linked_fault}
 use Rattle.npm_lock_program.specs.Report.{AreAllMismatches}

@@ -1,7 +1,7 @@
 -- The manifest is refused, or has no fault.
 use Rattle.std.proofs.Common.{◌∙◌, Err, ap}
 use Rattle.serde_json.specs.View.{view}
-use Rattle.npm_manifests.specs.Mismatches.{manifest_fault}
+use Rattle.npm_lock.specs.Mismatches.{manifest_fault}
 use Rattle.npm_lock_program.proofs.LinkedManifests.{no_fault}
 use Rattle.npm_lock_program.proofs.checks.sync.linked_mismatches.Goals as goal
 

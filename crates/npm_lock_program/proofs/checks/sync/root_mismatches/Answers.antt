@@ -1,7 +1,7 @@
 -- The manifest of the root is refused.
 use Rattle.std.proofs.Common.{◌≡◌, ◌∙◌, Some, ap, Err, inl, refl}
 use Rattle.serde_json.specs.View.{view}
-use Rattle.npm_manifests.specs.Mismatches.{manifest_fault}
+use Rattle.npm_lock.specs.Mismatches.{manifest_fault}
 use Rattle.npm_lock_program.proofs.checks.sync.root_mismatches.Goals as goal
 
 pub returns-in-Err-Refused-clause-refused : goal.returns-in-Err-Refused-clause-refused

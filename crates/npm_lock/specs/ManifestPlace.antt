@@ -1,0 +1,50 @@
+-- A manifest in the place of a package of the lock file: npm's "npm ls" and "npm ci" read the root and each workspace
+-- from their manifests.
+use Rattle.std.specs.Prelude.{ℕ, List, [], ◌∷◌, false, true, if◌then◌else◌, bytes_eq, codes}
+use Rattle.serde_json.specs.Data.{Data, Members, array, boolean, member, no_members, null, number, object, put, string}
+use Rattle.npm_texts.specs.Truth.{has_true}
+use Rattle.npm_lock.specs.Mismatches.{entry_of}
+
+-- an object with this member, in the place of one of that name if there is one; another value stays
+abbrev pub with_member : (name : List ℕ) → (value : Data) → Data → Data
+with_member name value null = null
+with_member name value (boolean b) = boolean b
+with_member name value (number n) = number n
+with_member name value (string text) = string text
+with_member name value (array items) = array items
+with_member name value (object members) = object (put name value members)
+
+-- A manifest as a package of the lock file. These members are of lock files alone, and mean nothing in a manifest.
+abbrev pub as_package : (manifest : Data) → Data
+as_package manifest = with_member (codes "peer") (boolean false) (with_member (codes "dev") (boolean false)
+    (with_member (codes "optional") (boolean false) (with_member (codes "link") (boolean false) manifest)))
+
+-- the package with this mark, if `entry` has it
+abbrev pub with_mark : (mark : List ℕ) → (entry made : Data) → Data
+with_mark mark entry made = if has_true mark entry then with_member mark (boolean true) made else made
+
+-- the package with the marks of `entry`, which say why it is installed
+abbrev pub with_marks : (entry made : Data) → Data
+with_marks entry made = with_mark (codes "peer") entry (with_mark (codes "optional") entry (with_mark (codes "dev") entry made))
+
+-- A manifest as the package in a folder, where the lock file has `entry`, whose marks stay. npm reads no marks of the root.
+abbrev pub package_at : (folder : List ℕ) → (entry manifest : Data) → Data
+package_at [] entry manifest = as_package manifest
+package_at (byte ∷ folder) entry manifest = with_marks entry (as_package manifest)
+
+-- the value of a name, changed so
+abbrev pub changed_at : (name : List ℕ) → (change : Data → Data) → Members → Members
+changed_at name change no_members = no_members
+changed_at name change (member key value others) = if bytes_eq name key
+    then member key (change value) others
+    else member key value (changed_at name change others)
+
+-- the lock file with a manifest in the place of the package in this folder
+abbrev pub with_manifest : (folder : List ℕ) → (manifest lock : Data) → Data
+with_manifest folder manifest null = null
+with_manifest folder manifest (boolean b) = boolean b
+with_manifest folder manifest (number n) = number n
+with_manifest folder manifest (string text) = string text
+with_manifest folder manifest (array items) = array items
+with_manifest folder manifest (object members) = object (changed_at (codes "packages")
+    (with_member folder (package_at folder (entry_of (object members) folder) manifest)) members)

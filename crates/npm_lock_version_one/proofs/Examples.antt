@@ -1,2 +1,0 @@
-pub mod TarballExamples
-pub mod VersionOneExamples

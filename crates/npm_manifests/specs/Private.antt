@@ -1,1 +1,0 @@
-pub mod GroupSpecs  -- the members of a group that are left

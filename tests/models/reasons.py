@@ -26,6 +26,39 @@ MADE_UP = [
     (" | 0 by 2 3 :", ""),
     ("root 1:2!", "0 makes 1:1! : 0>1:1! -1:1! | root 1:2!"),
 ]
+# Changes that leave them reasons.
+ALSO_RIGHT = [("1 by 0 1", "1 by 1 0"), ("0 by 2 3", "0 by 3 2 2")]
+# Lines that this checker finds right or does not read, and that are no reasons: a term is another one, or a line is not above.
+ALSO_WRONG = [
+    ("1 by 0 1", "1 by 0 1 9"),
+    ("0 by 2 3", "0 by 2 3 4"),
+    ("0 makes 1:1! : 0>1:1! -1:1!", "0 makes 1:*! : 0>1:*! -1:*!"),
+    ("0 makes 1:1! : 0>1:1! -1:1!", "0 makes 1:1 : 0>1:1 -1:1"),
+]
+
+
+def given(shown):
+    """Lines as version_solving_answers reads them."""
+    return [given_line(text) for text in shown]
+
+
+def given_line(text):
+    source, _, terms = text.partition(" :")
+    first, *rest = source.split(" ")
+    if first == "root":
+        read = ["root", wish_of(rest[0])]
+    elif rest[0] == "makes":
+        read = ["makes", int(first), wish_of(rest[1])]
+    else:
+        read = ["by", int(first), [int(line) for line in rest[1:]]]
+    return [read, [given_term(term) for term in terms.split()]]
+
+
+def given_term(term):
+    if term.startswith("-"):
+        return [None, wish_of(term[1:])]
+    name, wish = term.split(">")
+    return [int(name), wish_of(wish)]
 
 
 def wish_of(text):

@@ -1,17 +1,21 @@
 //! Solves small instances, whose answers are compared with those of another program.
 //!
 //! Each line of the input is a JSON array: the demands of the root; for each name its candidates, each the list of its demands; for
-//! each range a list that has 1 for a candidate that it allows, else 0; and, if it is there, the number of steps that each search may
-//! take. A demand is an array of a name, a range and whether it needs the name. The program writes a line for each: `selected` and the
-//! choices `name=candidate` in their order; `none`, the culprits `name:range` and the reasons of [`lines`]; or `undecided`. It exits
-//! with status 2 if it fails.
+//! each range a list that has 1 for a candidate that it allows, else 0; and, if they are there, the steps that each search may take, as a
+//! number or as a list of those for the selection, the culprits and the reasons. A demand is an array of a name, a range and whether it
+//! needs the name. The program writes a line for each: `selected` and the choices `name=candidate` in their order; `none`, the culprits
+//! `name:range` and the reasons of [`lines`]; or `undecided`. It exits with status 2 if it fails.
+//!
+//! For an instance that has lines after the steps, as [`given`] reads them, it writes `reasons` or `no reasons`.
 #![tactic(auto)]
 
+mod given;
 mod lines;
 
+use given::lines_of;
 use lines::because;
 use serde_json::Value;
-use solving_reasons::reasons;
+use solving_reasons::{is_proof, reasons};
 use std::alloc::{AllocError, AllocGlobal, Global};
 use std::io::{BufRead, BufReader};
 use std::process::ExitCode;
@@ -36,15 +40,57 @@ fn write_answers(rt: &HostRuntime) -> anyhow::Result<()> {
         let instance = Value::from_str(rt.alloc(), line.as_str())?;
         let root = demands_of(rt.alloc(), instance.get(0))?;
         let documents = documents_of(rt.alloc(), &instance)?;
-        let text = answer_of(rt.alloc(), &root, &documents, steps_of(&instance))?;
+        let text = match instance.get(4) {
+            Some(lines) => judged(rt.alloc(), &root, &documents, lines)?,
+            None => answer_of(rt.alloc(), &root, &documents, Steps::of(instance.get(3)))?,
+        };
         println!(rt; "{text}")?;
     }
     Ok(())
 }
 
+/// Whether lines are reasons.
+fn judged(
+    alloc: Global,
+    root: &[Demand],
+    documents: &Documents,
+    lines: &Value,
+) -> Result<String, AllocError> {
+    let lines = lines_of(alloc, lines)?;
+    if is_proof(root, documents, &lines) {
+        String::from_str(alloc, "reasons")
+    } else {
+        String::from_str(alloc, "no reasons")
+    }
+}
+
 /// The steps that each search for an instance may take.
-fn steps_of(instance: &Value) -> u64 {
-    instance.get(3).and_then(Value::as_u64).unwrap_or(STEPS)
+#[derive(Clone, Copy)]
+struct Steps {
+    selection: u64,
+    culprits: u64,
+    reasons: u64,
+}
+
+impl Steps {
+    fn of(value: Option<&Value>) -> Steps {
+        Steps {
+            selection: steps_at(value, 0),
+            culprits: steps_at(value, 1),
+            reasons: steps_at(value, 2),
+        }
+    }
+}
+
+/// The number, or the one at this place of a list.
+fn steps_at(value: Option<&Value>, place: usize) -> u64 {
+    let Some(value) = value else {
+        return STEPS;
+    };
+    match value.get(place) {
+        Some(number) => number.as_u64().unwrap_or(STEPS),
+        None => value.as_u64().unwrap_or(STEPS),
+    }
 }
 
 /// The line of an instance.
@@ -52,12 +98,12 @@ fn answer_of(
     alloc: Global,
     root: &[Demand],
     documents: &Documents,
-    steps: u64,
+    steps: Steps,
 ) -> Result<String, AllocError> {
-    match solve(alloc, root, documents, steps)? {
+    match solve(alloc, root, documents, steps.selection)? {
         Outcome::Selected(choices) => selected(alloc, &choices),
-        Outcome::NoSelection => match culprits(alloc, root, documents, steps)? {
-            Some(demands) => none(alloc, &demands, documents, steps),
+        Outcome::NoSelection => match culprits(alloc, root, documents, steps.culprits)? {
+            Some(demands) => none(alloc, &demands, documents, steps.reasons),
             None => String::from_str(alloc, "undecided"),
         },
         Outcome::Undecided => String::from_str(alloc, "undecided"),
@@ -132,14 +178,14 @@ fn demands_of(alloc: Global, list: Option<&Value>) -> Result<Vec<Demand>, AllocE
     Ok(demands)
 }
 
-fn items_of(list: Option<&Value>) -> &[Value] {
+pub(crate) fn items_of(list: Option<&Value>) -> &[Value] {
     match list.and_then(Value::as_array) {
         Some(items) => items.as_slice(),
         None => &[],
     }
 }
 
-fn number_of(value: Option<&Value>) -> usize {
+pub(crate) fn number_of(value: Option<&Value>) -> usize {
     match value.and_then(Value::as_u64) {
         Some(number) => number as usize,
         None => 0,

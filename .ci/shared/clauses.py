@@ -14,7 +14,7 @@ from crates import is_program, listed
 from public_calls import blanked_in_place, blocks
 
 # What no user calls: tests, and what scripts run.
-LEFT_OUT = ("memory_trials", "semver_answers", "node_semver_callers")
+LEFT_OUT = ("named_calls", "semver_answers", "node_semver_callers")
 # Private functions of crates for npm's files and of command_lines that are on the page too, since the public call of their crate is
 # made of them.
 ALSO = ("judgement_of", "dependency_of", "find", "asked_of", "verdict_of_both", "overridden", "workspace_of", "is_contained",

@@ -11,7 +11,7 @@ import re
 from crates import CRATES, is_program, listed
 
 # Libraries that no user calls, and those of which runs of npm_lock_check, npm_pick_command and npm_resolve_command make each call.
-SCRIPTS = {"memory_trials": "makes the calls", "node_semver_callers": "examples",
+SCRIPTS = {"named_calls": "makes the calls", "node_semver_callers": "examples",
            "json_places": "runs with --format github and sarif", "findings": "runs with --format github, sarif, html and junit",
            "npm_lock_findings": "runs with --format github, sarif, html and junit, with each kind of finding",
            "command_lines": "all runs",

@@ -1,5 +1,5 @@
 //! The arguments of a call: JSON values first, and then texts.
-use memory_trials::CallError;
+use named_calls::CallError;
 use serde_json::Value;
 use std::alloc::{AllocError, Global};
 

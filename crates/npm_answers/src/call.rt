@@ -5,7 +5,7 @@ use crate::{
     advisories, checks, faults, folders, lock_files, packages, picks, places, texts, workspaces,
     written_findings,
 };
-use memory_trials::{CallError, Trial};
+use named_calls::{CallError, Trial};
 use std::alloc::{AllocError, Global};
 
 /// A call and its arguments.

@@ -3,7 +3,7 @@
 //! Each line of standard input is a JSON array of strings: the name of a call and its arguments. The program writes a line for
 //! each of them: the answer, as a JSON string. A list has a tab after each item.
 //!
-//! With the word `twice` the program makes one call twice, as `memory_trials` says.
+//! With the word `twice` the program makes one call twice, as `named_calls` says.
 #![tactic(auto)]
 
 mod advisories;
@@ -16,7 +16,6 @@ mod checks;
 mod drafts;
 mod faults;
 mod folders;
-mod lines;
 mod lists;
 mod lock_files;
 mod members;
@@ -29,22 +28,9 @@ mod workspaces;
 mod written_findings;
 
 use call::Call;
-use memory_trials::{CallError, run};
-use std::env;
+use named_calls::run;
 use std::process::ExitCode;
 
 fn main(rt: HostRuntime) -> ExitCode {
-    match is_trial(&rt) {
-        Ok(true) => run::<Call>(&rt),
-        Ok(false) => lines::write_all(&rt),
-        Err(_) => ExitCode::from(2),
-    }
-}
-
-/// Whether the first word is `twice`.
-fn is_trial(rt: &HostRuntime) -> Result<bool, CallError> {
-    for word in env::args(rt)?.skip(1) {
-        return Ok(word.as_str() == "twice");
-    }
-    Ok(false)
+    run::<Call>(&rt)
 }

@@ -1,6 +1,6 @@
 //! Arguments that words write.
 use crate::parts;
-use memory_trials::CallError;
+use named_calls::CallError;
 use node_semver::{Identifier, Range, Version};
 use std::alloc::Global;
 

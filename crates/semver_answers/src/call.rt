@@ -12,7 +12,7 @@ use crate::print_calls::{Printed, printed_of};
 use crate::range_calls::{OfRange, range_call_of};
 use crate::text_calls::{OfText, text_call_of};
 use crate::version_calls::{OfVersion, OfVersions, version_call_of, versions_call_of};
-use memory_trials::{CallError, Trial};
+use named_calls::{CallError, Trial};
 use std::alloc::{AllocError, Global};
 
 /// A call and its arguments.
@@ -33,24 +33,6 @@ pub(crate) enum Call {
     Key(Keyed),
     Printed(Printed),
     Made(Made),
-}
-
-impl Call {
-    /// Whether the other forms of the call give the same result.
-    pub(crate) fn agrees(&self, alloc: Global) -> bool {
-        match self {
-            Call::Text(call) => call.agrees(alloc),
-            Call::NpmText(call) => call.agrees(alloc),
-            Call::Version(call) => call.agrees(),
-            Call::Range(call) => call.agrees(alloc),
-            Call::Ranges(call) => call.agrees(alloc),
-            Call::List(call) => call.agrees(alloc),
-            Call::All(call) => call.agrees(),
-            Call::Key(call) => call.agrees(alloc),
-            Call::Printed(call) => call.agrees(alloc),
-            _ => true,
-        }
-    }
 }
 
 impl Trial for Call {
@@ -109,6 +91,21 @@ impl Trial for Call {
             Call::Key(call) => call.print(alloc),
             Call::Printed(call) => call.print(alloc),
             Call::Made(call) => call.print(alloc),
+        }
+    }
+
+    fn agrees(&self, alloc: Global) -> bool {
+        match self {
+            Call::Text(call) => call.agrees(alloc),
+            Call::NpmText(call) => call.agrees(alloc),
+            Call::Version(call) => call.agrees(),
+            Call::Range(call) => call.agrees(alloc),
+            Call::Ranges(call) => call.agrees(alloc),
+            Call::List(call) => call.agrees(alloc),
+            Call::All(call) => call.agrees(),
+            Call::Key(call) => call.agrees(alloc),
+            Call::Printed(call) => call.agrees(alloc),
+            _ => true,
         }
     }
 }

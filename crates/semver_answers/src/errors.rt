@@ -1,6 +1,6 @@
 //! Errors, and kinds by their names.
 use crate::arguments::word_at;
-use memory_trials::CallError;
+use named_calls::CallError;
 use node_semver::{Range, SemverError, SemverErrorKind, Version};
 use std::alloc::{AllocError, Global};
 

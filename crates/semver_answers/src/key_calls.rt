@@ -3,7 +3,7 @@ use crate::answer;
 use crate::answer::Answer;
 use crate::arguments::{number_of, range_of, text_at, version_of, word_at};
 use crate::lists::separate;
-use memory_trials::CallError;
+use named_calls::CallError;
 use node_semver::{Range, Version, VersionRef};
 use semver_cuts::Cut;
 use semver_keys::{

@@ -1,7 +1,7 @@
 //! Calls on versions and one or several ranges.
 use crate::answer::{Answer, found, truth};
 use crate::arguments::{range_of, ranges_of, text_at, versions_of, word_at};
-use memory_trials::CallError;
+use named_calls::CallError;
 use node_semver::{
     Admits, AllOf, Identifier, IdentifierRef, Range, Version, VersionRef, WithPrereleases,
     max_satisfying, min_satisfying,

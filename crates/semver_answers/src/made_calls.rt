@@ -4,7 +4,7 @@ use crate::answer::{Answer, truth};
 use crate::arguments::{number_of, version_of, word_at};
 use crate::lists::text_of_joined;
 use crate::trees::{push_words, tree_of};
-use memory_trials::CallError;
+use named_calls::CallError;
 use node_semver::{MAX_LENGTH, MAX_SAFE_INTEGER, Range, SetTree, Version};
 use npm_semver::NpmOptions;
 use semver_cuts::algebra::are_merged;

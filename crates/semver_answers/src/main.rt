@@ -4,7 +4,7 @@
 //! each of them: the answer, as a JSON string. Where a function has several forms, as one for a version and one for a version
 //! that borrows its text, all are called, and an answer says that they give different results.
 //!
-//! With the word `twice` the program makes one call twice, as `memory_trials` says.
+//! With the word `twice` the program makes one call twice, as `named_calls` says.
 #![tactic(auto)]
 
 mod answer;
@@ -14,7 +14,6 @@ mod call;
 mod errors;
 mod forms;
 mod key_calls;
-mod lines;
 mod list_calls;
 mod lists;
 mod made_calls;
@@ -30,22 +29,9 @@ mod trees;
 mod version_calls;
 
 use call::Call;
-use memory_trials::{CallError, run};
-use std::env;
+use named_calls::run;
 use std::process::ExitCode;
 
 fn main(rt: HostRuntime) -> ExitCode {
-    match is_trial(&rt) {
-        Ok(true) => run::<Call>(&rt),
-        Ok(false) => lines::write_all(&rt),
-        Err(_) => ExitCode::from(2),
-    }
-}
-
-/// Whether the first word is `twice`.
-fn is_trial(rt: &HostRuntime) -> Result<bool, CallError> {
-    for word in env::args(rt)?.skip(1) {
-        return Ok(word.as_str() == "twice");
-    }
-    Ok(false)
+    run::<Call>(&rt)
 }

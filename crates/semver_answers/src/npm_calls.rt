@@ -2,7 +2,7 @@
 use crate::answer;
 use crate::answer::Answer;
 use crate::arguments::{identifier_of, text_at, version_of, word_at};
-use memory_trials::CallError;
+use named_calls::CallError;
 use node_semver::{Identifier, Range, SemverError, Version};
 use npm_semver::{Bump, CoerceOptions, IdentifierBase, NpmOptions};
 use std::alloc::{AllocError, Global};

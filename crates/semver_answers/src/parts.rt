@@ -1,7 +1,7 @@
 //! The parts of a version: `1.2.3-alpha,=1+=5` are the numbers 1, 2 and 3, a prerelease of the text `alpha` and the number
 //! 1, and a build of the number 5. Each text of an identifier may be written so, but for `,` and `+`.
 use crate::arguments::{identifier_of, number_of};
-use memory_trials::CallError;
+use named_calls::CallError;
 use node_semver::{Identifier, Version};
 use std::alloc::{AllocError, Global};
 

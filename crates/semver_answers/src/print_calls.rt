@@ -5,7 +5,7 @@ use crate::arguments::{identifier_of, range_of, version_of, word_at};
 use crate::errors::{are_equal_errors, are_equal_kinds, error_of, kind_of};
 use crate::forms::{is_one_way, print_of};
 use crate::orders::identifier_order_of;
-use memory_trials::CallError;
+use named_calls::CallError;
 use node_semver::{Identifier, Range, SemverError, SemverErrorKind, Version};
 use std::alloc::{AllocError, Global};
 use std::fmt::Display;

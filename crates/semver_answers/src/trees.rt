@@ -1,5 +1,5 @@
 //! Trees of range texts, written with `Both` and `Without` after their two sides.
-use memory_trials::CallError;
+use named_calls::CallError;
 use node_semver::SetTree;
 use std::alloc::{AllocError, Global};
 

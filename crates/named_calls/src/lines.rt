@@ -1,30 +1,30 @@
 //! The lines of standard input, and the answers.
-use crate::call::Call;
-use memory_trials::{CallError, Trial};
+use crate::call_error::CallError;
+use crate::trial::Trial;
 use serde_json::Value;
 use std::alloc::{AllocError, Global};
 use std::io::{BufRead, BufReader};
 use std::process::ExitCode;
 
 /// Writes the answer of each line, and returns the status of the program: 2 if a line could not be read or written.
-pub(crate) fn write_all(rt: &HostRuntime) -> ExitCode {
-    match write_answers(rt) {
+pub(crate) fn write_all<T: Trial>(rt: &HostRuntime) -> ExitCode {
+    match write_answers::<T>(rt) {
         Ok(()) => ExitCode::from(0),
         Err(_) => ExitCode::from(2),
     }
 }
 
-fn write_answers(rt: &HostRuntime) -> Result<(), CallError> {
+fn write_answers<T: Trial>(rt: &HostRuntime) -> Result<(), CallError> {
     for line in BufReader::new(rt.alloc(), rt.stdin())?.lines(rt.alloc()) {
-        let answer = answer_of(rt.alloc(), &line?)?;
+        let answer = answer_of::<T>(rt.alloc(), &line?)?;
         println!(rt; "{answer}")?;
     }
     Ok(())
 }
 
 /// The answer of a line, as JSON.
-fn answer_of(alloc: Global, line: &str) -> Result<String, AllocError> {
-    let text = match text_of_line(alloc, line) {
+fn answer_of<T: Trial>(alloc: Global, line: &str) -> Result<String, AllocError> {
+    let text = match text_of_line::<T>(alloc, line) {
         Ok(text) => text,
         Err(error) => String::from_str(alloc, text_of_error(&error))?,
     };
@@ -40,10 +40,10 @@ fn text_of_error(error: &CallError) -> &'static str {
     }
 }
 
-fn text_of_line(alloc: Global, line: &str) -> Result<String, CallError> {
+fn text_of_line<T: Trial>(alloc: Global, line: &str) -> Result<String, CallError> {
     let words = words_of(alloc, line)?;
     match words.as_slice() {
-        [name, arguments @ ..] => text_of_call(alloc, name, arguments),
+        [name, arguments @ ..] => text_of_call::<T>(alloc, name, arguments),
         _ => Err(CallError::Words),
     }
 }
@@ -65,11 +65,19 @@ fn strings_of(alloc: Global, value: &Value) -> Result<Vec<String>, CallError> {
     Ok(words)
 }
 
-fn text_of_call(alloc: Global, name: &str, arguments: &[String]) -> Result<String, CallError> {
-    let call = Call::of_words(alloc, name, arguments)?;
+fn text_of_call<T: Trial>(
+    alloc: Global,
+    name: &str,
+    arguments: &[String],
+) -> Result<String, CallError> {
+    let call = T::of_words(alloc, name, arguments)?;
     text_of(alloc, &call)
 }
 
-fn text_of(alloc: Global, call: &Call) -> Result<String, CallError> {
-    Ok(call.answer(alloc).print(alloc)?)
+fn text_of<T: Trial>(alloc: Global, call: &T) -> Result<String, CallError> {
+    if !call.agrees(alloc) {
+        return Ok(String::from_str(alloc, "its forms differ")?);
+    }
+    let answer = call.answer(alloc);
+    Ok(T::print_answer(alloc, &answer)?)
 }

@@ -21,10 +21,15 @@ pub trait Trial: Sized + Drop {
 
     /// The arguments as they are now.
     fn print(&self, alloc: Global) -> Result<String, AllocError>;
+
+    /// Whether the other forms of the call, if it has any, give the same result.
+    fn agrees(&self, _alloc: Global) -> bool {
+        true
+    }
 }
 
-/// Makes the call that the words name, and returns the status of the program.
-pub fn run<T: Trial>(rt: &HostRuntime) -> ExitCode {
+/// Makes the call that the lines name twice, and returns the status of the program.
+pub(crate) fn run<T: Trial>(rt: &HostRuntime) -> ExitCode {
     match made::<T>(rt) {
         Ok(true) => ExitCode::from(0),
         Ok(false) => ExitCode::from(1),

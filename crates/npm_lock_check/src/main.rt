@@ -12,14 +12,13 @@ use advisory_exception_files::{day_at, read_file};
 use advisory_exceptions::{Date, Exception, ExceptionsError};
 use command_lines::{Quoted, Shown, Watched, open_error, read_json_with_text, words_of};
 use node_semver::Version;
-use npm_lock_counted::{ExceptedSentence, Exceptions};
 use npm_lock_findings::PageFormat;
 use npm_lock_program::{
     ArgumentError, Arguments, Format, HELP, Output, RunError, StopError, VERSION, Wanted, Writing,
     checked_in, files_of, lock_subject, node_of, read_arguments, run, sentence_of, status_of,
     stop_text, subject_of,
 };
-use npm_lock_reports::{Report, ReportFormat};
+use npm_lock_reports::{ExceptedSentence, Exceptions, Report, ReportFormat};
 use npm_manifest_files::{
     ManifestError, folder_of, manifest_in, manifests_of, read_faultless, with_workspaces,
 };

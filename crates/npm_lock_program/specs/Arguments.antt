@@ -25,7 +25,7 @@ use Rattle.npm_lock_program.specs.declared.arguments.argument_error.ArgumentErro
 use Rattle.npm_lock_program.specs.declared.arguments.argument_error.ArgumentError.TheVariants as Errors
 use Rattle.npm_lock_program.specs.declared.arguments.arguments.Arguments.{Arguments}
 use Rattle.npm_lock_program.specs.declared.checks.kinds.Kinds.{Kinds}
-use Rattle.npm_lock_counted.specs.declared.omissions.Omissions.{Omissions}
+use Rattle.npm_lock_reports.specs.declared.omissions.Omissions.{Omissions}
 
 -- ---- the options
 

@@ -3,7 +3,7 @@ use Rattle.std.specs.Prelude.{◌||◌, ℕ, List, Bool, true, not, if◌then◌
 use Rattle.std.specs.List.{list_any}
 use Rattle.toml_datetime.specs.declared.datetime.Date.{Date}
 use Rattle.advisory_exceptions.specs.Exceptions.{ExceptionValue, is_over}
-use Rattle.npm_lock_counted.specs.declared.excepted.Excepted.{Excepted}
+use Rattle.npm_lock_reports.specs.declared.excepted.Excepted.{Excepted}
 use Rattle.npm_lock_reports.specs.declared.report.Report.{Report}
 use Rattle.npm_lock_program.specs.declared.checks.run_error.StopError.{StopError}
 

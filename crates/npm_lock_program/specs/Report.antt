@@ -25,12 +25,12 @@ use Rattle.npm_advisories.specs.LockFile.{AreInstalledOf}
 use Rattle.npm_advisories.specs.declared.severity.Severity.{Severity}
 use Rattle.npm_lock_reports.specs.Unread.{UnreadValue, root_of_file, unread_value}
 use Rattle.npm_lock_reports.specs.declared.report.Report.{Report}
-use Rattle.npm_lock_counted.specs.Count.{count_of}
-use Rattle.npm_lock_counted.specs.LeftOut.{problems_kept, unchecked_kept}
-use Rattle.npm_lock_counted.specs.declared.omissions.Omissions.{Omissions}
-use Rattle.npm_lock_counted.specs.Excepted.{excepted_value}
-use Rattle.npm_lock_counted.specs.Exceptions.{ExceptionsValue, exceptions_value}
-use Rattle.npm_lock_counted.specs.Counted.{CountedValue, counted_hits}
+use Rattle.npm_lock_reports.specs.Count.{count_of}
+use Rattle.npm_lock_reports.specs.LeftOut.{problems_kept, unchecked_kept}
+use Rattle.npm_lock_reports.specs.declared.omissions.Omissions.{Omissions}
+use Rattle.npm_lock_reports.specs.Excepted.{excepted_value}
+use Rattle.npm_lock_reports.specs.Exceptions.{ExceptionsValue, exceptions_value}
+use Rattle.npm_lock_reports.specs.Counted.{CountedValue, counted_hits}
 use Rattle.npm_lock_program.specs.Kinds.{has}
 use Rattle.npm_manifest_files.specs.Linked.{LinkedValue, LoadedValue, WorkspaceValue, loaded_value, nothing_loaded}
 use Rattle.npm_lock_program.specs.declared.checks.format.Format.{Format}

@@ -6,3 +6,4 @@ mod OutputLines
 mod Parts
 mod SentenceLines
 pub mod Examples
+pub mod Keeping

@@ -1,24 +1,47 @@
-//! The report of a lock file, and its lines.
+//! The report of a lock file: what counts of what is found in it, and its lines.
+//!
+//! [`Omissions`] says which packages are left out, as `npm ci --omit` and `npm audit --omit` do; [`leave_out_omitted`] and
+//! [`leave_out_unchecked`] remove what is found of them, and [`count_of`] counts them. [`Exceptions`] say which advisories do not
+//! count for a package, and [`excepted_of`] lists them. [`counted_hits`] are the hits that count by both. See docs/DECISIONS.md,
+//! "Exceptions have a reason, and stand on standard error".
 //!
 //! [`Report`] has the mismatches and the problems, and prints their counts. [`lines_of`] writes a line for each, in a
 //! [`LineStyle`]: a sentence, or a JSON object, and either with the lock file or without. [`push_sentence`] and others write one
 //! sentence. [`laws::lines_are_those_of_the_report`] does nothing: its contract says that no line is left out, written twice or divided.
 #![tactic(auto)]
 
+mod count;
+mod excepted;
+mod exception_sentence;
+mod exceptions;
 mod folder_name;
 mod format;
 mod hit_sentence;
+mod hits;
 pub mod laws;
+mod left;
+mod left_out;
 mod lines;
+mod omissions;
+mod problems;
 mod report;
 mod sentence;
 mod style;
 mod unread;
 
+pub use count::count_of;
+pub use excepted::{Excepted, excepted_of};
+pub use exception_sentence::{ExceptedSentence, ExceptionSentence};
+pub use exceptions::Exceptions;
 pub use folder_name::FolderName;
 pub use format::ReportFormat;
 pub use hit_sentence::push_hit_sentence;
+pub use hits::{CountedHits, counted_hits};
+pub use left::leave_out_excepted;
+pub use left_out::{leave_out_hits, leave_out_problems, leave_out_unchecked};
 pub use lines::lines_of;
+pub use omissions::Omissions;
+pub use problems::leave_out_omitted;
 pub use report::Report;
 pub use sentence::{push_mismatch_sentence, push_sentence, push_unchecked_sentence};
 pub use style::LineStyle;

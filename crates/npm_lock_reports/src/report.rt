@@ -2,9 +2,9 @@
 ghost use Rattle.std.specs.Prelude.{◌≡◌, ◌↔◌, IsTrue};
 ghost use Rattle.npm_lock_reports.specs.Report.{IsClean};
 
+use crate::Excepted;
 use crate::unread::Unread;
 use npm_lock::{Mismatch, Problems};
-use npm_lock_counted::Excepted;
 use std::fmt;
 
 /// The report of a lock file.

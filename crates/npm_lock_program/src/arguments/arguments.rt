@@ -17,9 +17,8 @@ use command_lines::{
     Argument, Faults, MAX_WORDS, Options, Quoted, Shown, has_value, is_given, shown_in, value_of,
 };
 use npm_advisories::Severity;
-use npm_lock_counted::Omissions;
 use npm_lock_findings::{AnnotationFormat, PageFormat};
-use npm_lock_reports::ReportFormat;
+use npm_lock_reports::{Omissions, ReportFormat};
 
 /// The arguments.
 #[derive(Clone, Copy, Drop)]

@@ -8,15 +8,15 @@ ghost use Rattle.npm_lock_program.specs.Check.{IsFaultShown};
 ghost use Rattle.npm_lock_program.specs.ListNames.{id_text};
 ghost use Rattle.npm_lock_program.specs.Private.Refusals.{AreRefusedAs, IsAuditRefused, IsNameOf};
 ghost use Rattle.npm_lock_program.specs.Report.{AreCounted, AreHit, wanted_value};
-ghost use Rattle.npm_lock_counted.specs.Counted.{counted_value};
+ghost use Rattle.npm_lock_reports.specs.Counted.{counted_value};
 
 use crate::checks::list_name::ListName;
 use crate::checks::run_error::RunError;
 use crate::checks::wanted::Wanted;
 use json_places::Path;
 use npm_advisories::{AdvisoryId, Fault, Found, LockError, audit_lock, fault_steps};
-use npm_lock_counted::{CountedHits, counted_hits};
 use npm_lock_faults::{FaultPlace, ShownPlace};
+use npm_lock_reports::{CountedHits, counted_hits};
 use serde_json::Value;
 use std::alloc::{AllocError, Global};
 

@@ -3,7 +3,7 @@ use crate::checks::format::Format;
 use crate::checks::kinds::Kinds;
 use node_semver::Version;
 use npm_advisories::Severity;
-use npm_lock_counted::{Exceptions, Omissions};
+use npm_lock_reports::{Exceptions, Omissions};
 use serde_json::Value;
 
 /// The settings of a check.

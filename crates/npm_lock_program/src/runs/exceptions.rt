@@ -5,8 +5,7 @@ ghost use Rattle.npm_lock_program.specs.Exceptions as Told;
 
 use crate::StopError;
 use advisory_exceptions::{Date, Exception};
-use npm_lock_counted::{Excepted, ExceptionSentence};
-use npm_lock_reports::Report;
+use npm_lock_reports::{Excepted, ExceptionSentence, Report};
 
 /// Returns what is said of the exception at this place: that it is over, or that it applied to nothing. `None`: it applied, or it may
 /// apply to a lock file that was not checked.

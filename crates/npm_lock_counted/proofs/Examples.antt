@@ -1,3 +1,0 @@
-pub mod CountedExamples
-pub mod ExceptedExamples
-pub mod OmissionExamples

@@ -1,0 +1,15 @@
+use Rattle.std.proofs.Common.{◌≡◌, ◌∙◌, ap, filter, map, not, rules}
+use Rattle.std.proofs.lemmas.Fn.{filter_same}
+use Rattle.serde_json.specs.View.{view}
+use Rattle.npm_advisories.specs.Audit.{found_value}
+use Rattle.npm_lock_reports.specs.Omissions.{is_omitted_at}
+use Rattle.npm_lock_reports.proofs.Keeping.{map-kept}
+use Rattle.npm_lock_reports.proofs.left_out.leave_out_hits.Goals as goal
+
+pub returns : goal.returns
+returns c =
+    let kept : c.retain.new.self.items
+    ≡ filter (λ found. not (is_omitted_at c.args.omissions (view c.args.lock.now) (found_value found).folder)) c.args.list.now.items =
+    filter_same _ _ _ (λ x b f' k. search rules) _ _ c.retain.ensures.filtered in
+    ap (map found_value) kept
+    ∙ map-kept found_value (λ one. not (is_omitted_at c.args.omissions (view c.args.lock.now) one.folder)) c.args.list.now.items

@@ -1,0 +1,38 @@
+//! How many packages are left out.
+ghost use Rattle.std.specs.Prelude.{◌≡◌};
+ghost use Rattle.serde_json.specs.View.{members_view, view};
+ghost use Rattle.npm_lock_reports.specs.Count as Counts;
+
+use crate::omissions::Omissions;
+use npm_packages::{is_link, members_of};
+use serde_json::{Map, Value};
+
+/// Returns how many packages of a lock file are left out, or `None` if no group is. A link is no package.
+///
+/// # Memory
+///
+/// Does not allocate.
+pub fn count_of(omissions: Omissions, lock: &Value) -> Option<usize>
+    ensures { result ≡ Counts.count_of omissions (view lock.now) }
+{
+    if !omissions.has_some() {
+        return None;
+    }
+    match members_of(lock) {
+        Some(members) => Some(count_in(omissions, members)),
+        None => Some(0),
+    }
+}
+
+/// The number of these members that are left out.
+fn count_in(omissions: Omissions, members: &Map<String, Value>) -> usize
+    ensures { result ≡ Counts.counted (Counts.omitted_in omissions (members_view members.now.entries)) }
+{
+    let mut count: usize = 0;
+    for (folder, member) in members.iter() {
+        if !is_link(member) && omissions.has(folder.as_str(), member) {
+            count = count.saturating_add(1);
+        }
+    }
+    count
+}

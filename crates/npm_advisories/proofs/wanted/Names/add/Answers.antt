@@ -4,7 +4,7 @@ use Rattle.std.proofs.lemmas.Map.Text.{btree_map_updates_str}
 use Rattle.std.specs.BTreeMap.{get_by}
 use Rattle.std.specs.Cmp.Lexicographic.{slice_cmp}
 use Rattle.npm_advisories.specs.Lemmas.Adding.{name-more}
-use Rattle.npm_advisories.proofs.names.Names.add.Goals as goal
+use Rattle.npm_advisories.proofs.wanted.Names.add.Goals as goal
 
 pub returns : goal.returns
 returns c = λ other.

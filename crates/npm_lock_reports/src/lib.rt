@@ -2,8 +2,9 @@
 //!
 //! [`Omissions`] says which packages are left out, as `npm ci --omit` and `npm audit --omit` do; [`leave_out_omitted`] and
 //! [`leave_out_unchecked`] remove what is found of them, and [`count_of`] counts them. [`Exceptions`] say which advisories do not
-//! count for a package, and [`excepted_of`] lists them. [`counted_hits`] are the hits that count by both. See docs/DECISIONS.md,
-//! "Exceptions have a reason, and stand on standard error".
+//! count for a package, and [`excepted_of`] lists them. [`counted_hits`] are the hits that count by both.
+//!
+//! See docs/DECISIONS.md, "Exceptions have a reason, and stand on standard error".
 //!
 //! [`Report`] has the mismatches and the problems, and prints their counts. [`lines_of`] writes a line for each, in a
 //! [`LineStyle`]: a sentence, or a JSON object, and either with the lock file or without. [`push_sentence`] and others write one

@@ -9,6 +9,7 @@ ROOT = os.path.dirname(os.path.dirname(os.path.abspath(__file__)))
 PLACES = (
     ("bindings/c/include/node_semver.h", r'#define NODE_SEMVER_LIBRARY_VERSION "([^"]*)"'),
     ("bindings/c/include/npm_pick.h", r'#define NPM_PICK_LIBRARY_VERSION "([^"]*)"'),
+    ("bindings/c/include/npm_resolve.h", r'#define NPM_RESOLVE_LIBRARY_VERSION "([^"]*)"'),
     ("bindings/python/src/node_semver/__init__.py", r'^__version__ = "([^"]*)"'),
     ("bindings/node/package.json", r'^  "version": "([^"]*)"'),
     ("crates/npm_lock_program/src/arguments/help.rt", r'"(?:npm_lock_check )?(\d[^"\\]*)(?:\\n)?"'),

@@ -1,15 +1,19 @@
-"""Makes a test of each row of `programs/` and of `rows/`, and counts what ran. README.md says how to add one."""
+"""Makes a test of each row of `programs/`, `rows/` and `memory/`, and counts what ran. README.md says how to add one."""
 import os
 import shlex
 
 import pytest
 
-from support import call_rows, counts, documents, rows
+from support import call_rows, counts, documents, refused_calls, refused_programs, rows
 
 
 def pytest_collect_file(parent, file_path):
+    """A file of rows, by its ending and its folder."""
     if file_path.suffix == ".rows":
         return RowsFile.from_parent(parent, path=file_path)
+    if file_path.suffix in (".tsv", ".calls") and file_path.parent.name == "memory":
+        kind = ProgramsFile if file_path.name == "programs.tsv" else RefusedFile
+        return kind.from_parent(parent, path=file_path)
     if file_path.suffix == ".tsv" and file_path.parent.name == "rows":
         return CallsFile.from_parent(parent, path=file_path)
     if file_path.suffix == ".calls":
@@ -22,7 +26,7 @@ class Wrong(Exception):
 
 
 class Row(pytest.Item):
-    """A row of either kind of file."""
+    """A row of any kind of file."""
 
     def __init__(self, *, case, **more):
         super().__init__(**more)
@@ -70,6 +74,14 @@ class CallsFile(RowsFile):
 
 class DocumentsFile(RowsFile):
     ROW, READ = CallRow, staticmethod(documents.read)
+
+
+class RefusedFile(RowsFile):
+    ROW, READ = CallRow, staticmethod(refused_calls.read)
+
+
+class ProgramsFile(RowsFile):
+    ROW, READ = CallRow, staticmethod(refused_programs.read)
 
 
 def pytest_configure(config):

@@ -151,8 +151,8 @@ def is_public(crate, path, is_pub, name, owner, trait, front):
         return is_pub or trait not in (None, "From") or path.endswith("/main.rt")
     parts = path[len(f"crates/{crate}/src/"):-3].split("/")
     in_module = parts[0] in modules or not trait and parts == ["lib"]
-    if crate in ("node_semver_c", "npm_pick_c"):
-        return is_pub and name.startswith(("node_semver_", "npm_pick_")) or is_pub and in_module
+    if crate in ("node_semver_c", "npm_pick_c", "npm_resolve_c"):
+        return is_pub and name.startswith(("node_semver_", "npm_pick_", "npm_resolve_")) or is_pub and in_module
     if owner:
         return (is_pub or trait is not None) and (owner in names or in_module)
     return is_pub and (name in names or in_module)

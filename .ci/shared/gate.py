@@ -84,7 +84,7 @@ class Gate:
         began = time.monotonic()
         with tempfile.TemporaryDirectory() as room:
             report = os.path.join(room, "report.xml")
-            ran = self.run(pytests.command(report=report) or ["echo", pytests.MISSING], pytests.TOP)
+            ran = self.run(pytests.running([], report) or ["echo", pytests.MISSING], pytests.TOP)
             found = pytests.results_of(report, ran.status, ran.said)
         passed, clock = sum(it.passed for it in found), time.monotonic() - began
         with self.lock:

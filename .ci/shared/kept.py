@@ -64,6 +64,11 @@ def keep(key, what):
         pass
 
 
+def forget(key):
+    with contextlib.suppress(OSError):
+        os.remove(os.path.join(FOLDER, key))
+
+
 def remove_old():
     for folder, _, names in os.walk(FOLDER):
         for path in (os.path.join(folder, name) for name in names):

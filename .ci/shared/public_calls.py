@@ -22,9 +22,9 @@ SCRIPTS = {"named_calls": "makes the calls", "node_semver_callers": "examples",
            "advisory_exception_files": "runs with --exceptions",
            "npm_pick_reports": "all runs of npm_pick_command",
            "version_solving": "runs of tests/models", "solving_reasons": "runs of tests/models",
-           "named_problems": "runs of tests/models",
            "npm_candidates": "runs of tests/models", "npm_resolve": "runs of tests/models",
-           "npm_pick_files": "runs of tests/programs", "npm_resolve_reports": "runs of tests/programs"}
+           "npm_resolve_reports": "runs of tests/programs",
+           "npm_flat_locks": "runs of tests/programs", "npm_flat_lock_laws": "does not allocate"}
 
 # A function, and the call that makes it.
 THROUGH = {
@@ -58,6 +58,7 @@ THROUGH = {
     "npm_sets::read_npm": "npm_semver::parse_range",
     "npm_sets::read_npm_text": "npm_semver::parse_range",
     "npm_sets::refused_offset": "npm_semver::parse_range",
+    "npm_pick::is_engine_for": "npm_pick::pick",
     "npm_pick::text_of": "npm_pick::pick",
     "npm_pick::up_to": "npm_pick::pick",
     "npm_texts::range_of": "npm_lock::check",
@@ -74,6 +75,10 @@ THROUGH = {
     "Unchecked::to_json": "npm_lock::check",
     "npm_advisories::audit": "npm_advisories::audit_lock",
     "Found::to_json": "npm_advisories::audit_lock",
+    **{name: "npm_advisories::audit_lock" for name in (
+        "Advisory::sets", "Index::add", "Index::new", "Names::add", "Names::new", "npm_advisories::add_osv", "npm_advisories::has_fault",
+        "npm_advisories::have_fault", "npm_advisories::is_refused", "npm_advisories::npm_advisory", "npm_advisories::range_of",
+        "npm_advisories::spans_of_range", "npm_advisories::spans_of_ranges", "npm_advisories::spans_of_versions")},
 }
 
 # A function that returns nothing but an error, and one that frees.

@@ -1,4 +1,5 @@
 """The tests of the folder `tests`, which pytest runs."""
+import functools
 import os
 import re
 import subprocess
@@ -12,6 +13,7 @@ from results import Job, Result
 
 FOLDER = "tests"
 TOP = os.path.join(files.ROOT, FOLDER)
+FEW = 200  # So many rows run in the time that it takes to begin on several processors.
 MISSING = "pytest is missing: apt-get install python3-pytest python3-pytest-xdist"
 
 
@@ -19,26 +21,27 @@ def is_there():
     return os.path.isdir(TOP)
 
 
+@functools.cache
 def python():
     """A Python that has pytest, or None; and whether it has the plug-in for several processors."""
     for name in (sys.executable, "/usr/bin/python3"):
-        has = [subprocess.run([name, "-c", f"import {module}"], stderr=subprocess.DEVNULL).returncode == 0 for module in ("pytest", "xdist")]
-        if has[0]:
-            return name, has[1]
+        words = [name, "-c", "import importlib.util as it; print(*map(bool, map(it.find_spec, ('pytest', 'xdist'))))"]
+        has = subprocess.run(words, stdout=subprocess.PIPE, stderr=subprocess.DEVNULL, text=True).stdout.split()
+        if has[:1] == ["True"]:
+            return name, has[1] == "True"
     return None, False
 
 
-def command(picked=(), report=None):
-    """Words that run some tests, or all, on all processors; without a report, words that list them. None if there is no pytest. They
-    run in the folder."""
-    name, is_spread = python()
-    words = [name, "-B", "-m", "pytest", "-q", *([test.removeprefix(f"{FOLDER}/") for test in picked] or ["."])]
-    if report is None:
-        words += ["--collect-only"]
-    else:
-        jobs = len(os.sched_getaffinity(0))
-        words += ["-o", "junit_family=xunit1", f"--junitxml={report}", *(["-n", str(jobs)] if is_spread and len(picked) != 1 else [])]
-    return words if name else None
+def command(picked, *words):
+    """Words that run tests in the folder, or all of it. None if there is no pytest."""
+    name, _ = python()
+    return [name, "-B", "-m", "pytest", "-q", *words, *([test.removeprefix(f"{FOLDER}/") for test in picked] or ["."])] if name else None
+
+
+def running(picked, report):
+    """Words that run tests and write a report: on all processors, unless they are few."""
+    jobs = ["-n", str(len(os.sched_getaffinity(0)))] if python()[1] and not 0 < len(picked) < FEW else []
+    return command(picked, "-o", "junit_family=xunit1", f"--junitxml={report}", *jobs)
 
 
 def results(report):
@@ -58,7 +61,7 @@ def run(picked, environment):
     """Runs some tests, or all."""
     with tempfile.TemporaryDirectory() as room:
         report = os.path.join(room, "report.xml")
-        done = subprocess.run(command(picked, report), cwd=TOP, env=environment, stdin=subprocess.DEVNULL, stdout=subprocess.PIPE,
+        done = subprocess.run(running(picked, report), cwd=TOP, env=environment, stdin=subprocess.DEVNULL, stdout=subprocess.PIPE,
                               stderr=subprocess.STDOUT)
         return results_of(report, done.returncode, done.stdout.decode(errors="replace"))
 
@@ -71,14 +74,23 @@ def results_of(report, status, said):
     return found
 
 
+def names(key, environment):
+    """The names of the tests, as pytest lists them. They are kept by a sum of all files that they may come from."""
+    found = kept.passed(key)
+    if found is None:
+        listed = subprocess.run(command([], "--collect-only"), cwd=TOP, env=environment, stdout=subprocess.PIPE, encoding="utf-8")
+        found = [f"{FOLDER}/{line}" for line in listed.stdout.splitlines() if "::" in line]
+        if listed.returncode == 0:
+            kept.keep(key, found)
+    return found or [FOLDER]
+
+
 def jobs(environment):
     """A job for all of them, if there are any."""
     if not is_there():
         return
-    words = command()
-    listed = subprocess.run(words, cwd=TOP, env=environment, stdout=subprocess.PIPE, encoding="utf-8").stdout.splitlines() if words else []
-    names = [f"{FOLDER}/{line}" for line in listed if "::" in line] or [FOLDER]
-    key = kept.sum_of((path for path in files.below("") if not path.startswith(".ci/wrong/")), [FOLDER])
-    job = Job(FOLDER, names, None, key, 2e6, why_not="" if words else MISSING)
-    job.run = lambda: run([name for name in names if job.is_asked(name)] if job.words else [], environment)
+    read = [path for path in files.below("") if not path.startswith(".ci/wrong/")]
+    listed = names(kept.sum_of(read, ["names", FOLDER]), environment) if python()[0] else [FOLDER]
+    job = Job(FOLDER, listed, None, kept.sum_of(read, [FOLDER]), 2e6, why_not="" if python()[0] else MISSING)
+    job.run = lambda: run([name for name in listed if job.is_asked(name)] if job.words else [], environment)
     yield job

@@ -27,6 +27,7 @@ class Job:
     cost: float = 0  # The dearest begin first.
     lane: str = ""  # Jobs of one lane run one after another.
     why_not: str = ""  # Why it cannot run, if it cannot.
+    after: list = field(default_factory=list)  # The jobs after which it begins.
     words: list = field(default_factory=list)  # Only tests with one of these words are asked for, if there are any.
 
     def is_asked(self, name):

@@ -26,6 +26,15 @@
       "defines": ["NAPI_VERSION=8"],
       "cflags": ["-std=c11", "-Wall", "-Wextra", "-fvisibility=hidden"],
       "ldflags": ["-Wl,--exclude-libs,ALL"]
+    },
+    {
+      "target_name": "npm_resolve",
+      "sources": ["src/resolve/resolve.c"],
+      "include_dirs": ["lib"],
+      "libraries": ["../lib/libnpm_resolve.a"],
+      "defines": ["NAPI_VERSION=8"],
+      "cflags": ["-std=c11", "-Wall", "-Wextra", "-fvisibility=hidden"],
+      "ldflags": ["-Wl,--exclude-libs,ALL"]
     }
   ]
 }

@@ -1,10 +1,10 @@
 // SPDX-License-Identifier: Apache-2.0
-// Builds the two native parts with the node-gyp that npm ships: one of the package, and one of `pick.js`. In a clone it
-// first builds the C libraries of `../c`, and copies them into `lib`, and the licence to here; a package from `npm pack`
+// Builds the three native parts with the node-gyp that npm ships: one of the package, one of `pick.js` and one of `resolve.js`. In
+// a clone it first builds the C libraries of `../c`, and copies them into `lib`, and the licence to here; a package from `npm pack`
 // has them. The package of a release also has the native parts themselves, in `prebuilt`, where internal/load.js finds them: then
 // nothing is built.
 //
-//     node build.js              builds build/Release/node_semver.node and build/Release/npm_pick.node
+//     node build.js              builds node_semver.node, npm_pick.node and npm_resolve.node in build/Release
 //     node build.js --library    builds and copies the libraries and the licence alone
 'use strict';
 
@@ -18,6 +18,8 @@ const parts = [
     ['../c/include/node_semver.h', 'lib/node_semver.h'],
     ['../c/build/libnpm_pick.a', 'lib/libnpm_pick.a'],
     ['../c/include/npm_pick.h', 'lib/npm_pick.h'],
+    ['../c/build/libnpm_resolve.a', 'lib/libnpm_resolve.a'],
+    ['../c/include/npm_resolve.h', 'lib/npm_resolve.h'],
     ['../../LICENSE', 'LICENSE'],
 ];
 
@@ -33,7 +35,7 @@ function run(command, words) {
 function copyLibrary() {
     const from = path.join(__dirname, '..', 'c');
     if (fs.existsSync(path.join(from, 'Makefile'))) {
-        run('make', ['-C', from, 'all', 'pick']);
+        run('make', ['-C', from, 'all', 'pick', 'resolve']);
         fs.mkdirSync(path.join(__dirname, 'lib'), { recursive: true });
         parts.forEach(([file, name]) => fs.copyFileSync(path.join(__dirname, file), path.join(__dirname, name)));
     }
@@ -44,7 +46,7 @@ function copyLibrary() {
     }
 }
 
-const NATIVE = ['node_semver.node', 'npm_pick.node'];
+const NATIVE = ['node_semver.node', 'npm_pick.node', 'npm_resolve.node'];
 
 // Whether the native parts of `prebuilt` are there for this system, and a process of its own can load them: then they are used
 // where they are.

@@ -1,8 +1,9 @@
 # SPDX-License-Identifier: Apache-2.0
-"""Builds the two extension modules on Python's limited API; pyproject.toml says the rest.
+"""Builds the three extension modules on Python's limited API; pyproject.toml says the rest.
 
-NODE_SEMVER_LIBRARY names the static libraries to link, with `:` between. If it does not name libnpm_pick.a, that is taken
-from the folder of the first. Their headers are in the folder `include` beside that one, or in NODE_SEMVER_INCLUDE.
+NODE_SEMVER_LIBRARY names the static libraries to link, with `:` between. If it does not name libnpm_pick.a or
+libnpm_resolve.a, that is taken from the folder of the first. Their headers are in the folder `include` beside that one, or in
+NODE_SEMVER_INCLUDE.
 
 Without NODE_SEMVER_LIBRARY they are those of ../c, which `make` builds where a source has changed. That is in a clone of the
 repository. The source distribution has no ../c and no library, so the build stops, and says how to get them.
@@ -24,16 +25,16 @@ from setuptools.errors import SetupError
 HERE = os.path.dirname(os.path.abspath(__file__))
 ROOT = os.path.dirname(os.path.dirname(HERE))
 C_PACKAGE = os.path.join(os.path.dirname(HERE), "c")
-PICK = "libnpm_pick.a"
-HEADERS = ("node_semver.h", "npm_pick.h")
+OTHERS = ("libnpm_pick.a", "libnpm_resolve.a")
+HEADERS = ("node_semver.h", "npm_pick.h", "npm_resolve.h")
 
 HELP = """
-This package links the proved libraries for C, libnode_semver.a and libnpm_pick.a of version {version}. The source
-distribution does not have them. There are two ways to get them:
+This package links the proved libraries for C, libnode_semver.a, libnpm_pick.a and libnpm_resolve.a of version {version}. The
+source distribution does not have them. There are two ways to get them:
 - From a release: unpack denimscree-{version}-linux-x86_64.tar.gz, and set NODE_SEMVER_LIBRARY to the absolute path of its
   lib/libnode_semver.a.
-- From a clone of the repository, with the Rattle toolchain: run `make -C bindings/c all pick`, and set NODE_SEMVER_LIBRARY
-  to the absolute path of its bindings/c/build/libnode_semver.a.
+- From a clone of the repository, with the Rattle toolchain: run `make -C bindings/c all pick resolve`, and set
+  NODE_SEMVER_LIBRARY to the absolute path of its bindings/c/build/libnode_semver.a.
 The wheel of a release needs neither these libraries nor a compiler."""
 
 # What the extension and the library call to allocate.
@@ -72,7 +73,7 @@ def build_c_library() -> str:
             before = file.read()
     all_anew = ["-B"] if before not in (None, content) else []
     try:
-        subprocess.run(["make", "-C", C_PACKAGE, *all_anew, "all", "pick"], check=True)
+        subprocess.run(["make", "-C", C_PACKAGE, *all_anew, "all", "pick", "resolve"], check=True)
     except (OSError, subprocess.CalledProcessError) as error:
         raise SetupError(f"the libraries for C are not built: {error}") from error
     with open(stamp, "w") as file:
@@ -94,8 +95,8 @@ def libraries(version: str) -> list[str]:
         found = [build_c_library()]
     else:
         raise missing("NODE_SEMVER_LIBRARY is not set.", version)
-    if all(os.path.basename(path) != PICK for path in found):
-        found.append(os.path.join(os.path.dirname(found[0]), PICK))
+    named_files = [os.path.basename(path) for path in found]
+    found += [os.path.join(os.path.dirname(found[0]), other) for other in OTHERS if other not in named_files]
     for path in found:
         if not os.path.isfile(path):
             raise missing(f"There is no library {os.path.abspath(path)}.", version)
@@ -166,7 +167,11 @@ setup(
     # `license-files` of [tool.setuptools], since it passes over `license_files` here, 66 writes `License: Apache-2.0`, an SPDX
     # expression, and `License-File: LICENSE`. It cannot write `License-Expression`.
     license="Apache-2.0",
-    ext_modules=[extension("node_semver._native", "native"), extension("node_semver._pick", "native/pick")],
+    ext_modules=[
+        extension("node_semver._native", "native"),
+        extension("node_semver._pick", "native/pick"),
+        extension("node_semver._resolve", "native/resolve"),
+    ],
     cmdclass={"build_ext": BuildAnew, "sdist": NamedSources},
     options={
         "bdist_wheel": {"py_limited_api": "cp310"},

@@ -6,9 +6,14 @@ version_solving, which makes all selections:
 - The root asks for `dependencies`, `devDependencies`, `optionalDependencies` and `peerDependencies`, and a version for its
   `peerDependencies`, unless `dependencies` or `optionalDependencies` have the name. Of the root the last of `peerDependencies`,
   `dependencies`, `optionalDependencies` and `devDependencies` counts. A peer that `peerDependenciesMeta` calls optional only limits.
-- The versions of a document are in this order: that of the tag `latest`, if it is not deprecated; what is not deprecated; and the
-  greater version. What is published too late or restricted is not made here; npm_pick's comparison has it.
+- In the flat form a version asks for its `dependencies` and `optionalDependencies` too, of which the latter only limit.
+- The versions of a document are in this order: that of the lock file; that of the tag `latest`, if it is not deprecated and fits the
+  version of Node; what is not deprecated and fits; what fits; what is not deprecated; and the greater version. Where the lowest are
+  asked for, the tag does not count, and the lesser version does. What is published too late or restricted is not made here; npm_pick's
+  comparison has it.
 """
+# See docs/DECISIONS.md, "An optional dependency of a version only limits".
+# See docs/DECISIONS.md, "A name without a document is a name without versions".
 import solving
 from support import programs
 
@@ -59,7 +64,7 @@ def group(r, most):
     return {name: spec(r, name) for name in r.sample(names, r.randint(0, most))}
 
 
-def document(r):
+def document(r, is_flat):
     versions = {}
     for version in r.sample(VERSIONS, r.randint(1, 3)):
         manifest = {}
@@ -67,10 +72,13 @@ def document(r):
             manifest["peerDependencies"] = group(r, 2)
             if r.random() < .4:
                 manifest["peerDependenciesMeta"] = {name: {"optional": True} for name in manifest["peerDependencies"] if r.random() < .7}
-        if r.random() < .1:
-            manifest[r.choice(["dependencies", "optionalDependencies", "devDependencies"])] = group(r, 1)
+        for _ in range(2 if is_flat else 1):
+            if r.random() < (.5 if is_flat else .1):
+                manifest[r.choice(["dependencies", "optionalDependencies", "devDependencies"])] = group(r, 2 if is_flat else 1)
         if r.random() < .15:
             manifest["deprecated"] = "old"
+        if r.random() < .4:
+            manifest["engines"] = {"node": r.choice(["^1", ">=2", "<2", "", "foo bar", 1])}
         versions[version] = manifest
     tags = {"latest": r.choice(sorted(versions) + VERSIONS)}
     if r.random() < .5:
@@ -78,27 +86,37 @@ def document(r):
     return {"dist-tags": tags, "versions": versions}
 
 
-def problem(r):
+def problem(r, is_flat=False):
     manifest = {kind: group(r, 2) for kind in
                 ("dependencies", "devDependencies", "optionalDependencies", "peerDependencies") if r.random() < .6}
     if r.random() < .3 and "peerDependencies" in manifest:
         manifest["peerDependenciesMeta"] = {name: {"optional": True} for name in manifest["peerDependencies"]}
     omits = [kind for kind in ("dev", "optional", "peer") if r.random() < .08]
-    return manifest, {name: document(r) for name in NAMES if r.random() < .93}, omits
+    options = {"flat": True} if is_flat else {}
+    if r.random() < .2:
+        options["lowest"] = True
+    if r.random() < .3:
+        options["node"] = r.choice(VERSIONS)
+    if r.random() < .3:
+        locked = {f"node_modules/{name}": {"version": r.choice(VERSIONS)} for name in [*NAMES, "alias"] if r.random() < .7}
+        nested = {f"node_modules/x/node_modules/{name}": {"version": r.choice(VERSIONS)} for name in NAMES}
+        options["lock"] = {"lockfileVersion": 3, "packages": {**locked, **nested}}
+    return manifest, {name: document(r, is_flat) for name in NAMES if r.random() < .93}, omits, options
 
 
 # ---- the model
 
-def asks(manifest, is_root, omits):
+def asks(manifest, is_root, omits, is_flat):
     """What is asked, by name: the spec, and whether the name is needed."""
     found = {}
     for kind, omitted in (("peerDependencies", "peer"), ("dependencies", None), ("optionalDependencies", "optional"),
                           *([("devDependencies", "dev")] if is_root else [])):
         for name, text in manifest.get(kind, {}).items():
             optional = kind == "peerDependencies" and bool(manifest.get("peerDependenciesMeta", {}).get(name, {}).get("optional"))
+            optional = optional or kind == "optionalDependencies" and not is_root
             found[name] = (text, not optional, kind == "peerDependencies", omitted)
     return [(name, text, needed) for name, (text, needed, is_peer, omitted) in sorted(found.items(), key=lambda one: one[0].encode())
-            if omitted not in omits and (is_root or is_peer)]
+            if omitted not in omits and (is_root or is_flat or is_peer)]
 
 
 def registered(name, text):
@@ -111,45 +129,70 @@ def registered(name, text):
     return name, text.strip() or "*"
 
 
-def preferred(document):
-    versions, latest = document["versions"], document["dist-tags"]["latest"]
-    deprecated = {version: bool(manifest.get("deprecated")) for version, manifest in versions.items()}
-    rank = lambda version: (version == latest and not deprecated[version], not deprecated[version], order(version))
-    return sorted(versions, key=rank, reverse=True)
+def fits_node(manifest, options):
+    """Whether the version of Node fits; prereleases count as other versions do."""
+    asked = manifest.get("engines", {}).get("node")
+    if not asked or "node" not in options:
+        return True
+    major = order(options["node"])[0]
+    return {"^1": major == 1, ">=2": order(options["node"]) >= order("2.0.0"), "<2": order(options["node"]) < order("2.0.0")}.get(asked, False)
 
 
-def allowed(document, version, text):
+def locked_first(versions, name, options):
+    """The versions, the one that the lock file has for the name first."""
+    locked = options.get("lock", {"packages": {}})["packages"].get(f"node_modules/{name}", {}).get("version")
+    return sorted(versions, key=lambda version: version != locked)
+
+
+def preferred(document, options):
+    versions = document["versions"]
+    lasting = {version: not manifest.get("deprecated") for version, manifest in versions.items()}
+    fits = {version: fits_node(manifest, options) for version, manifest in versions.items()}
+    rank = lambda version: (lasting[version] and fits[version], fits[version], lasting[version])
+    ascending = sorted(versions, key=order, reverse=not options.get("lowest"))
+    by_rank = sorted(ascending, key=rank, reverse=True)
+    if options.get("lowest"):
+        return by_rank
+    return sorted(by_rank, key=lambda version: not is_default(document, version, options))
+
+
+def is_default(document, version, options):
+    manifest = document["versions"][version]
+    return document["dist-tags"]["latest"] == version and not manifest.get("deprecated") and fits_node(manifest, options)
+
+
+def allowed(document, version, text, options):
     tags = document["dist-tags"]
-    is_default = tags["latest"] == version and not document["versions"][version].get("deprecated")
     if text in ("next", "latest", "none"):
         return tags.get(text) == version
-    return satisfies(version, text) or (text == "*" and is_default)
+    return satisfies(version, text) or (text == "*" and is_default(document, version, options))
 
 
 def numbered(problem):
     """The problem by numbers, and the names, the versions and the asks of the root."""
-    manifest, documents, omits = problem
-    root = [ask for ask in asks(manifest, True, omits) if registered(*ask[:2])]
+    manifest, documents, omits, options = problem
+    is_flat = options.get("flat", False)
+    root = [ask for ask in asks(manifest, True, omits, is_flat) if registered(*ask[:2])]
     places, queue = {}, list(root)
     while queue:
         name, text, _ = queue.pop(0)
         package = registered(name, text)[0]
         if name in places:
             continue
-        places[name] = (package, preferred(documents[package]) if package in documents else [])
+        places[name] = (package, locked_first(preferred(documents[package], options), name, options) if package in documents else [])
         for version in places[name][1]:
-            queue += [ask for ask in asks(documents[package]["versions"][version], False, omits) if registered(*ask[:2])]
+            queue += [ask for ask in asks(documents[package]["versions"][version], False, omits, is_flat) if registered(*ask[:2])]
     names, ranges = list(places), []
 
     def demand(ask):
         name, text, needed = ask
         asked, text = registered(name, text)
         package, versions = places[name]
-        ranges.append([int(asked == package and allowed(documents[package], version, text)) for version in versions])
+        ranges.append([int(asked == package and allowed(documents[package], version, text, options)) for version in versions])
         return [names.index(name), len(ranges) - 1, needed]
 
-    packages = [[[demand(ask) for ask in asks(documents[package]["versions"][version], False, omits) if registered(*ask[:2])]
-                 for version in versions] for package, versions in places.values()]
+    packages = [[[demand(ask) for ask in asks(documents[package]["versions"][version], False, omits, is_flat)
+                  if registered(*ask[:2])] for version in versions] for package, versions in places.values()]
     return ([demand(ask) for ask in root], packages, ranges), names, [versions for _, versions in places.values()], root
 
 
@@ -179,5 +222,10 @@ def fault(problem, line):
 
 
 def test_is_the_answer_of_the_model(record_property):
-    program = programs.built("npm_resolve_answers")
+    program = programs.built("solving_answers")
     record_property("made", solving.compare(program, problem, fault, 2000, 1))
+
+
+def test_is_the_answer_of_the_model_if_dependencies_count(record_property):
+    program = programs.built("solving_answers")
+    record_property("made", solving.compare(program, lambda r: problem(r, True), fault, 500, 2))

@@ -18,7 +18,7 @@ GROWING = {
 
 
 def program():
-    return programs.built("version_solving_answers")
+    return programs.built("solving_answers")
 
 
 def said_of(case, steps=None):

@@ -11,11 +11,11 @@ import reasons
 import solving
 from support import programs, refused
 
-STORED = os.path.join(programs.crates.CRATES, "version_solving_answers")
+STORED = os.path.join(programs.crates.CRATES, "solving_answers")
 
 
 def test_is_the_answer_of_the_definition(record_property):
-    program = programs.built("version_solving_answers")
+    program = programs.built("solving_answers")
     record_property("made", solving.compare(program, solving.instance, solving.fault_with_reasons, 5000, 1))
 
 
@@ -33,7 +33,7 @@ def late(names, candidates):
 
 
 def lines_of(case):
-    return solving.said_of(programs.built("version_solving_answers"), case)
+    return solving.said_of(programs.built("solving_answers"), case)
 
 
 # A search that reads all demands in each step would not end.
@@ -60,7 +60,7 @@ def test_wrong_reasons_are_found(old, new):
 
 def is_proof(root, lines, case=reasons.PLUGIN):
     """What the program says of lines."""
-    return solving.said_of(programs.built("version_solving_answers"), [root, *case[1:], None, reasons.given(lines)])[0]
+    return solving.said_of(programs.built("solving_answers"), [root, *case[1:], None, reasons.given(lines)])[0]
 
 
 def changed(old, new):
@@ -120,7 +120,7 @@ def doubled(names, range_):
 
 
 @pytest.mark.parametrize("range_, steps, wanted", [
-    (1, 1000, "selected" + "".join(f" {name}=1" for name in range(60))),
+    (1, 1000, "selected" + "".join(f" {name}=1" for name in (0, 59, *range(1, 59)))),
     (3, 1000, "none 59:3"),
     (1, 0, "undecided"),
     (1, 100, "undecided"),
@@ -152,7 +152,7 @@ def test_demands_that_cannot_be_met_together_are_blamed(root, blamed):
 
 def test_refused_requests_end_the_stored_run():
     """Each request of the stored run is refused, alone and with all later ones: it writes a beginning of its lines, and ends with status 2."""
-    program = programs.built("version_solving_answers")
+    program = programs.built("solving_answers")
     with open(os.path.join(STORED, "stdin")) as given, open(os.path.join(STORED, "stdout")) as file:
         given, lines = given.read(), file.read()
     whole, requests = refused.run([program], given)

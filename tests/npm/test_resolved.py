@@ -9,9 +9,8 @@ import os
 import random
 import subprocess
 import tempfile
-import time
 
-from support import made as making, programs
+from support import made as making, programs, registry
 
 MANIFESTS = 20
 PLUGINS = ["a", "b", "c", "d", "e"]
@@ -41,24 +40,16 @@ def manifest(r):
     return {"name": "project", "version": "1.0.0", "dependencies": wanted}
 
 
-def put(path, value):
-    with open(path, "w") as out:
-        json.dump(value, out)
-
-
 def npm(room, manifest, address):
     """The status of npm's install of a manifest, and what it says."""
     folder = tempfile.mkdtemp(dir=room)
-    put(os.path.join(folder, "package.json"), manifest)
-    words = ["npm", "install", "--package-lock-only", "--strict-peer-deps", "--no-audit", "--no-fund", "--ignore-scripts",
-             "--no-update-notifier", f"--registry={address}", f"--cache={room}/cache", f"--userconfig={room}/npmrc"]
-    done = subprocess.run(words, cwd=folder, env=programs.environment(), stdin=subprocess.DEVNULL, capture_output=True, encoding="utf-8")
-    return done.returncode, done.stderr
+    registry.put(os.path.join(folder, "package.json"), manifest)
+    return registry.npm(room, folder, address, "install", "--package-lock-only", "--strict-peer-deps")
 
 
 def fault(room, manifest, address):
     """Whether versions fit together for a manifest, and what is wrong with that."""
-    put(os.path.join(room, "package.json"), manifest)
+    registry.put(os.path.join(room, "package.json"), manifest)
     words = [programs.built("npm_resolve"), "--manifest", "package.json", "--packuments", "mirror", "--format", "json"]
     done = subprocess.run(words, cwd=room, stdin=subprocess.DEVNULL, capture_output=True, encoding="utf-8")
     if done.returncode not in (0, 1) or done.stderr:
@@ -72,35 +63,16 @@ def fault(room, manifest, address):
     return False, None if status and "ERESOLVE" in told else f"npm ends with status {status}: {told}"
 
 
-def served(room, packages):
-    """The registry, and its address."""
-    put(os.path.join(room, "packages.json"), packages)
-    at, script = os.path.join(room, "address"), os.path.join(programs.ROOT, ".ci", "npm_registry.js")
-    registry = subprocess.Popen(["node", script, at, os.path.join(room, "packages.json")])
-    for _ in range(600):
-        if os.path.exists(at) and os.path.getsize(at):
-            with open(at, encoding="utf-8") as file:
-                return registry, file.read()
-        time.sleep(0.1)
-    registry.terminate()
-    raise TimeoutError("the registry did not start")
-
-
 def test_fits_where_npm_installs(record_property, tmp_path):
     r, room = random.Random(5 + making.SEED), str(tmp_path)
     packages = {"core": {"dist-tags": {"latest": "3.0.0"}, "versions": {version: {} for version in CORES}},
                 **{name: plugin(r, name) for name in PLUGINS}}
     os.mkdir(os.path.join(room, "mirror"))
-    open(os.path.join(room, "npmrc"), "w").close()
     for name, document in packages.items():
-        put(os.path.join(room, "mirror", f"{name}.json"), document)
-    registry, address = served(room, packages)
-    try:
+        registry.put(os.path.join(room, "mirror", f"{name}.json"), document)
+    with registry.served(room, packages) as address:
         manifests = [manifest(r) for _ in range(MANIFESTS * making.TIMES)]
         found = [fault(room, one, address) for one in manifests]
-    finally:
-        registry.terminate()
-        registry.wait()
     wrong = [f"{json.dumps(one['dependencies'])}: {said}" for one, (_, said) in zip(manifests, found) if said]
     assert not wrong, "\n".join(wrong)
     fits = sum(fit for fit, _ in found)

@@ -63,12 +63,12 @@ RANGES = list(of_ranges())
 def test_ranges_that_npm_reads_otherwise(rule, text, version, options, npms, here):
     words = [{"loose": "loose", "includePrerelease": "prereleases"}[option] for option in options]
     if version:
-        assert npm("satisfies", version, text, options) == npms.startswith("admitted")
         found = calls.call("npm_semver::parse_range, satisfies", text, " ".join(words), version)
         assert found == ("true" if here.startswith("admitted") else "false")
+        assert npm("satisfies", version, text, options) == npms.startswith("admitted")
     else:
-        assert is_reading(npm("Range", text, options), npms, lambda it: npm("Range", it, options))
         assert is_reading(calls.npm_range_of(text, *words), here, lambda it: calls.npm_range_of(it, *words))
+        assert is_reading(npm("Range", text, options), npms, lambda it: npm("Range", it, options))
 
 
 def test_each_row_of_ranges_is_run():
@@ -100,13 +100,13 @@ INCREMENTS = list(of_increments())
 
 @pytest.mark.parametrize("version, level, identifier, no_base, npms, here", INCREMENTS, ids=[f"{it[0]} {it[1]}" for it in INCREMENTS])
 def test_increments(version, level, identifier, no_base, npms, here):
+    # (an identifier of digits is a number, which the library is told)
+    word = f"={identifier}" if identifier.isdigit() else identifier
+    assert calls.call("npm_semver::inc", version, level, word, "none" if no_base else "0") == ERRORS.get(here, here)
     assert npm("inc", version, level, (), *([identifier, False] if no_base else [identifier] if identifier else [])) == npms
     words = ["--inc", level, *(["--preid", identifier] if identifier else []), "-n", "false" if no_base else "0", version]
     ran = subprocess.run([programs.built("semver"), *words], stdin=subprocess.DEVNULL, capture_output=True, encoding="utf-8")
     assert ran.stdout == f"{'null' if here in ERRORS else here}\n"
-    # (an identifier of digits is a number, which the library is told)
-    word = f"={identifier}" if identifier.isdigit() else identifier
-    assert calls.call("npm_semver::inc", version, level, word, "none" if no_base else "0") == ERRORS.get(here, here)
 
 
 def of_coerced():
@@ -123,13 +123,13 @@ COERCED = list(of_coerced())
 
 @pytest.mark.parametrize("call, text, options, npms, here", COERCED, ids=[f"{it[0]}: {it[1][:40]}" for it in COERCED])
 def test_coerced_texts(call, text, options, npms, here):
+    wanted = None if "none" in here else pages.quoted(here)[0]
+    assert calls.result(f"npm_semver::{call}", text, *["rtl"] * ("rtl" in options)) == wanted
     found = npm("coerce", text, options)
     if " times " in npms:
         assert found.split("+")[1] == text_of(npms)
     else:
         assert found == (None if npms.startswith("none") else pages.quoted(npms)[0])
-    wanted = None if "none" in here else pages.quoted(here)[0]
-    assert calls.result(f"npm_semver::{call}", text, *["rtl"] * ("rtl" in options)) == wanted
 
 
 # ---- the command semver
@@ -193,10 +193,10 @@ def in_library(call):
 def test_calls_of_the_package_for_node(what, call, npms, here):
     value = lambda cell: json.loads(pages.quoted(cell)[0].replace("'", '"'))
     (call,) = pages.quoted(call)
-    assert npm(call) == value(npms)
     found = in_library(call)
     # (no program compares builds: the tests of the package do)
     assert found == value(here) or found is NotImplemented and call.startswith("compareBuild")
+    assert npm(call) == value(npms)
 
 
 # ---- rules that the comparisons know

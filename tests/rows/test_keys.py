@@ -91,12 +91,12 @@ def test_a_beginning_of_a_key_is_refused(end):
 
 @pytest.mark.parametrize("first", range(249, 256))
 def test_a_number_of_more_than_eight_bytes_is_refused(first):
-    assert is_read([first, *9 * [1], 2, 3, 255]) == is_read([1, first, *9 * [1], 3, 255]) == "nothing"
+    assert [is_read([first, *9 * [1], 2, 3, 255]), is_read([1, first, *9 * [1], 3, 255])] == 2 * ["nothing"]
 
 
 @pytest.mark.parametrize("mark", range(3, 255))
 def test_another_mark_of_an_identifier_is_refused(mark):
-    assert is_read([1, 2, 3, mark, 97, 0, 0]) == is_read([1, 2, 3, 1, 4, mark, 97, 0, 0]) == "nothing"
+    assert [is_read([1, 2, 3, mark, 97, 0, 0]), is_read([1, 2, 3, 1, 4, mark, 97, 0, 0])] == 2 * ["nothing"]
 
 
 # ---- intervals
@@ -121,12 +121,13 @@ def intervals(text):
 @pytest.mark.parametrize("call", CALLS)
 @pytest.mark.parametrize("text", RANGES)
 def test_intervals_hold_what_the_range_admits(text, call):
+    keys = [key_bytes(answers.ask("semver_answers", "semver_keys::version_key", version)) for version in TRIED]
+    admitted = [answers.ask("semver_answers", call, text, version) for version in TRIED]
     held = list(intervals(answers.ask("semver_answers", CALLS[call], text)))
-    for version in TRIED:
-        found = key_bytes(answers.ask("semver_answers", "semver_keys::version_key", version))
+    for version, found, is_admitted in zip(TRIED, keys, admitted, strict=True):
         kind = "prereleases" if "-" in version or call == "Range::contains" else "releases"
         is_held = any(it == kind and lower <= found < upper for it, lower, upper in held)
-        assert answers.ask("semver_answers", call, text, version) == str(is_held).lower(), version
+        assert is_admitted == str(is_held).lower(), version
 
 
 def test_many_sets_have_many_intervals():

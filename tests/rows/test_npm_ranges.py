@@ -25,8 +25,8 @@ ASKED = [row for row in of_call("npm_semver::parse_range, satisfies") if row[1] 
 
 @pytest.mark.parametrize("text, options, wanted", ASKED, ids=names(ASKED))
 def test_is_read_alike_in_loose_form(text, options, wanted):
-    for version, answer in wanted:
-        assert answers.ask("semver_answers", "npm_semver::parse_range, satisfies", text, ADMITTING[options], *version) == answer
+    call = "npm_semver::parse_range, satisfies"
+    assert [(version, answers.ask("semver_answers", call, text, ADMITTING[options], *version)) for version, _ in wanted] == wanted
 
 
 REFUSED = of_call("npm_semver::parse_range")

@@ -6,6 +6,12 @@ import pytest
 
 from support import answers, call_rows, counts, documents, escapes, pages, programs, rows, shared_texts
 
+@pytest.fixture(autouse=True)
+def no_program(monkeypatch):
+    """The rows of this file run no program that has to be built."""
+    monkeypatch.setattr(programs, "built", lambda name: "/bin/true")
+
+
 ROW = """# a name
 @ f
 | x
@@ -21,7 +27,7 @@ def told(tmp_path, text):
     path = tmp_path / "made.rows"
     path.write_text(text)
     (case,) = rows.read(path)
-    lines = rows.fault(case, "semver")
+    lines = rows.fault(case, "made")
     for folder in re.findall(r"cd (\S+);", "\n".join(lines)):
         shutil.rmtree(folder)
     return "\n".join(lines)
@@ -122,7 +128,8 @@ def test_a_program_that_writes_too_few_answers_is_told(tmp_path, monkeypatch):
 
 
 @pytest.mark.parametrize("cell, text", [("", ""), ("a b", "a b"), (r"\t\n\r\\", "\t\n\r\\"), (r"\u{161}\u{0}", "\u0161\0"), (r"{\{3*ab}}", "{ababab}"),
-                                        (r"\{2*\#.\@.\$ }1", "0.1.2 1.2.1 1"), (r"\{2*\n\u{7d}}", "\n}\n}"), (r"\{0*a}", "")])
+                                        (r"\{2*\#.\@.\$ }1", "0.1.2 1.2.1 1"), (r"\{2*\n\u{7d}}", "\n}\n}"), (r"\{0*a}", ""), (r"\{3*a\,, }", "a, a, a"),
+                                        (r"\{2*\@\+-\$\+\+\,;}", "2-4;3-3"), (r"\{1*a\,b}\{0*a\,b}", "a")])
 def test_cells_are_read(cell, text):
     assert escapes.read(cell) == text
 
@@ -235,7 +242,7 @@ def test_a_paragraph_with_values_has_a_case_for_each(tmp_path):
     path = tmp_path / "made.rows"
     path.write_text(TABLE)
     assert [(case.line, case.name, case.output, case.status) for case in rows.read(path)] == [(5, "one", "a\n", 0), (8, "other", "b\n", 4)]
-    assert all(rows.fault(case, "semver") == [] for case in rows.read(path))
+    assert all(rows.fault(case, "made") == [] for case in rows.read(path))
 
 
 @pytest.mark.parametrize("old, new", [("+ b\n+ 4\n", "+ b\n"), ("* other", "$ other")])

@@ -1,20 +1,50 @@
 """Calls of the libraries, by programs that read a call a line, a JSON array of its name and its arguments, and write its answer, a JSON
-string a line. A program runs until the tests end, and each process of pytest has its own."""
+string a line. A program runs until the tests end, and each process of pytest has its own.
+
+Where a program is not built and nothing is to be proved, the answers are those that `./check` keeps of a run without a proof:
+`asked.py` of .ci/shared says how."""
 import atexit
 import functools
 import json
+import os
 import shlex
 import subprocess
 import threading
 
 from support import programs
-
+import asked
 
 SECONDS = 120  # A call that takes longer is ended.
 
 
 class Ended(Exception):
     """A program ended in place of an answer."""
+
+
+@functools.cache
+def kept_answers(program):
+    """The answers that are kept of a program that is not built, or None if it can be run."""
+    try:
+        programs.built(program)
+    except programs.NotBuilt:
+        if programs.is_proving() or os.environ.get("DENIMSCREE_PROGRAMS"):
+            raise
+        return asked.known(program)
+    return None
+
+
+def kept_answer(program, line):
+    """The answer to a line that is kept. Where lines are gathered, one without an answer is noted, and its answer is empty."""
+    found, gathered, is_long = kept_answers(program).get(line), os.environ.get("DENIMSCREE_ASKED"), len(line) > asked.LONGEST
+    if found is not None:
+        return json.loads(found)
+    if not gathered:
+        why = f"it is asked no line of more than {asked.LONGEST} bytes" if is_long else "it has not answered this line"
+        raise programs.NotBuilt(f"{program} is not built of these sources: {why}: ./check --prove {program}")
+    if not is_long:
+        with open(gathered, "a", encoding="utf-8") as file:
+            file.write(json.dumps([program, line]) + "\n")
+    return ""
 
 
 @functools.cache
@@ -36,11 +66,14 @@ def line_of(call, *arguments):
 
 def alone(program, call, *arguments):
     """The words of a shell that ask one call."""
-    return f"printf '%s\\n' {shlex.quote(line_of(call, *arguments))} | {programs.built(program)}"
+    command = programs.built(program) if kept_answers(program) is None else f"(cd {programs.folder(program)}; rt try)"
+    return f"printf '%s\\n' {shlex.quote(line_of(call, *arguments))} | {command}"
 
 
 def ask(program, call, *arguments):
     """The answer of a call. A program that has ended is started anew for the next one."""
+    if kept_answers(program) is not None:
+        return kept_answer(program, line_of(call, *arguments))
     ran = running(program)
     line = answer_line(ran, line_of(call, *arguments).encode() + b"\n")
     if not line.endswith(b"\n"):
@@ -65,6 +98,8 @@ def answer_line(ran, line):
 
 def ask_all(program, calls):
     """The answers of calls, each a list of a name and arguments, in one run of a program: for many made cases."""
+    if kept_answers(program) is not None:
+        return [kept_answer(program, line_of(*call)) for call in calls]
     given = "".join(f"{line_of(*call)}\n" for call in calls)
     ran = subprocess.run([programs.built(program)], input=given.encode(), capture_output=True)
     lines = ran.stdout.split(b"\n")[:-1]

@@ -34,17 +34,25 @@ class Case:
             if got != wanted:
                 yield from (f"    {what}: {shown(text)}" for what, text in (*(("of", it) for it in more), ("wanted", wanted), ("got", got)))
                 yield "    the call alone:"
-                yield f"        {shown(answers.alone(self.program, self.call, *self.arguments, *more), 2000)}"
+                yield f"        {cut(answers.alone(self.program, self.call, *self.arguments, *more), 2000)}"
 
 
-def shown(text, longest=LONGEST):
-    text = escapes.written(text)
+def shown(text):
+    return cut(escapes.written(text), LONGEST)
+
+
+def cut(text, longest):
     return text if len(text) <= longest else f"{text[:longest]}.. ({len(text)} characters)"
 
 
 def read(path):
-    """The cases of a file. The first line names the program, and a line `# call` the columns of the rows below it."""
-    program, columns, cases = "", [], []
+    """The cases of a file."""
+    return [case_of(*row) for row in rows_of(path)]
+
+
+def rows_of(path):
+    """The rows of a file, with what `case_of` needs. The first line names the program, and a line `# call` the columns of the rows below it."""
+    program, columns = "", []
     with open(path, encoding="utf-8", newline="\n") as file:
         lines = file.read().split("\n")
     for number, line in enumerate(lines, 1):
@@ -54,8 +62,7 @@ def read(path):
         elif line.startswith("#"):
             program = program or line[2:].partition(":")[0]
         elif line:
-            cases.append(case_of(place, number, program, columns, line.split("\t")))
-    return cases
+            yield place, number, program, columns, line.split("\t")
 
 
 def case_of(place, number, program, columns, cells):

@@ -1,9 +1,10 @@
 r"""The cells of `.tsv` files. A backslash begins what a cell cannot have as it is: `\t \n \r \\ \u{e9}`, and `\{3*ab}`, which is short
 for `ababab`. In what is repeated `\#` is 0 at first, then 1 and so on, `\@` is one more than that, and `\$` is the number of times,
-then one less each time."""
+then one less each time; a `\+` after one of them adds one. What follows a `\,` stands only between: `\{3*a\,, }` is `a, a, a`."""
 import re
 
 PLAIN = {"t": "\t", "n": "\n", "r": "\r", "\\": "\\"}
+BETWEEN = object()  # The piece that stands for `\,`.
 NUMBERS = {"#": lambda step, times: step, "@": lambda step, times: step + 1, "$": lambda step, times: times - step}
 
 
@@ -42,8 +43,11 @@ def escaped(cell, at, end):
     sign = cell[at:at + 1]
     if sign in PLAIN and sign:
         return PLAIN[sign], at + 1
+    if sign == "," and end:
+        return BETWEEN, at + 1
     if sign in NUMBERS and sign and end:
-        return (lambda step, times: str(NUMBERS[sign](step, times))), at + 1
+        more = re.compile(r"(?:\\\+)*").match(cell, at + 1)
+        return (lambda step, times: str(NUMBERS[sign](step, times) + len(more[0]) // 2)), more.end()
     character = re.compile(r"u\{([0-9a-fA-F]+)\}").match(cell, at)
     if character:
         return chr(int(character[1], 16)), character.end()
@@ -53,8 +57,16 @@ def escaped(cell, at, end):
     piece, rest = pieces_of(cell, many.end(), "}")
     if cell[rest - 1:rest] != "}":
         raise Malformed(f"nothing ends what is repeated: {cell}")
-    times = int(many[1])
-    return "".join(repeated(piece, step, times) for step in range(times)), rest
+    return joined(piece, int(many[1])), rest
+
+
+def joined(pieces, times):
+    """What is repeated so many times, with what follows `\\,` between."""
+    at = pieces.index(BETWEEN) if BETWEEN in pieces else len(pieces)
+    whole, last = pieces[:at] + pieces[at + 1:], pieces[:at]
+    if all(isinstance(piece, str) for piece in whole):
+        return "".join(whole) * (times - 1) + "".join(last) * (times > 0)
+    return "".join(repeated(whole if step < times - 1 else last, step, times) for step in range(times))
 
 
 def written(text):

@@ -4,6 +4,7 @@ import fcntl
 import functools
 import os
 import shutil
+import subprocess
 import sys
 import tempfile
 
@@ -43,12 +44,33 @@ def sought(name):
         return None, str(error)
 
 
+def is_proving():
+    """Whether a program that is not built may be proved and built."""
+    return os.environ.get("DENIMSCREE_PROVES") != "no"
+
+
+def folder(name):
+    """The folder of the crate of a program."""
+    return os.path.join(crates.CRATES, CRATES.get(name, name))
+
+
 def built(name):
     """The path of a program. It is one in the folder DENIMSCREE_PROGRAMS, if that is set. Else it is proved and built here, if it
     was not built of the sources as they stand."""
     path, why = sought(name)
     if path is None:
         raise NotBuilt(why)
+    return path
+
+
+def library(crate):
+    """The library for other languages of a crate. It is proved and built here as a program is."""
+    path = os.path.join(crates.CRATES, crate, "out", f"lib{crate}.a")
+    if not is_proving() and crates.is_built(path, *crates.below(crate)).returncode:
+        raise NotBuilt(f"{crate} is not built of these sources: ./check --prove {crate}")
+    with open(os.path.join(crates.CRATES, crate, "src", "lib.rt")) as held:
+        fcntl.flock(held, fcntl.LOCK_EX)
+        subprocess.run([os.path.join(crates.CI, "packages", "library"), crate], check=True)
     return path
 
 

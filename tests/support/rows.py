@@ -119,12 +119,18 @@ def beside(what, wanted, got):
     return [f"    {what}: wanted", *indented(wanted.removesuffix("\n")), f"    {what}: got", *indented(got.removesuffix("\n"))]
 
 
+def others(script, program):
+    """The other programs that a script begins commands with."""
+    names = sorted(it.name for it in os.scandir(os.path.join(programs.TESTS, "programs")) if it.is_dir())
+    return [name for name in names if name != program and re.search(rf"(?:^|[|&;]\s*){re.escape(name)} ", script, re.M)]
+
+
 def fault(case, program):
     """What is wrong with the run of a case, in lines, or an empty list. The folder of a run that is wrong stays."""
     folder = tempfile.mkdtemp(prefix="denimscree-row-")
     put_files(case, folder)
     script = "\n".join(case.commands)
-    environment = programs.environment(program)
+    environment = programs.environment(program, *others(script, program))
     try:
         ran = subprocess.run(["bash", "-c", script], cwd=folder, env=environment, stdin=subprocess.DEVNULL, capture_output=True,
                              timeout=SECONDS)

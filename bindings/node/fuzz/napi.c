@@ -177,6 +177,17 @@ napi_status napi_get_value_uint32(napi_env env, napi_value value, uint32_t *resu
     return napi_ok;
 }
 
+/* As JavaScript makes a whole number of a number: the nearest one of those that fit, or 0 for what is none. */
+napi_status napi_get_value_int64(napi_env env, napi_value value, int64_t *result) {
+    (void)env;
+    if (value->kind != NUMBER) {
+        return napi_number_expected;
+    }
+    double whole = isfinite(value->number) ? trunc(value->number) : 0;
+    *result = whole >= 9223372036854775808.0 ? INT64_MAX : whole < -9223372036854775808.0 ? INT64_MIN : (int64_t)whole;
+    return napi_ok;
+}
+
 /* Writes a character in UTF-8, and returns its length. Half of a pair becomes U+FFFD. */
 static size_t put_character(napi_value value, size_t *at, char *bytes) {
     uint32_t unit = value->units[(*at)++];

@@ -26,7 +26,7 @@ function unloaded(errors, module) {
         { cause: error }), { code: error.code });
 }
 
-// The native part of this name, which the module of the package needs: '' or '/pick'.
+// The native part of this name, which the module of the package needs: '', '/pick' or '/resolve'.
 function load(name, module) {
     const errors = [];
     for (const folder of FOLDERS) {

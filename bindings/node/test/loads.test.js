@@ -79,7 +79,7 @@ function said(folder, ...options) {
 function withCopy(call) {
     const room = fs.mkdtempSync(path.join(os.tmpdir(), 'loads-'));
     try {
-        ['index.js', 'pick.js', 'internal', 'package.json'].forEach((name) =>
+        ['index.js', 'pick.js', 'resolve.js', 'internal', 'package.json'].forEach((name) =>
             fs.cpSync(path.join(root, name), path.join(room, name), { recursive: true }));
         call(room);
     } finally {
@@ -93,7 +93,7 @@ const native = (name) => Object.keys(require.cache).find((file) => file.endsWith
 // Puts native parts into a folder of a copy: those that are there, or files that are none.
 function put(room, folder, areLoadable) {
     fs.mkdirSync(path.join(room, folder), { recursive: true });
-    for (const name of ['node_semver.node', 'npm_pick.node']) {
+    for (const name of ['node_semver.node', 'npm_pick.node', 'npm_resolve.node']) {
         const file = path.join(room, folder, name);
         if (areLoadable) {
             fs.copyFileSync(native(name), file);
@@ -104,7 +104,7 @@ function put(room, folder, areLoadable) {
 }
 
 test('a package that was installed without its scripts says what to do', () => withCopy((room) => {
-    for (const module of ['', '/pick.js']) {
+    for (const module of ['', '/pick.js', '/resolve.js']) {
         const text = said(room + module);
         assert.ok(text.includes(`npm rebuild ${name}`) && text.includes('--ignore-scripts'), text);
         assert.ok(text.includes("code: 'MODULE_NOT_FOUND'"), text);
@@ -120,7 +120,7 @@ const FOREIGN = {
 test('a machine that the package is not for is named', () => withCopy((room) => {
     for (const [machine, script] of Object.entries(FOREIGN)) {
         fs.writeFileSync(path.join(room, 'foreign.js'), script);
-        for (const module of ['', '/pick.js']) {
+        for (const module of ['', '/pick.js', '/resolve.js']) {
             const text = said(room + module, '--require', path.join(room, 'foreign.js'));
             assert.ok(text.includes(`is not loaded. It is for linux on x64 with glibc, and this Node is for ${machine}. (`), text);
             assert.ok(text.includes("code: 'MODULE_NOT_FOUND'") && !text.includes('npm rebuild'), text);
@@ -132,18 +132,20 @@ const prebuilt = `prebuilt/${process.platform}-${process.arch}`;
 const uses = (room) => spawnSync(process.execPath, ['-e', `
     const semver = require(${JSON.stringify(room)});
     const pick = require(${JSON.stringify(`${room}/pick.js`)});
-    console.log(semver.satisfies('1.9.0', '^1.2'), pick({ versions: { '1.9.0': { version: '1.9.0' } } }, '^1').version);
+    const resolve = require(${JSON.stringify(`${room}/resolve.js`)});
+    console.log(semver.satisfies('1.9.0', '^1.2'), pick({ versions: { '1.9.0': { version: '1.9.0' } } }, '^1').version,
+        resolve({}, {}).outcome);
 `], { encoding: 'utf8' }).stdout;
 
 test('native parts in `prebuilt` are found without an install script', () => {
     withCopy((room) => {
         put(room, prebuilt, true);
-        assert.strictEqual(uses(room), 'true 1.9.0\n');
+        assert.strictEqual(uses(room), 'true 1.9.0 selected\n');
     });
     withCopy((room) => {
         put(room, prebuilt, true);
         put(room, 'build/Release', false);
-        assert.strictEqual(uses(room), 'true 1.9.0\n');
+        assert.strictEqual(uses(room), 'true 1.9.0 selected\n');
     });
     withCopy((room) => {
         put(room, prebuilt, false);
@@ -158,15 +160,16 @@ test('each name can be imported by a module', () => {
         import { ${names.join(', ')} } from '${name}';
         import semver, * as all from '${name}';
         import pick from '${name}/pick';
+        import resolve from '${name}/resolve';
         import minVersion_ from '${name}/ranges/min-version.js';
         import { ${names.map((name) => `${name} as ${name}_of_preload`).join(', ')} } from '${name}/preload';
         import * as classes from '${name}/classes';
         const names = { ${names.join(', ')} };
         console.log(Object.keys(names).every((name) => names[name] === semver[name] && all[name] === semver[name]), satisfies('1.9.0', '^1.2'),
-            typeof pick, minVersion_ === minVersion, parse_of_preload === parse, ['SemVer', 'Range', 'Comparator'].every((name) =>
+            typeof pick, typeof resolve, minVersion_ === minVersion, parse_of_preload === parse, ['SemVer', 'Range', 'Comparator'].every((name) =>
                 classes[name] === semver[name]));
     `], { cwd: root, encoding: 'utf8' });
-    assert.strictEqual(stdout, 'true true function true true true\n', stderr);
+    assert.strictEqual(stdout, 'true true function function true true true\n', stderr);
 });
 
 test('each file of a function or a class can be imported by a module', async () => {

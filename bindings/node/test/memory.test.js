@@ -11,6 +11,7 @@ const { test } = require('node:test');
 const { setImmediate: turn } = require('node:timers/promises');
 const semver = require('..');
 const pick = require('../pick.js');
+const resolve = require('../resolve.js');
 const { large } = require('./documents.js');
 
 const CALLS = 200000;
@@ -73,6 +74,7 @@ const slow = {
     'Range, many long ranges': (i) => i % 2 === 0 && new semver.Range(`${LONG} || ^${i}.0.0`).test('1.2.3'),
     'intersect, many sets': (i) => semver.intersect(manySets, `>=1.2.${i}`).test('1.2.3'),
     pick: (i) => pick(document, i % 2 ? '^1' : `<=2.${i}`, { avoid: `>=2.${i}` }),
+    resolve: (i) => resolve({ dependencies: { a: i % 2 ? '^1' : `<=2.${i}` } }, { a: document }),
     minVersion: (i) => semver.minVersion(text(i)),
     'Range.set': (i) => new semver.Range(text(i)).set,
     'subset and intersects': (i) => [semver.subset(text(i), '>=1'), semver.intersects(text(i), '>1')],

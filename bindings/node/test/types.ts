@@ -2,6 +2,7 @@
 // Uses that compile with the types which users of npm's `semver` have, and uses of what is added.
 import semver = require('..');
 import pick = require('../pick');
+import resolve = require('../resolve');
 
 const range = new semver.Range('^1', true);
 const versions: string[] = range.set.flat().map(({ semver: { version } }) => version);
@@ -51,6 +52,15 @@ const marks: Array<boolean | undefined> = [picked._shouldAvoid, picked._outsideD
 const manifest: pick.Manifest & pick.Marks = pick({ versions: null } as pick.Packument, 'next', { defaultTag: 'next', npmVersion: '9.0.0' });
 function codeOf(error: pick.PickError): string | undefined {
     return error.code === 'ETARGET' ? error.type : error.code;
+}
+
+// Versions that fit together.
+const resolution: resolve.Resolution = resolve({ dependencies: { one: '^1' } }, { one: packument, two: null },
+    { before: new Date(0), omit: ['dev', 'peer'], steps: 1000, defaultTag: 'next' });
+const selected: string[] = resolution.outcome === 'selected' ? resolution.packages.map((one) => `${one.name}@${one.version}`) : [];
+const blamed: string[] = resolution.outcome === 'none' ? (resolution.culprits ?? []).map(({ name, spec }) => `${name}@${spec}`) : [];
+function faultOf(error: resolve.ResolveError): string | undefined {
+    return error.code === 'EINVALIDOPTION' ? error.message : error.code;
 }
 
 // Each name, each static one and each field and method of the classes, with its exact type: what may be null is so, and nothing else
@@ -193,6 +203,9 @@ export const ofComparator: Record<keyof OfComparator, true> = {
 
 export const picks: true = is<typeof pick,
     <M extends pick.Manifest>(packument: pick.Packument<M>, wanted?: string | null, opts?: pick.Options) => M & pick.Marks>();
+
+export const resolves: true = is<typeof resolve,
+    (manifest: resolve.Manifest, documents: resolve.Documents, options?: resolve.Options) => resolve.Resolution>();
 
 // The members of the values that calls take and return.
 interface Flags { loose?: boolean | undefined; includePrerelease?: boolean | undefined }

@@ -15,6 +15,7 @@
 
 PyMODINIT_FUNC PyInit__native(void);
 PyMODINIT_FUNC PyInit__pick(void);
+PyMODINIT_FUNC PyInit__resolve(void);
 
 /* Ends the run with the exception, if there is one. */
 static PyObject *must(PyObject *value)
@@ -34,6 +35,7 @@ static PyObject *function(const char *name)
         setenv("PYTHONMALLOC", "malloc", 1);
         PyImport_AppendInittab("node_semver._native", PyInit__native);
         PyImport_AppendInittab("node_semver._pick", PyInit__pick);
+        PyImport_AppendInittab("node_semver._resolve", PyInit__resolve);
         Py_Initialize();
         module = must(PyImport_ImportModule("calls"));
     }

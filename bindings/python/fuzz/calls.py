@@ -23,13 +23,13 @@ class Inside:
 
     @staticmethod
     def find_spec(name: str, path: object = None, target: object = None) -> Optional[importlib.machinery.ModuleSpec]:
-        if name in ("node_semver._native", "node_semver._pick"):
+        if name in ("node_semver._native", "node_semver._pick", "node_semver._resolve"):
             return importlib.util.spec_from_loader(name, importlib.machinery.BuiltinImporter)  # type: ignore[arg-type]
         return None
 
 
 sys.meta_path.insert(0, Inside)
-from node_semver import PickError, Range, Version, pick, satisfies  # noqa: E402
+from node_semver import PickError, Range, Version, pick, resolve, satisfies  # noqa: E402
 
 # What a call may raise. A SystemError is none: the extension raises it where the library returned what it never returns, and
 # Python where a call returned a value and raised, or neither.
@@ -60,7 +60,8 @@ CALLS: Dict[int, Callable[..., Any]] = dict(enumerate([
     lambda one, other, more: one.bump(other, identifier=more), lambda one: one.bump("prerelease", identifier="beta", base=1),
     lambda one, other: one.bump("preminor", base=other), sorted, lambda one, other: pick(one, other),
     lambda one, other, more: pick(one, other, avoid=more, avoid_strict=True),
-    lambda one, other, more: pick(one, other, before=more, node=more),
+    lambda one, other, more: pick(one, other, before=more, node=more), lambda one, other: resolve(one, other),
+    lambda one, other, more: resolve(one, other, before=more, default_tag=more, steps=100),
 ]))  # fmt: skip
 
 

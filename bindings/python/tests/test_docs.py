@@ -8,7 +8,7 @@ import unittest
 from typing import Callable, Dict, Iterator, List, Tuple
 
 import node_semver
-from node_semver import Picked, PickError, Range, SemverError, Version, pick, satisfies
+from node_semver import Picked, PickError, Range, SemverError, Version, pick, resolve, satisfies
 
 README = os.path.join(os.path.dirname(os.path.dirname(os.path.abspath(__file__))), "README.md")
 
@@ -18,6 +18,7 @@ def documented() -> Iterator[Tuple[str, object]]:
     yield "node_semver", node_semver
     yield "satisfies", satisfies
     yield "pick", pick
+    yield "resolve", resolve
     for owner in (Version, Range, SemverError, Picked, PickError):
         yield owner.__name__, owner
     for owner in (Version, Range):

@@ -56,7 +56,7 @@ class Typing(unittest.TestCase):
         self.assertGreater(len(wanted), 20)
 
     def test_the_stubs_are_those_of_the_module(self) -> None:
-        # mypy 1.0 takes an alias of several literals for a Union, which it is not when it runs.
+        # mypy 1.0 takes an alias of several literals for a Union, which it is not when it runs, and knows no metaclass of a TypedDict.
         with tempfile.NamedTemporaryFile("w", suffix=".txt") as file:
             file.write("node_semver.FaultKind\nnode_semver._error.FaultKind\n")
             file.write("node_semver.CutKind\nnode_semver._types.CutKind\n")
@@ -65,6 +65,8 @@ class Typing(unittest.TestCase):
             file.write("node_semver.ReleaseType\nnode_semver._types.ReleaseType\n")
             for name in ("PickCode", "PickFault"):
                 file.write(f"node_semver.{name}\nnode_semver._picking.{name}\n")
+            for name in ("Chosen", "Culprit", "Group", "NoSelection", "Reason", "Selected", "Undecided", "Wish"):
+                file.write(f"node_semver.{name}\nnode_semver._resolving.{name}\n")
             file.flush()
             self.accepts("mypy.stubtest", "node_semver", "--allowlist", file.name, "--ignore-unused-allowlist")
 

@@ -1,8 +1,17 @@
-//! Tests of `node_semver` that only a caller in Rattle can make: a type of its own that is seen as a version, values that
-//! borrow a text, and the example of the README. The tests of all other calls are rows, in `tests/rows`.
+//! Tests that only a caller in Rattle can make: of `node_semver` a type of its own that is seen as a version, values that borrow a text,
+//! and the example of the README; of `semver_cuts` cuts and spans of other types than versions. The tests of all other calls are rows, in
+//! `tests/rows`.
 #![tactic(auto)]
 
+#[cfg(test)]
+mod algebra;
+#[cfg(test)]
+mod cuts;
 #[cfg(test)]
 mod own_type;
 #[cfg(test)]
 mod readme;
+#[cfg(test)]
+mod spans;
+#[cfg(test)]
+mod stepped;

@@ -1,36 +1,70 @@
 -- What the definitions say of small manifests and documents, and of the order of candidates.
-use Rattle.std.proofs.Common.{◌≡◌, ◌∷◌, ◌&&◌, Bool, List, [], None, Ordering, Some, codes, false, not, nat_cmp, refl, true}
-use Rattle.std.specs.Ordering.{bool_cmp, ordering_then}
+use Rattle.std.proofs.Common.{◌≡◌, ◌≤◌, ◌<◌, ◌∙◌, ◌∷◌, Bool, List, [], None, Ordering, Some, ap, codes, false, get_or, length, not, nat_cmp, refl, sym, true, ℕ}
+use Rattle.std.proofs.lemmas.List.Sorted.{ranks_by, sorted_far}
+use Rattle.std.specs.List.Sorted.{IsSorted}
+use Rattle.std.specs.Ordering.{bool_cmp, is_lt, ordering_then}
+use Rattle.std.specs.declared.cmp.Ordering.TheVariants.{Less}
+use Rattle.node_semver.specs.Versions.{version_cmp}
 use Rattle.serde_json.specs.Data.{Data, boolean, member, no_members, object, string}
 use Rattle.npm_pick.specs.Rank.{Rank, rank_cmp}
 use Rattle.npm_candidates.specs.Asks.{asks_on, is_registered}
-use Rattle.npm_candidates.specs.Candidates.{is_tagged}
-use Rattle.npm_candidates.specs.Preference.{version_preference}
+use Rattle.npm_candidates.specs.Candidates.{AreCandidates, is_tagged}
+use Rattle.npm_candidates.specs.Preference.{candidate_order, is_sound, lowest_order, version_preference}
+use Rattle.npm_candidates.specs.Private.Orders.{candidate_total}
 use Rattle.npm_candidates.specs.declared.candidate.Candidate.{Candidate}
 use Rattle.npm_candidates.specs.declared.options.Omits.{Omits}
+use Rattle.npm_candidates.specs.declared.options.Options.{Options}
+use Rattle.npm_candidates.specs.declared.owner.Owner.TheVariants.{Root, Version}
+use Rattle.npm_candidates.specs.declared.owner.Reach.TheVariants.{Dependencies, Peers}
 
 -- ---- the order of candidates
 
--- the rank that a pick gives the version, without versions to avoid, staged versions, and versions of Node and npm
+-- the rank that a pick gives the version, without versions to avoid, staged versions, and versions of npm
 abbrev rank_of : Candidate → Rank
 rank_of c = record {
   is_avoided = false;
   is_restricted = false;
   is_staged = false;
   is_deprecated = c.is_deprecated;
-  fits = true;
+  fits = c.fits;
   version = c.version;
 }
 
-once : (a b : Bool) (v : Ordering) → ordering_then (bool_cmp (not a) (not b)) v
-    ≡ ordering_then (bool_cmp (not a && true) (not b && true)) (ordering_then (bool_cmp (not a) (not b)) v)
-once false false v = refl
-once false true v = refl
-once true false v = refl
-once true true v = refl
-
 pub versions_are_in_the_order_of_their_ranks : (a b : Candidate) → version_preference a b ≡ rank_cmp (rank_of a) (rank_of b)
-versions_are_in_the_order_of_their_ranks a b = once a.is_deprecated b.is_deprecated _
+versions_are_in_the_order_of_their_ranks a b = refl
+
+same : (a : Bool) (v : Ordering) → ordering_then (bool_cmp a a) v ≡ v
+same false v = refl
+same true v = refl
+
+pub the_lower_version_is_first : (a b : Candidate) → a.is_deprecated ≡ b.is_deprecated → a.fits ≡ b.fits
+    → version_cmp a.version b.version ≡ Less → lowest_order a b ≡ Less
+the_lower_version_is_first a b alike fits lower = rw (alike, fits) (same (is_sound b) _ ∙ same b.fits _ ∙ same (not b.is_deprecated) _) ∙ lower
+
+pub what_is_deprecated_is_no_lowest : (a b : Candidate) → a.is_deprecated ≡ false → a.fits ≡ true → b.is_deprecated ≡ true
+    → lowest_order a b ≡ Less
+what_is_deprecated_is_no_lowest a b lasting fits deprecated = rw (lasting, fits, deprecated) refl
+
+pub what_fits_is_before_what_is_not_deprecated : (a b : Candidate) → a.is_default ≡ false → b.is_default ≡ false
+    → a.is_deprecated ≡ true → a.fits ≡ true → b.is_deprecated ≡ false → b.fits ≡ false → candidate_order a b ≡ Less
+what_fits_is_before_what_is_not_deprecated a b no_tag none deprecated fits lasting unfit =
+    rw (no_tag, none, deprecated, fits, lasting, unfit) refl
+
+pub the_version_of_the_tag_is_first : (a b : Candidate) → a.is_default ≡ true → b.is_default ≡ false → candidate_order a b ≡ Less
+the_version_of_the_tag_is_first a b tagged other = rw (tagged, other) refl
+
+-- Of two candidates that the tag does not tell apart, the later one has no higher rank. So the first one that a meaning admits has the highest
+-- rank of those that it admits, unless it is the version of the tag.
+pub a_later_candidate_has_no_higher_rank : (packument : Data) (options : Options) (candidates : List Candidate)
+    → AreCandidates packument options candidates → options.is_lowest ≡ false → (i j : ℕ) (d : Candidate) → i ≤ j → j < length candidates
+    → (get_or candidates i d).is_default ≡ (get_or candidates j d).is_default
+    → is_lt (rank_cmp (rank_of (get_or candidates i d)) (rank_of (get_or candidates j d))) ≡ false
+a_later_candidate_has_no_higher_rank packument options candidates are greatest i j d before inside alike =
+    let sorted : IsSorted candidate_order candidates = rw greatest at are.sorted in
+    let later : is_lt (ordering_then (bool_cmp (get_or candidates i d).is_default (get_or candidates j d).is_default)
+    (version_preference (get_or candidates i d) (get_or candidates j d))) ≡ false =
+    sorted_far (λ x y. is_lt (candidate_order x y)) (ranks_by candidate_total (λ (c : Candidate). c)) candidates sorted i j d before inside in
+    ap is_lt (sym (same (get_or candidates j d).is_default _)) ∙ (rw alike at later)
 
 -- ---- what is asked: `{"dependencies": {"a": "^1"}, "peerDependencies": {"a": "^2", "b": "^3", "c": "^4"},
 -- "peerDependenciesMeta": {"c": {"optional": true}}}`
@@ -45,23 +79,51 @@ manifest = object (member (codes "dependencies") (object (member (codes "a") (st
 abbrev nothing : Omits
 nothing = record { dev = false; optional = false; peer = false }
 
-pub a_dependency_counts_before_a_peer : asks_on manifest true nothing (codes "a")
+pub a_dependency_counts_before_a_peer : asks_on manifest Root nothing (codes "a")
     ≡ record { name = codes "a"; spec = codes "^1"; needed = true } ∷ []
 a_dependency_counts_before_a_peer = refl
 
-pub a_version_asks_for_no_dependency : asks_on manifest false nothing (codes "a") ≡ []
+pub a_version_asks_for_no_dependency : asks_on manifest (Version Peers) nothing (codes "a") ≡ []
 a_version_asks_for_no_dependency = refl
 
-pub a_version_asks_for_its_peer : asks_on manifest false nothing (codes "b")
+pub a_version_asks_for_its_peer : asks_on manifest (Version Peers) nothing (codes "b")
     ≡ record { name = codes "b"; spec = codes "^3"; needed = true } ∷ []
 a_version_asks_for_its_peer = refl
 
-pub an_optional_peer_only_limits : asks_on manifest false nothing (codes "c")
+pub an_optional_peer_only_limits : asks_on manifest (Version Peers) nothing (codes "c")
     ≡ record { name = codes "c"; spec = codes "^4"; needed = false } ∷ []
 an_optional_peer_only_limits = refl
 
-pub peers_can_be_left_out : asks_on manifest false (record { dev = false; optional = false; peer = true }) (codes "b") ≡ []
+pub peers_can_be_left_out : asks_on manifest (Version Peers) (record { dev = false; optional = false; peer = true }) (codes "b") ≡ []
 peers_can_be_left_out = refl
+
+-- ---- what a version asks for whose dependencies count: `{"devDependencies": {"a": "^1"}, "optionalDependencies": {"b": "^2"},
+-- "dependencies": {"b": "^3", "c": "^4"}}`
+
+abbrev bundled : Data
+bundled = object (member (codes "devDependencies") (object (member (codes "a") (string (codes "^1")) no_members))
+    (member (codes "optionalDependencies") (object (member (codes "b") (string (codes "^2")) no_members))
+    (member (codes "dependencies") (object (member (codes "b") (string (codes "^3")) (member (codes "c") (string (codes "^4")) no_members)))
+    no_members)))
+
+pub a_flat_version_asks_for_its_dependency : asks_on bundled (Version Dependencies) nothing (codes "c")
+    ≡ record { name = codes "c"; spec = codes "^4"; needed = true } ∷ []
+a_flat_version_asks_for_its_dependency = refl
+
+pub an_optional_dependency_of_a_version_only_limits : asks_on bundled (Version Dependencies) nothing (codes "b")
+    ≡ record { name = codes "b"; spec = codes "^2"; needed = false } ∷ []
+an_optional_dependency_of_a_version_only_limits = refl
+
+pub a_root_needs_its_optional_dependency : asks_on bundled Root nothing (codes "b")
+    ≡ record { name = codes "b"; spec = codes "^2"; needed = true } ∷ []
+a_root_needs_its_optional_dependency = refl
+
+pub development_of_a_version_never_counts : asks_on bundled (Version Dependencies) nothing (codes "a") ≡ []
+development_of_a_version_never_counts = refl
+
+pub optional_dependencies_are_left_out_everywhere : asks_on bundled (Version Dependencies)
+    (record { dev = false; optional = true; peer = false }) (codes "b") ≡ []
+optional_dependencies_are_left_out_everywhere = refl
 
 pub a_folder_asks_no_registry : is_registered (record { name = codes "a"; spec = codes "file:a"; needed = true }) ≡ false
 a_folder_asks_no_registry = refl

@@ -1,2 +1,3 @@
 pub mod Examples
 mod Allowing
+mod Locking

@@ -7,11 +7,12 @@ ghost use Rattle.npm_candidates.specs.Asks.{AreAllAsks, AreAsks, ask_value, is_r
 
 use crate::Result;
 use crate::options::Omits;
-use named_problems::Ask;
+use crate::owner::Owner;
 use npm_packages::{Asked, asked_of};
 use npm_texts::registry_spec;
 use serde_json::Value;
 use std::alloc::Global;
+use version_solving::Ask;
 
 /// What a manifest asks for, by name.
 #[derive(Drop)]
@@ -22,8 +23,9 @@ pub struct Asks<'v> {
     pub left_out: Vec<Ask<'v>>,
 }
 
-/// Returns what a manifest asks for, in the order of the names' bytes: the manifest of a root its dependencies of all groups, and any
-/// other its peers. A peer that `peerDependenciesMeta` calls optional is not needed.
+/// Returns what a manifest asks for, in the order of the names' bytes: the manifest of a root its dependencies of all groups, and that
+/// of a version its peers or, by `Reach::Dependencies`, its `dependencies` and `optionalDependencies` too. A peer that
+/// `peerDependenciesMeta` calls optional, and an optional dependency of a version, is not needed.
 ///
 /// If groups have the same name, npm's order decides: `devDependencies`, `optionalDependencies`, `dependencies`, `peerDependencies`.
 ///
@@ -38,17 +40,17 @@ pub struct Asks<'v> {
 /// # Examples
 ///
 /// A root with `{"dependencies": {"a": "^1", "b": "file:b"}, "peerDependencies": {"c": "*"}}` asks for `a` by `^1` and for `c` by `*`,
-/// and `b` is left out. Any other manifest with these members asks for `c`.
+/// and `b` is left out. A version with these members asks for `c`, and by `Reach::Dependencies` for `a` too.
 pub fn asks_of<'v>(
     alloc: Global,
     manifest: &'v Value,
-    is_root: bool,
+    owner: Owner,
     omits: Omits,
 ) -> Result<Asks<'v>>
-    ensures { IfOk result (λ found. AreAsks (view manifest.now) is_root omits (map ask_value found.asks.items)
+    ensures { IfOk result (λ found. AreAsks (view manifest.now) owner omits (map ask_value found.asks.items)
         (map ask_value found.left_out.items)) }
 {
-    let all = all_asks(alloc, manifest, is_root, omits)?;
+    let all = all_asks(alloc, manifest, owner, omits)?;
     parted(alloc, &all)
 }
 
@@ -56,15 +58,15 @@ pub fn asks_of<'v>(
 fn all_asks<'v>(
     alloc: Global,
     manifest: &'v Value,
-    is_root: bool,
+    owner: Owner,
     omits: Omits,
 ) -> Result<Vec<Ask<'v>>>
-    ensures { IfOk result (λ asks. AreAllAsks (view manifest.now) is_root omits (map ask_value asks.items)) }
+    ensures { IfOk result (λ asks. AreAllAsks (view manifest.now) owner omits (map ask_value asks.items)) }
 {
-    let all = asked_of(alloc, manifest, !is_root)?;
+    let all = asked_of(alloc, manifest, !owner.is_root())?;
     let mut asks = Vec::new(alloc);
     for (name, asked) in all.iter() {
-        add_ask(&mut asks, is_root, omits, *name, *asked)?;
+        add_ask(&mut asks, owner, omits, *name, *asked)?;
     }
     Ok(asks)
 }
@@ -72,39 +74,39 @@ fn all_asks<'v>(
 /// Adds the ask of a name, if it counts.
 fn add_ask<'v>(
     asks: &mut Vec<Ask<'v>>,
-    is_root: bool,
+    owner: Owner,
     omits: Omits,
     name: &'v str,
     asked: Asked<'v>,
 ) -> Result<()>
     ensures { OnOk result (map ask_value asks.new.items
-        ≡ map ask_value asks.old.items ++ Asking.asks_by is_root omits name.now (asked_value asked.entry)) }
+        ≡ map ask_value asks.old.items ++ Asking.asks_by owner omits name.now (asked_value asked.entry)) }
 {
-    if counts(is_root, omits, asked) {
-        asks.push(ask_of(name, asked))?;
+    if counts(owner, omits, asked) {
+        asks.push(ask_of(owner, name, asked))?;
     }
     Ok(())
 }
 
 /// The ask of a name.
-fn ask_of<'v>(name: &'v str, asked: Asked<'v>) -> Ask<'v>
-    ensures { ask_value result ≡ Asking.ask_of name.now (asked_value asked.entry) }
+fn ask_of<'v>(owner: Owner, name: &'v str, asked: Asked<'v>) -> Ask<'v>
+    ensures { ask_value result ≡ Asking.ask_of owner name.now (asked_value asked.entry) }
 {
     Ask {
         name,
         spec: asked.spec,
-        needed: asked.is_needed || !asked.is_peer,
+        needed: asked.is_needed || (owner.is_root() && !asked.is_peer),
     }
 }
 
 /// Returns `true` for a dependency that counts.
-fn counts(is_root: bool, omits: Omits, asked: Asked<'_>) -> bool
-    ensures { result ≡ Asking.counts is_root omits (asked_value asked.entry) }
+fn counts(owner: Owner, omits: Omits, asked: Asked<'_>) -> bool
+    ensures { result ≡ Asking.counts owner omits (asked_value asked.entry) }
 {
     if asked.is_peer {
         return !omits.peer;
     }
-    if !is_root {
+    if !owner.has_dependencies() {
         return false;
     }
     if asked.is_dev {

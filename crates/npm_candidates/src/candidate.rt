@@ -2,7 +2,8 @@
 ghost use Rattle.std.specs.Prelude.{◌≡◌, Some, refl};
 ghost use Rattle.std.specs.Cmp.{eq_by_cmp_equiv, partial_equiv_from_equiv, po};
 ghost use Rattle.std.specs.Ordering.{eq_by_cmp};
-ghost use Rattle.npm_candidates.specs.Preference.{candidate_order};
+ghost use Rattle.npm_candidates.specs.Preference as Preferences;
+ghost use Rattle.npm_candidates.specs.Preference.{candidate_order, lowest_order, sound_first};
 ghost use Rattle.npm_candidates.specs.Private.Orders.{candidate_total};
 
 use node_semver::{OrderedVersion, VersionRef};
@@ -11,15 +12,42 @@ use std::cmp::Ordering;
 
 /// A version of a document.
 ///
-/// Of two candidates the lesser one is preferred.
+/// Of two candidates the lesser one is preferred, unless the lowest version is.
 #[derive(Drop)]
 pub struct Candidate<'v> {
     pub key: &'v str,
     pub manifest: &'v Value,
     pub version: VersionRef<'v>,
-    /// The default tag names it, and it is not deprecated.
+    /// The default tag names it, it is not deprecated, and it fits the version of Node.
     pub is_default: bool,
     pub is_deprecated: bool,
+    /// The version of Node fits its `engines`.
+    pub fits: bool,
+}
+
+impl<'v> Candidate<'v> {
+    /// Compares two candidates where the lowest version is preferred. The one that is preferred is the lesser one.
+    pub(crate) fn cmp_lowest(&self, other: &Candidate<'v>) -> Ordering
+        ensures { result ≡ lowest_order self.now other.now }
+    {
+        other.cmp_sound(self, self.version.cmp_version(&other.version))
+    }
+
+    /// Compares two candidates by whether they are deprecated and fit, and then as is said. The one that is preferred is the greater one.
+    fn cmp_sound(&self, other: &Candidate<'v>, alike: Ordering) -> Ordering
+        ensures { result ≡ sound_first (λ a b. alike) self.now other.now }
+    {
+        let lasting = (!self.is_deprecated).cmp(&!other.is_deprecated);
+        let fits = self.fits.cmp(&other.fits);
+        let sound = self.is_sound().cmp(&other.is_sound());
+        sound.then(fits.then(lasting.then(alike)))
+    }
+
+    fn is_sound(&self) -> bool
+        ensures { result ≡ Preferences.is_sound self.now }
+    {
+        !self.is_deprecated && self.fits
+    }
 }
 
 impl<'v> PartialEq for Candidate<'v> {
@@ -63,8 +91,7 @@ impl<'v> Ord for Candidate<'v> {
         ensures { result ≡ candidate_order self.now other.now }
     {
         let version = other.version.cmp_version(&self.version);
-        let lasting = (!other.is_deprecated).cmp(&!self.is_deprecated);
         let default = other.is_default.cmp(&self.is_default);
-        default.then(lasting.then(version))
+        default.then(other.cmp_sound(self, version))
     }
 }

@@ -1,21 +1,26 @@
 //! The candidates of a document.
-ghost use Rattle.std.specs.Prelude.{◌≡◌, IfNone, IfOk, IfSome, option_map};
+ghost use Rattle.std.specs.Prelude.{◌≡◌, ◌↔◌, IfNone, IfOk, IfSome, IsTrue, OnOk, option_map};
+ghost use Rattle.std.specs.List.Sorted.{IsPermutation, IsSorted, IsStable};
 ghost use Rattle.serde_json.specs.View.{members_view, view};
 ghost use Rattle.npm_candidates.specs.Candidates as Documents;
 ghost use Rattle.npm_candidates.specs.Candidates.{AreCandidates, AreListed, IsCandidate, IsEligible};
+ghost use Rattle.npm_candidates.specs.Preference.{order_of};
 ghost use Rattle.npm_pick.specs.Packument.{releases_among, releases_in, versions_of};
+ghost use Rattle.npm_pick.specs.Rank.{Fits};
 
 use crate::Result;
 use crate::candidate::Candidate;
 use crate::options::Options;
-use npm_pick::{is_published, is_restricted, tagged, versions_of};
+use node_semver::VersionRef;
+use npm_pick::{engine_of, is_engine_for, is_published, is_restricted, tagged, versions_of};
 use npm_texts::{has_true, installed_version};
 use serde_json::{Map, Value};
 use std::alloc::Global;
 
 /// Returns the versions of a document that can be chosen, in the order in which npm prefers them: the version of the default tag, if
-/// it is not deprecated, then those that are not deprecated, and of these the greater version first. Equal versions stay in the order
-/// of the document.
+/// it is not deprecated and fits the version of Node, and then the others by their ranks. These count, the first most: not to be
+/// deprecated and to fit; to fit; not to be deprecated; to be the greater version. With `is_lowest` the tag does not count, and it is
+/// the lesser version that is first. Equal versions stay in the order of the document.
 ///
 /// A key that is no version, and a version that was published too late or that a policy restricts, cannot be chosen.
 ///
@@ -29,7 +34,8 @@ use std::alloc::Global;
 ///
 /// # Examples
 ///
-/// Of 1.2.0, 1.3.0 and 2.0.0, where `latest` is 1.2.0 and 2.0.0 is deprecated: 1.2.0, 1.3.0, 2.0.0.
+/// Of 1.0.0, 1.2.0, 1.3.0 and 2.0.0, where `latest` is 1.2.0 and 1.0.0 is deprecated: 1.2.0, 2.0.0, 1.3.0, 1.0.0; and with `is_lowest`
+/// 1.2.0, 1.3.0, 2.0.0, 1.0.0.
 pub fn candidates_of<'v>(
     alloc: Global,
     packument: &'v Value,
@@ -38,8 +44,21 @@ pub fn candidates_of<'v>(
     ensures { IfOk result (λ candidates. AreCandidates (view packument.now) options.now candidates.items) }
 {
     let mut candidates = listed_of(alloc, packument, options)?;
-    candidates.sort()?;
+    put_in_order(&mut candidates, options.is_lowest)?;
     Ok(candidates)
+}
+
+/// Puts what is preferred first.
+fn put_in_order(candidates: &mut Vec<Candidate<'_>>, is_lowest: bool) -> Result<()>
+    ensures same { IsPermutation candidates.old.items candidates.new.items }
+    ensures sorted { OnOk result (IsSorted (order_of is_lowest) candidates.new.items) }
+    ensures stable { IsStable (order_of is_lowest) candidates.old.items candidates.new.items }
+{
+    if is_lowest {
+        candidates.sort_by(|one, other| one.cmp_lowest(other))
+    } else {
+        candidates.sort()
+    }
 }
 
 /// The candidates in the order of the document.
@@ -69,7 +88,7 @@ fn listed_among<'v>(
 {
     let mut listed = Vec::new(alloc);
     for (key, manifest) in versions.iter() {
-        if let Some(candidate) = candidate_of(packument, options, key.as_str(), manifest) {
+        if let Some(candidate) = candidate_of(alloc, packument, options, key.as_str(), manifest)? {
             listed.push(candidate)?;
         }
     }
@@ -78,32 +97,54 @@ fn listed_among<'v>(
 
 /// The candidate of a key of the document, if it can be chosen.
 fn candidate_of<'v>(
+    alloc: Global,
     packument: &Value,
     options: &Options<'_>,
     key: &'v str,
     manifest: &'v Value,
-) -> Option<Candidate<'v>>
-    ensures found { IfSome result (IsCandidate (view packument.now) options.now
-        (record { key = key.now; manifest = view manifest.now })) }
-    ensures none { IfNone result (IsEligible (view packument.now) options.now key.now → ⊥) }
+) -> Result<Option<Candidate<'v>>>
+    ensures found { IfOk result (λ found. IfSome found (IsCandidate (view packument.now) options.now
+        (record { key = key.now; manifest = view manifest.now }))) }
+    ensures none { IfOk result (λ found. IfNone found (IsEligible (view packument.now) options.now key.now → ⊥)) }
 {
     let Some(version) = installed_version(key) else {
-        return None;
+        return Ok(None);
     };
     if !is_published(packument, options.before, key) {
-        return None;
+        return Ok(None);
     }
     if is_restricted(packument, key) {
-        return None;
+        return Ok(None);
     }
     let is_deprecated = has_true(manifest, "deprecated");
-    Some(Candidate {
+    let fits = fits_node(alloc, options, manifest)?;
+    let is_sound = !is_deprecated && fits;
+    Ok(Some(Candidate {
         key,
         manifest,
         version,
-        is_default: !is_deprecated && is_tagged(packument, options.default_tag, key),
+        is_default: is_sound && is_tagged(packument, options.default_tag, key),
         is_deprecated,
-    })
+        fits,
+    }))
+}
+
+/// Returns `true` if the version of Node fits the manifest, or if it is not known or not asked for.
+fn fits_node(alloc: Global, options: &Options<'_>, manifest: &Value) -> Result<bool>
+    ensures { IfOk result (λ fits. IsTrue fits ↔ Documents.FitsNode options.now (view manifest.now)) }
+{
+    fits(alloc, options.node, engine_of(manifest, "node"))
+}
+
+/// Returns `true` if a version of an engine fits, or if it is not known or not asked for.
+fn fits(alloc: Global, version: Option<&VersionRef<'_>>, asked: Option<&Value>) -> Result<bool>
+    ensures { IfOk result (λ fits. IsTrue fits ↔ Fits (option_map (λ version. version.now) version.entry)
+        (option_map (λ asked. view asked.now) asked.entry)) }
+{
+    match (version, asked) {
+        (Some(version), Some(asked)) => is_engine_for(alloc, version, asked),
+        _ => Ok(true),
+    }
 }
 
 /// Returns `true` if the tag names this version.

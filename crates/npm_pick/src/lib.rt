@@ -2,7 +2,8 @@
 //!
 //! [`pick`] reads the document of a package as a registry serves it, whole or abbreviated, and picks one of its versions.
 //! [`keep`] lists those that a mirror needs. [`parse_time`] reads a time of [`Options`]. [`versions_of`], [`tagged`],
-//! [`is_restricted`] and [`is_published`] look up what a document says of its versions.
+//! [`is_restricted`] and [`is_published`] look up what a document says of its versions, and [`engine_of`] and [`is_engine_for`] whether
+//! a version fits a version of Node or npm.
 #![tactic(auto)]
 
 mod admitted;
@@ -23,6 +24,7 @@ pub use kept::keep;
 pub use member::{is_restricted, tagged, versions_of};
 pub use options::Options;
 pub use picked::{Picked, pick};
+pub use rank::asked::{engine_of, is_engine_for};
 pub use time::{is_published, parse_time};
 
 /// The result of what fails by memory alone, if no other error is named.

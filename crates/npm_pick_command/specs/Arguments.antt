@@ -61,7 +61,7 @@ pub data ArgumentErrorValue : Type 0 where
   two_tasks : ArgumentErrorValue
   -- with the option that takes none
   no_spec : (option word : List ℕ) → ArgumentErrorValue
-  -- that a text is no time and no version is said by `Given` of npm_pick_files, and not here
+  -- that a text is no time and no version is said by `Given` of npm_pick_reports, and not here
   no_time : (text : List ℕ) → ArgumentErrorValue
   no_node_version : (text : List ℕ) → ArgumentErrorValue
   no_npm_version : (text : List ℕ) → ArgumentErrorValue

@@ -2,7 +2,7 @@
 use Rattle.std.specs.Prelude.{◌≡◌, ◌⊎◌, ℕ, ℤ, IsSome, List, Option, Some, None, codes, option_map, string_bytes, unwrap_or}
 use Rattle.node_semver.specs.Versions.{IsVersionText, VersionValue}
 use Rattle.npm_pick.specs.declared.options.Options.{Options}
-use Rattle.npm_pick_files.specs.Given.{IsVersionGiven, time_given}
+use Rattle.npm_pick_reports.specs.Given.{IsVersionGiven, time_given}
 use Rattle.npm_pick_reports.specs.declared.run_error.RunError.TheVariants.{Memory}
 use Rattle.npm_pick_command.specs.Arguments.{ArgumentErrorValue, ArgumentsValue, argument_error_value, no_node_version}
 use Rattle.npm_pick_command.specs.Arguments.{no_npm_version, no_time}

@@ -22,8 +22,9 @@ use arguments::{Arguments, PickOptions, read_arguments};
 use command_lines::{Quoted, Shown, words_of};
 use help::{HELP, VERSION};
 use npm_pick::Options;
-use npm_pick_files::{checked_manifest, packument_in, value_at, values_of};
-use npm_pick_reports::{Done, Ending, Question, RunError, run};
+use npm_pick_reports::{
+    Done, Ending, Question, RunError, checked_manifest, packument_in, run, value_at, values_of,
+};
 use picking::Values;
 use program_error::ProgramError;
 use serde_json::Value;

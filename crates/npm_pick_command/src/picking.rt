@@ -11,7 +11,7 @@ use crate::program_error::ProgramError;
 use command_lines::Quoted;
 use node_semver::VersionRef;
 use npm_pick::Options;
-use npm_pick_files::{time_given, version_given};
+use npm_pick_reports::{time_given, version_given};
 use std::alloc::Global;
 
 /// The times and versions of the arguments, as they were read.

@@ -14,5 +14,9 @@ pub mod MirrorLines  -- the lines of what a mirror keeps, and of the notes
 -- ---- a reply
 pub mod Reply  -- all that the program writes, and how it ends
 pub mod Failures  -- why there is no reply
+-- ---- what programs about packages read
+pub mod Given  -- the times and versions that arguments name
+pub mod Manifest  -- which values are manifests
+pub mod PackumentFile  -- where the document of a package is
 -- ---- not part of any public contract: what private functions compute
 pub mod Private

@@ -1,19 +1,33 @@
-//! Replies about packages, by the documents of a registry: the version that npm would install, the dependencies of a lock file that are
-//! outdated, and the versions that a mirror keeps.
+//! What programs about packages share: replies by the documents of a registry, which are the version that npm would install, the
+//! dependencies of a lock file that are outdated, and the versions that a mirror keeps; and what they read.
+//!
+//! - [`packument_in`] reads the document of a package in a folder, [`value_at`] a JSON file, and [`checked_manifest`] says whether
+//!   its value is a manifest.
+//! - [`values_of`] lists all values of an option. [`time_given`] and [`version_given`] read a time and a version.
 //!
 //! [`run`] writes the lines of the reply to a [`Question`], in a [`Format`], and returns how the program ends. [`RunError`] says why
 //! there is no reply, and [`LoadError`] why the document of a package is not read.
 #![tactic(auto)]
 
 mod format;
+mod given;
+mod json_file;
 mod load_error;
+mod manifest;
 mod mirror;
 mod outdated;
+mod packument_file;
 mod picked_line;
 mod reply;
 mod run_error;
+mod values;
 
 pub use format::Format;
+pub use given::{time_given, version_given};
+pub use json_file::value_at;
 pub use load_error::{LoadError, PackageName};
+pub use manifest::checked_manifest;
+pub use packument_file::packument_in;
 pub use reply::{Done, Ending, Question, run};
 pub use run_error::RunError;
+pub use values::values_of;

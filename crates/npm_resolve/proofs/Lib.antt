@@ -1,3 +1,5 @@
 mod Zips
 mod Wishing
 mod Gathering
+mod Naming
+mod Keys

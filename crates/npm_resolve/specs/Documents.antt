@@ -1,6 +1,6 @@
 -- Which documents are needed: those of the names that the manifests ask for, and of the names that the candidates of these documents ask
 -- for, as deep as they go.
-use Rattle.std.specs.Prelude.{◌≡◌, ◌++◌, ◌⊎◌, ℕ, List, Err, None, Ok, Some, false, flat_map, string_bytes, true}
+use Rattle.std.specs.Prelude.{◌≡◌, ◌++◌, ◌⊎◌, ℕ, List, Err, None, Ok, Some, flat_map, string_bytes, true}
 use Rattle.std.specs.List.{All, AllZip, Contains}
 use Rattle.serde_json.specs.View.{view}
 use Rattle.serde_json.specs.declared.value.Value.{Value}
@@ -10,6 +10,8 @@ use Rattle.npm_candidates.specs.Candidates.{AreCandidates}
 use Rattle.npm_candidates.specs.declared.candidate.Candidate.{Candidate}
 use Rattle.npm_candidates.specs.declared.options.Omits.{Omits}
 use Rattle.npm_candidates.specs.declared.options.Options.{Options}
+use Rattle.npm_candidates.specs.declared.owner.Owner.TheVariants.{Version}
+use Rattle.npm_candidates.specs.declared.owner.Reach.{Reach}
 use Rattle.npm_pick_reports.specs.Loading.{Loads}
 use Rattle.npm_pick_reports.specs.declared.load_error.LoadError.{LoadError}
 use Rattle.npm_pick_reports.specs.declared.load_error.LoadError.TheVariants.{Memory}
@@ -19,19 +21,19 @@ use Rattle.npm_resolve.specs.declared.documents.Document.{Document}
 -- ---- what is asked for
 
 -- what a candidate asks for
-abbrev pub IsPeer : Omits → Candidate → List AskValue → Type 0
-IsPeer omits candidate asks = (left_out : List AskValue) × AreAsks (view candidate.manifest.now) false omits asks left_out
+abbrev pub IsPeer : Reach → Omits → Candidate → List AskValue → Type 0
+IsPeer reach omits candidate asks = (left_out : List AskValue) × AreAsks (view candidate.manifest.now) (Version reach) omits asks left_out
 
 -- what the candidates of a document ask for, one candidate after the other
-pub record ArePeers (options : Options) (omits : Omits) (packument : Value) (peers : List AskValue) : Type 0 where
+pub record ArePeers (options : Options) (reach : Reach) (omits : Omits) (packument : Value) (peers : List AskValue) : Type 0 where
   pub candidates : List Candidate
   pub are : AreCandidates (view packument) options candidates
   pub each : List (List AskValue)
-  pub of_each : AllZip (IsPeer omits) candidates each
+  pub of_each : AllZip (IsPeer reach omits) candidates each
   pub all : peers ≡ flat_map (λ (asks : List AskValue). asks) each
 
-abbrev pub ArePeersOf : Options → Omits → Document → List AskValue → Type 0
-ArePeersOf options omits document peers = ArePeers options omits document.packument peers
+abbrev pub ArePeersOf : Options → Reach → Omits → Document → List AskValue → Type 0
+ArePeersOf options reach omits document peers = ArePeers options reach omits document.packument peers
 
 -- One of these asks is for this name, and asks for this package.
 pub record IsAskedAs (asked : List AskValue) (name of_package : List ℕ) : Type 0 where
@@ -64,13 +66,13 @@ abbrev pub all_asked : (wishes : List AskValue) → (peers : List (List AskValue
 all_asked wishes peers = wishes ++ flat_map (λ (asks : List AskValue). asks) peers
 
 -- Each name that the manifests or a candidate of one of the documents ask for is read, and only what is asked for.
-pub record AreDocumentsFor (Gives : Loads) (manifests : List Value) (options : Options) (omits : Omits) (documents : List Document)
+pub record AreDocumentsFor (Gives : Loads) (manifests : List Value) (options : Options) (reach : Reach) (omits : Omits) (documents : List Document)
     : Type 0 where
   pub wishes : List AskValue
   pub left_out : List AskValue
   pub of_root : AreWishes omits manifests wishes left_out
   pub peers : List (List AskValue)
-  pub of_documents : AllZip (ArePeersOf options omits) documents peers
+  pub of_documents : AllZip (ArePeersOf options reach omits) documents peers
   pub read : AreAllRead Gives (all_asked wishes peers) documents
   pub found : All (IsFound Gives (all_asked wishes peers)) documents
 

@@ -1,47 +1,53 @@
 -- The problem that manifests and documents pose: the demands of version_solving in the words of npm.
-use Rattle.std.specs.Prelude.{◌≡◌, ◌↔◌, ℕ, ℤ, List, [], Bool, IsTrue, Option, Some, None, MatchOption, bytes_eq, false, map, slice_get, string_bytes, true}
-use Rattle.std.specs.List.{AllZip}
+use Rattle.std.specs.Prelude.{◌≡◌, ◌↔◌, ◌++◌, ℕ, ℤ, List, [], Bool, IsTrue, Option, Some, None, MatchOption, bytes_eq, false, map, slice_get, string_bytes, true}
+use Rattle.std.specs.List.{All, AllZip, Contains}
+use Rattle.std.specs.Option.{option_map_or}
 use Rattle.serde_json.specs.View.{view}
 use Rattle.serde_json.specs.declared.value.Value.{Value}
-use Rattle.version_solving.specs.declared.demand.Demand.{Demand}
-use Rattle.version_solving.specs.declared.documents.Documents.{Documents}
 use Rattle.version_solving.specs.declared.documents.Range.{Range}
-use Rattle.named_problems.specs.Naming.{AreDemandsOf, ArePackagesOf}
-use Rattle.named_problems.specs.declared.ask.Ask.{Ask}
-use Rattle.named_problems.specs.declared.ask.Asker.{Asker}
-use Rattle.named_problems.specs.declared.ask.Listed.{Listed}
-use Rattle.named_problems.specs.declared.wanted.Wanted.{Wanted}
+use Rattle.version_solving.specs.Naming.{AreDemandsOf, ArePackagesOf}
+use Rattle.version_solving.specs.declared.ask.Ask.{Ask}
+use Rattle.version_solving.specs.declared.ask.Asker.{Asker}
+use Rattle.version_solving.specs.declared.ask.Listed.{Listed}
+use Rattle.version_solving.specs.declared.wanted.Wanted.{Wanted}
 use Rattle.npm_texts.specs.RegistrySpec.{RegistrySpecValue, registry_spec}
 use Rattle.npm_candidates.specs.Asks.{AreAsks, AskValue, ask_value}
-use Rattle.npm_candidates.specs.Candidates.{AreCandidates}
+use Rattle.npm_candidates.specs.Locked.{AreOffered}
 use Rattle.npm_candidates.specs.Meanings.{IsAdmitted, IsMeaning, MeaningValue, nothing}
 use Rattle.npm_candidates.specs.declared.candidate.Candidate.{Candidate}
 use Rattle.npm_candidates.specs.declared.options.Omits.{Omits}
 use Rattle.npm_candidates.specs.declared.options.Options.{Options}
+use Rattle.npm_candidates.specs.declared.owner.Owner.TheVariants.{Version}
+use Rattle.npm_candidates.specs.declared.owner.Reach.{Reach}
 use Rattle.npm_resolve.specs.Wishes.{AreWishes}
 use Rattle.npm_resolve.specs.declared.documents.Document.{Document}
 use Rattle.npm_resolve.specs.declared.instance.Offer.{Offer}
+use Rattle.npm_resolve.specs.declared.posed.Posed.{Posed}
 
 -- ---- candidates
 
--- The candidates of a name are the versions of its document that can be chosen, the best first.
+-- The candidates of a name are the versions of its document that can be chosen, the locked one and then the best first.
 pub record IsOffer (options : Options) (document : Document) (offer : Offer) : Type 0 where
   pub name : offer.name.now ≡ string_bytes document.name
   pub of_package : offer.package.now ≡ string_bytes document.package
   pub packument : offer.packument.now ≡ document.packument
-  pub candidates : AreCandidates (view document.packument) options offer.candidates.items
+  pub candidates : AreOffered (string_bytes document.name) (view document.packument) options offer.candidates.items
 
--- A candidate asks for its peers.
-abbrev pub IsAsker : Omits → Candidate → Asker → Type 0
-IsAsker omits candidate asker = (left_out : List AskValue)
-    × AreAsks (view candidate.manifest.now) false omits (map ask_value asker.asks.items) left_out
+-- The key of a candidate. What is posed has no candidate that is not there.
+abbrev pub key_of : Offer → (candidate : ℕ) → List ℕ
+key_of offer candidate = option_map_or (λ found. found.key.now) (slice_get offer.candidates.items candidate) []
 
-abbrev pub AreListed : Omits → List Candidate → List Asker → Type 0
-AreListed omits = AllZip (IsAsker omits)
+-- A candidate asks for its peers, and for its dependencies too if they count.
+abbrev pub IsAsker : Reach → Omits → Candidate → Asker → Type 0
+IsAsker reach omits candidate asker = (left_out : List AskValue)
+    × AreAsks (view candidate.manifest.now) (Version reach) omits (map ask_value asker.asks.items) left_out
 
-pub record IsListedFor (omits : Omits) (offer : Offer) (listed : Listed) : Type 0 where
+abbrev pub AreListed : Reach → Omits → List Candidate → List Asker → Type 0
+AreListed reach omits = AllZip (IsAsker reach omits)
+
+pub record IsListedFor (reach : Reach) (omits : Omits) (offer : Offer) (listed : Listed) : Type 0 where
   pub name : listed.name.now ≡ offer.name.now
-  pub askers : AreListed omits offer.candidates.items listed.candidates.items
+  pub askers : AreListed reach omits offer.candidates.items listed.candidates.items
 
 -- ---- ranges
 
@@ -72,18 +78,42 @@ IsRangeFor before offers wanted range = MatchOption (slice_get offers wanted.nam
 abbrev pub AreRanges : (before : Option ℤ) → List Offer → List Wanted → List Range → Type 0
 AreRanges before offers = AllZip (IsRangeFor before offers)
 
+-- ---- names without a document
+
+abbrev pub HasNone : Listed → Type 0
+HasNone one = one.candidates.items ≡ []
+
+-- The list has the name.
+abbrev pub IsNamed : List Listed → (name : List ℕ) → Type 0
+IsNamed names name = (one : Listed) × Contains names one × (one.name.now ≡ name)
+
+abbrev pub IsAskNamed : List Listed → Ask → Type 0
+IsAskNamed names ask = IsNamed names ask.name.now
+
+abbrev pub AreAskersNamed : List Listed → List Asker → Type 0
+AreAskersNamed names = All (λ (asker : Asker). All (IsAskNamed names) asker.asks.items)
+
+-- These names, which have no candidates, and those that are listed are all that are asked for.
+pub record AreAbsent (wishes : List Ask) (listed absent : List Listed) : Type 0 where
+  pub none : All HasNone absent
+  pub of_root : All (IsAskNamed (listed ++ absent)) wishes
+  pub of_candidates : All (λ (one : Listed). AreAskersNamed (listed ++ absent) one.candidates.items) listed
+
 -- ---- all of it
 
--- These demands, packages and ranges are the problem that the manifests of a root and the documents pose.
-pub record IsInstance (manifests : List Value) (documents : List Document) (options : Options) (omits : Omits)
-    (wishes : List Ask) (offers : List Offer) (root : List Demand) (posed : Documents)
+-- This is the problem that the manifests of a root and the documents pose. The names are those of the documents, and behind them others
+-- that are asked for.
+pub record IsInstance (manifests : List Value) (documents : List Document) (options : Options) (reach : Reach) (omits : Omits)
+    (posed : Posed)
     : Type 0 where
   pub left_out : List AskValue
-  pub asked : AreWishes omits manifests (map ask_value wishes) left_out
-  pub offered : AllZip (IsOffer options) documents offers
+  pub asked : AreWishes omits manifests (map ask_value posed.wishes.items) left_out
+  pub offered : AllZip (IsOffer options) documents posed.offers.items
   pub listed : List Listed
-  pub are_listed : AllZip (IsListedFor omits) offers listed
-  pub ranges : List Wanted
-  pub demanded : AreDemandsOf listed ranges wishes root
-  pub packages : ArePackagesOf listed ranges listed posed.packages.items
-  pub allowed : AreRanges options.before offers ranges posed.ranges.items
+  pub are_listed : AllZip (IsListedFor reach omits) posed.offers.items listed
+  pub absent : List Listed
+  pub are_absent : AreAbsent posed.wishes.items listed absent
+  pub named : posed.names.items ≡ listed ++ absent
+  pub demanded : AreDemandsOf posed.names.items posed.ranges.items posed.wishes.items posed.root.items
+  pub packages : ArePackagesOf posed.names.items posed.ranges.items posed.names.items posed.documents.packages.items
+  pub allowed : AreRanges options.before posed.offers.items posed.ranges.items posed.documents.ranges.items

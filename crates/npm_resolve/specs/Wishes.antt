@@ -1,10 +1,11 @@
 -- What the manifests of a root ask for.
-use Rattle.std.specs.Prelude.{◌≡◌, List, flat_map, true}
+use Rattle.std.specs.Prelude.{◌≡◌, List, flat_map}
 use Rattle.std.specs.List.{AllZip}
 use Rattle.serde_json.specs.View.{view}
 use Rattle.serde_json.specs.declared.value.Value.{Value}
 use Rattle.npm_candidates.specs.Asks.{AreAsks, AskValue}
 use Rattle.npm_candidates.specs.declared.options.Omits.{Omits}
+use Rattle.npm_candidates.specs.declared.owner.Owner.TheVariants.{Root}
 
 -- what one manifest asks a registry for, and what is left out
 pub record WishesValue : Type 0 where
@@ -12,7 +13,7 @@ pub record WishesValue : Type 0 where
   pub left_out : List AskValue
 
 abbrev pub IsWish : Omits → Value → WishesValue → Type 0
-IsWish omits manifest one = AreAsks (view manifest) true omits one.asks one.left_out
+IsWish omits manifest one = AreAsks (view manifest) Root omits one.asks one.left_out
 
 -- The same of all manifests, one after the other. A name can be asked for several times.
 pub record AreWishes (omits : Omits) (manifests : List Value) (asks left_out : List AskValue) : Type 0 where

@@ -1,6 +1,7 @@
 //! What a resolver answers.
 
-use named_problems::Ask;
+use crate::conflict::Conflict;
+use version_solving::Ask;
 
 /// A version that is selected.
 #[derive(Clone, Copy, Debug, PartialEq, Eq, Drop)]
@@ -18,9 +19,8 @@ pub struct Chosen<'v> {
 pub enum Resolution<'v> {
     /// The versions that are selected, in the order in which they are first needed.
     Selected(Vec<Chosen<'v>>),
-    /// No selection fits. What the manifests ask for that cannot be met together, and without any one of which the others can;
-    /// `None` if that takes more steps than it may.
-    NoSelection(Option<Vec<Ask<'v>>>),
+    /// No selection fits. What cannot be met together, and why; `None` if it takes more steps than it may to find that.
+    NoSelection(Option<Conflict<'v>>),
     /// The steps were used up before either was known.
     Undecided,
 }

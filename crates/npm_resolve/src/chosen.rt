@@ -2,6 +2,7 @@
 ghost use Rattle.std.specs.Prelude.{◌≡◌, IfOk, map};
 ghost use Rattle.npm_resolve.specs.Answers as Answers;
 ghost use Rattle.npm_resolve.specs.Answers.{chosen_value};
+ghost use Rattle.npm_resolve.specs.Instance as Instance;
 
 use crate::Result;
 use crate::answer::Chosen;
@@ -43,8 +44,8 @@ fn chosen_of<'v>(offers: &[Offer<'v>], choice: Choice) -> Chosen<'v>
 }
 
 /// The key of a candidate.
-fn key_of<'v>(offer: &Offer<'v>, candidate: usize) -> &'v str
-    ensures { result.now ≡ Answers.key_of offer.now candidate }
+pub(crate) fn key_of<'v>(offer: &Offer<'v>, candidate: usize) -> &'v str
+    ensures { result.now ≡ Instance.key_of offer.now candidate }
 {
     match offer.candidates.get(candidate) {
         Some(candidate) => candidate.key,

@@ -8,7 +8,7 @@ ghost use Rattle.npm_resolve.specs.Private.Gathering.{AreAdded, AreBegun, IsAnsw
 use crate::Result;
 use crate::requests::{Request, Requests};
 use crate::wishes::wishes_of;
-use npm_candidates::{Omits, Options};
+use npm_candidates::{Omits, Options, Reach};
 use npm_pick_reports::LoadError;
 use serde_json::Value;
 use std::alloc::{AllocError, Global};
@@ -22,9 +22,9 @@ pub struct Document {
     pub packument: Value,
 }
 
-/// Reads the documents of the names that manifests ask for, and of those that the versions of these documents ask for as peers, as
-/// deep as they go, each once. `load` returns the document of a package, if there is one. The first alias of a name decides which
-/// package it is.
+/// Reads the documents of the names that manifests ask for, and of those that the versions of these documents ask for, as deep as they
+/// go, each once: peers or, by `Reach::Dependencies`, dependencies too. `load` returns the document of a package, if there is one. The
+/// first alias of a name decides which package it is.
 ///
 /// # Errors
 ///
@@ -38,11 +38,12 @@ pub fn documents_for<F: Fn(&str) -> Result<Option<Value>, LoadError>>(
     alloc: Global,
     manifests: &[Value],
     options: &Options<'_>,
+    reach: Reach,
     omits: Omits,
     load: F,
 ) -> Result<Vec<Document>, LoadError>
     requires { F.IsAlwaysCallable load }
-    ensures documents { IfOk result (λ documents. AreDocumentsFor (FnReturnsAt F.Fn load) manifests.now options.now omits
+    ensures documents { IfOk result (λ documents. AreDocumentsFor (FnReturnsAt F.Fn load) manifests.now options.now reach omits
         documents.items) }
     ensures failed { IfErr result (IsUnread (FnReturnsAt F.Fn load)) }
 {
@@ -61,6 +62,7 @@ pub fn documents_for<F: Fn(&str) -> Result<Option<Value>, LoadError>>(
             &mut requests,
             request,
             options,
+            reach,
             omits,
             &load,
         )?;
@@ -86,11 +88,12 @@ fn add_document<F: Fn(&str) -> Result<Option<Value>, LoadError>>(
     requests: &mut Requests,
     request: Request,
     options: &Options<'_>,
+    reach: Reach,
     omits: Omits,
     load: &F,
 ) -> Result<(), LoadError>
     requires { F.IsAlwaysCallable load.now }
-    ensures added { OnOk result (IsAnswered (FnReturnsAt F.Fn load.now) options.now omits (string_bytes request.name)
+    ensures added { OnOk result (IsAnswered (FnReturnsAt F.Fn load.now) options.now reach omits (string_bytes request.name)
         (string_bytes request.package) documents.old.items documents.new.items requests.old requests.new) }
     ensures failed { IfErr result (IsUnread (FnReturnsAt F.Fn load.now)) }
 {
@@ -104,7 +107,7 @@ fn add_document<F: Fn(&str) -> Result<Option<Value>, LoadError>>(
         package: request.package,
         packument,
     };
-    match add_found(alloc, documents, requests, document, options, omits) {
+    match add_found(alloc, documents, requests, document, options, reach, omits) {
         Ok(()) => Ok(()),
         Err(_) => Err(LoadError::Memory),
     }
@@ -117,12 +120,13 @@ fn add_found(
     requests: &mut Requests,
     document: Document,
     options: &Options<'_>,
+    reach: Reach,
     omits: Omits,
 ) -> Result<()>
-    ensures { OnOk result ((peers : List AskValue) × ArePeers options.now omits document.packument peers
+    ensures { OnOk result ((peers : List AskValue) × ArePeers options.now reach omits document.packument peers
         × AreAdded peers requests.old requests.new × (documents.new.items ≡ documents.old.items ++ document ∷ [])) }
 {
-    requests.add_peers(alloc, &document.packument, options, omits)?;
+    requests.add_peers(alloc, &document.packument, options, reach, omits)?;
     match documents.push(document) {
         Ok(()) => Ok(()),
         Err(_) => Err(AllocError),

@@ -6,14 +6,15 @@ ghost use Rattle.npm_resolve.specs.Instance.{AreAllowed, AreListed, AreRanges, I
 
 use crate::Result;
 use crate::documents::Document;
-use named_problems::{Asker, Listed, Wanted};
-use npm_candidates::{Candidate, Meaning, Omits, Options, asks_of, candidates_of, meaning_of};
+use npm_candidates::{
+    Candidate, Meaning, Omits, Options, Owner, Reach, asks_of, meaning_of, offered_of,
+};
 use npm_texts::registry_spec;
 use serde_json::Value;
 use std::alloc::Global;
-use version_solving::Range;
+use version_solving::{Asker, Listed, Range, Wanted};
 
-/// A name and its candidates, the best first.
+/// A name and its candidates, the locked one and then the best first.
 #[derive(Drop)]
 pub(crate) struct Offer<'v> {
     pub(crate) name: &'v str,
@@ -45,7 +46,7 @@ fn offer_of<'v>(alloc: Global, document: &'v Document, options: &Options<'_>) ->
         name: document.name.as_str(),
         package: document.package.as_str(),
         packument: &document.packument,
-        candidates: candidates_of(alloc, &document.packument, options)?,
+        candidates: offered_of(alloc, document.name.as_str(), &document.packument, options)?,
     })
 }
 
@@ -53,15 +54,16 @@ fn offer_of<'v>(alloc: Global, document: &'v Document, options: &Options<'_>) ->
 pub(crate) fn lists_of<'v>(
     alloc: Global,
     offers: &[Offer<'v>],
+    reach: Reach,
     omits: Omits,
 ) -> Result<Vec<Listed<'v>>>
-    ensures { IfOk result (λ listed. AllZip (IsListedFor omits) offers.now listed.items) }
+    ensures { IfOk result (λ listed. AllZip (IsListedFor reach omits) offers.now listed.items) }
 {
     let mut lists = Vec::with_capacity(alloc, offers.len())?;
     for offer in offers {
         lists.push(Listed {
             name: offer.name,
-            candidates: askers_of(alloc, &offer.candidates, omits)?,
+            candidates: askers_of(alloc, &offer.candidates, reach, omits)?,
         })?;
     }
     Ok(lists)
@@ -71,13 +73,14 @@ pub(crate) fn lists_of<'v>(
 fn askers_of<'v>(
     alloc: Global,
     candidates: &[Candidate<'v>],
+    reach: Reach,
     omits: Omits,
 ) -> Result<Vec<Asker<'v>>>
-    ensures { IfOk result (λ askers. AreListed omits candidates.now askers.items) }
+    ensures { IfOk result (λ askers. AreListed reach omits candidates.now askers.items) }
 {
     let mut askers = Vec::with_capacity(alloc, candidates.len())?;
     for candidate in candidates {
-        let found = asks_of(alloc, candidate.manifest, false, omits)?;
+        let found = asks_of(alloc, candidate.manifest, Owner::Version(reach), omits)?;
         askers.push(Asker { asks: found.asks })?;
     }
     Ok(askers)

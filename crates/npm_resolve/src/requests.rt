@@ -5,12 +5,12 @@ ghost use Rattle.npm_resolve.specs.Documents.{ArePeers};
 ghost use Rattle.npm_resolve.specs.Private.Gathering.{AreAdded, IsNoted, is_seen};
 
 use crate::Result;
-use named_problems::Ask;
-use npm_candidates::{Omits, Options, asks_of, candidates_of};
+use npm_candidates::{Omits, Options, Owner, Reach, asks_of, candidates_of};
 use npm_texts::registry_spec;
 use serde_json::Value;
 use std::alloc::{AllocError, Global};
 use std::collections::{BTreeSet, VecDeque};
+use version_solving::Ask;
 
 /// A name, and the package that it is asked for as.
 #[derive(Drop)]
@@ -43,13 +43,14 @@ impl Requests {
         alloc: Global,
         packument: &Value,
         options: &Options<'_>,
+        reach: Reach,
         omits: Omits,
     ) -> Result<()>
-        ensures { OnOk result ((peers : List AskValue) × ArePeers options.now omits packument.now peers
+        ensures { OnOk result ((peers : List AskValue) × ArePeers options.now reach omits packument.now peers
             × AreAdded peers self.old self.new) }
     {
         for candidate in &candidates_of(alloc, packument, options)? {
-            let found = asks_of(alloc, candidate.manifest, false, omits)?;
+            let found = asks_of(alloc, candidate.manifest, Owner::Version(reach), omits)?;
             self.add_all(alloc, &found.asks)?;
         }
         Ok(())

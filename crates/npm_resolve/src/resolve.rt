@@ -1,27 +1,33 @@
 //! The versions that fit together.
-ghost use Rattle.std.specs.Prelude.{◌≡◌, [], IfOk, IfSome, List, length};
-ghost use Rattle.std.specs.List.{AllZip};
-ghost use Rattle.version_solving.specs.Culprits.{AreCulprits};
+ghost use Rattle.std.specs.Prelude.{◌≡◌, [], IfOk, IfSome, length};
 ghost use Rattle.version_solving.specs.Documents.{problem_of};
 ghost use Rattle.version_solving.specs.Solving.{NoneFits};
-ghost use Rattle.version_solving.specs.declared.demand.Demand.{Demand};
-ghost use Rattle.named_problems.specs.Naming.{IsAskOf};
 ghost use Rattle.npm_resolve.specs.Answers.{IsAnswer, IsResolution};
+ghost use Rattle.npm_resolve.specs.Explanations.{AreReasons, IsConflict};
 
 use crate::Result;
+use crate::absent::with_absent;
 use crate::answer::{Answer, Resolution};
 use crate::chosen::all_chosen;
+use crate::conflict::{Conflict, Reason};
 use crate::documents::Document;
-use crate::instance::{Offer, lists_of, offers_of, ranges_of};
+use crate::explained::all_explained;
+use crate::instance::{lists_of, offers_of, ranges_of};
+use crate::posed::Posed;
 use crate::wishes::wishes_of;
-use named_problems::{Ask, Numbered, blamed_asks, by_number};
-use npm_candidates::{Omits, Options};
+use npm_candidates::{Asks, Omits, Options, Reach};
 use serde_json::Value;
+use solving_reasons::reasons;
 use std::alloc::Global;
-use version_solving::{Demand, Documents, Outcome, culprits, solve};
+use version_solving::{
+    Demand, Documents, Numbered, Outcome, blamed_asks, by_number, culprits, solve,
+};
 
-/// Returns versions that fit together: of the names that manifests need, and of those that their versions need as peers, one version
-/// each, so that all that is asked for is met. A name without a document has no versions.
+/// Returns versions that fit together: of the names that manifests need, and of those that their versions need, one version each, so
+/// that all that is asked for is met. A version needs its peers and, by `Reach::Dependencies`, its `dependencies`. A name without a
+/// document has no versions.
+///
+/// If no selection fits, it returns what the manifests ask for that cannot be met together, and why.
 ///
 /// Names are chosen in the order in which they are first needed. Each choice is the first of the versions of its name with which a
 /// selection that fits exists, the earlier choices kept: the version that `npm_pick` would pick, where it fits.
@@ -32,73 +38,86 @@ use version_solving::{Demand, Documents, Outcome, culprits, solve};
 ///
 /// # Memory
 ///
-/// Allocates an entry for each version of each document, for each of its peers and for each range, and what `solve` takes.
+/// Allocates an entry for each version of each document, for each name that it asks for and for each range, and what `solve` takes. If
+/// no selection fits, the memory grows with the steps that the search for the reasons takes.
 pub fn resolved<'v>(
     alloc: Global,
     manifests: &'v [Value],
     documents: &'v [Document],
     options: &Options<'_>,
+    reach: Reach,
     omits: Omits,
     steps: u64,
 ) -> Result<Answer<'v>>
-    ensures { IfOk result (IsAnswer manifests.now documents.now options.now omits) }
+    ensures { IfOk result (IsAnswer manifests.now documents.now options.now reach omits) }
 {
-    let wishes = wishes_of(alloc, manifests, omits)?;
+    let Asks { asks, left_out } = wishes_of(alloc, manifests, omits)?;
     let offers = offers_of(alloc, documents, options)?;
-    let listed = lists_of(alloc, &offers, omits)?;
+    let listed = lists_of(alloc, &offers, reach, omits)?;
+    let names = with_absent(alloc, &asks, listed)?;
     let Numbered {
         root,
         packages,
-        ranges,
-    } = by_number(alloc, &wishes.asks, &listed)?;
-    let ranges = ranges_of(alloc, &offers, &ranges, options.before)?;
-    let documents = Documents { packages, ranges };
-    let resolution = resolution_of(alloc, &wishes.asks, &offers, &root, &documents, steps)?;
+        ranges: wanted,
+    } = by_number(alloc, &asks, &names)?;
+    let ranges = ranges_of(alloc, &offers, &wanted, options.before)?;
+    let posed = Posed {
+        wishes: asks,
+        offers,
+        names,
+        ranges: wanted,
+        root,
+        documents: Documents { packages, ranges },
+    };
+    let resolution = resolution_of(alloc, &posed, steps)?;
     Ok(Answer {
         resolution,
-        left_out: wishes.left_out,
+        left_out,
     })
 }
 
 /// Solves a problem, and names what it says.
-fn resolution_of<'v>(
-    alloc: Global,
-    wishes: &[Ask<'v>],
-    offers: &[Offer<'v>],
-    root: &[Demand],
-    documents: &Documents,
-    steps: u64,
-) -> Result<Resolution<'v>>
-    requires { length wishes.now ≡ length root.now }
-    ensures { IfOk result (IsResolution wishes.now offers.now root.now documents.now) }
+fn resolution_of<'v>(alloc: Global, posed: &Posed<'v>, steps: u64) -> Result<Resolution<'v>>
+    requires { length posed.now.wishes.items ≡ length posed.now.root.items }
+    ensures { IfOk result (IsResolution posed.now) }
 {
-    match solve(alloc, root, documents, steps)? {
-        Outcome::Selected(choices) => {
-            Ok(Resolution::Selected(all_chosen(alloc, offers, &choices)?))
-        }
-        Outcome::NoSelection => {
-            let blamed = blamed_of(alloc, wishes, root, documents, steps)?;
-            Ok(Resolution::NoSelection(blamed))
-        }
+    match solve(alloc, &posed.root, &posed.documents, steps)? {
+        Outcome::Selected(choices) => Ok(Resolution::Selected(all_chosen(
+            alloc,
+            &posed.offers,
+            &choices,
+        )?)),
+        Outcome::NoSelection => Ok(Resolution::NoSelection(conflict_of(alloc, posed, steps)?)),
         Outcome::Undecided => Ok(Resolution::Undecided),
     }
 }
 
-/// The wishes that cannot be met together, where no selection fits.
-fn blamed_of<'v>(
-    alloc: Global,
-    wishes: &[Ask<'v>],
-    root: &[Demand],
-    documents: &Documents,
-    steps: u64,
-) -> Result<Option<Vec<Ask<'v>>>>
-    requires length { length wishes.now ≡ length root.now }
-    requires none { NoneFits (problem_of root.now documents.now) [] }
-    ensures { IfOk result (λ blamed. IfSome blamed (λ asks. (demands : List Demand)
-        × AreCulprits (problem_of root.now documents.now) demands × AllZip (IsAskOf wishes.now root.now) demands asks.items)) }
+/// What cannot be met together, and why, where no selection fits.
+fn conflict_of<'v>(alloc: Global, posed: &Posed<'v>, steps: u64) -> Result<Option<Conflict<'v>>>
+    requires length { length posed.now.wishes.items ≡ length posed.now.root.items }
+    requires none { NoneFits (problem_of posed.now.root.items posed.now.documents) [] }
+    ensures { IfOk result (λ found. IfSome found (IsConflict posed.now)) }
 {
-    match culprits(alloc, root, documents, steps)? {
-        Some(demands) => Ok(Some(blamed_asks(alloc, wishes, root, &demands)?)),
+    match culprits(alloc, &posed.root, &posed.documents, steps)? {
+        Some(demands) => Ok(Some(Conflict {
+            culprits: blamed_asks(alloc, &posed.wishes, &posed.root, &demands)?,
+            reasons: reasons_of(alloc, posed, &demands, steps)?,
+        })),
+        None => Ok(None),
+    }
+}
+
+/// Why demands of the root cannot be met together.
+fn reasons_of<'v>(
+    alloc: Global,
+    posed: &Posed<'v>,
+    demands: &[Demand],
+    steps: u64,
+) -> Result<Option<Vec<Reason<'v>>>>
+    ensures { IfOk result (λ found. IfSome found (λ reasons. AreReasons posed.now demands.now reasons.items)) }
+{
+    match reasons(alloc, demands, &posed.documents, steps)? {
+        Some(lines) => Ok(Some(all_explained(alloc, posed, &lines)?)),
         None => Ok(None),
     }
 }

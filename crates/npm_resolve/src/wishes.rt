@@ -6,7 +6,7 @@ ghost use Rattle.npm_resolve.specs.Wishes.{AreWishes};
 ghost use Rattle.npm_resolve.specs.Private.Wishing.{AreWishesAdded};
 
 use crate::Result;
-use npm_candidates::{Asks, Omits, asks_of};
+use npm_candidates::{Asks, Omits, Owner, asks_of};
 use serde_json::Value;
 use std::alloc::Global;
 
@@ -34,7 +34,7 @@ fn add_wishes<'v>(
 ) -> Result<()>
     ensures { OnOk result (AreWishesAdded omits (view manifest.now) wishes.old wishes.new) }
 {
-    let found = asks_of(alloc, manifest, true, omits)?;
+    let found = asks_of(alloc, manifest, Owner::Root, omits)?;
     wishes.asks.extend_from_slice(&found.asks)?;
     wishes.left_out.extend_from_slice(&found.left_out)?;
     Ok(())

@@ -1,6 +1,7 @@
 -- The arguments of the program: the last value of an option counts, but each group of `--omit`. The first fault is told.
-use Rattle.std.specs.Prelude.{◌&&◌, ℕ, List, [], ◌∷◌, if◌then◌else◌, length, nat_lt, not, Option, Some, None}
+use Rattle.std.specs.Prelude.{◌&&◌, ℕ, List, [], ◌∷◌, Bool, if◌then◌else◌, length, nat_lt, not, Option, Some, None}
 use Rattle.std.specs.Prelude.{is_none, option_map, unwrap_or, Result, Err, codes}
+use Rattle.std.specs.List.{filter_map, last_or}
 use Rattle.std.specs.Option.{option_and_then}
 use Rattle.std.specs.Result.{result_map_both}
 use Rattle.std.specs.Str.{bytes_eq}
@@ -8,11 +9,13 @@ use denote.Ref.{Bor}
 use Rattle.command_lines.specs.Arguments as Words
 use Rattle.command_lines.specs.Arguments.{ArgumentValue}
 use Rattle.command_lines.specs.declared.argument.TheConstants.{MAX_WORDS}
-use Rattle.command_lines.specs.Given.{first_fault, is_among, meaning, ok_unless, shown_in, value_of, values_of}
+use Rattle.command_lines.specs.Given.{first_fault, is_among, is_given, meaning, ok_unless, shown_in, value_of, values_of}
 use Rattle.command_lines.specs.declared.argument.given.Shown.{Shown}
 use Rattle.npm_candidates.specs.declared.options.Omits.{Omits}
-use Rattle.npm_pick_reports.specs.declared.format.Format.{Format}
-use Rattle.npm_pick_reports.specs.declared.format.Format.TheVariants.{Json, Text}
+use Rattle.npm_candidates.specs.declared.owner.Reach.{Reach}
+use Rattle.npm_candidates.specs.declared.owner.Reach.TheVariants.{Dependencies, Peers}
+use Rattle.npm_resolve_reports.specs.declared.format.Format.{Format}
+use Rattle.npm_resolve_reports.specs.declared.format.Format.TheVariants.{Json, Lock, Text}
 use Rattle.npm_resolve_command.specs.declared.argument_error.ArgumentError.{ArgumentError}
 use Rattle.npm_resolve_command.specs.declared.argument_error.ArgumentError.TheVariants as Errors
 use Rattle.npm_resolve_command.specs.declared.arguments.Arguments.{Arguments}
@@ -21,11 +24,11 @@ use Rattle.npm_resolve_command.specs.declared.arguments.Arguments.{Arguments}
 
 -- those that have a value, and those that have none
 abbrev pub valued : List (List ℕ)
-valued = codes "--manifest" ∷ codes "--packuments" ∷ codes "--omit" ∷ codes "--tag" ∷ codes "--before" ∷ codes "--steps"
+valued = codes "--manifest" ∷ codes "--packuments" ∷ codes "--omit" ∷ codes "--tag" ∷ codes "--before" ∷ codes "--node" ∷ codes "--lock" ∷ codes "--steps"
     ∷ codes "--format" ∷ []
 
 abbrev pub flags : List (List ℕ)
-flags = codes "--help" ∷ codes "-h" ∷ codes "--version" ∷ codes "-V" ∷ codes "--peers" ∷ []
+flags = codes "--help" ∷ codes "-h" ∷ codes "--version" ∷ codes "-V" ∷ codes "--peers" ∷ codes "--flat" ∷ codes "--lowest" ∷ []
 
 -- the arguments of the words
 abbrev pub arguments_of : (words : List (List ℕ)) → List ArgumentValue
@@ -33,7 +36,14 @@ arguments_of words = Words.arguments_of (is_among valued) words
 
 -- the formats
 abbrev pub formats : List (List ℕ × Format)
-formats = (codes "text", Text) ∷ (codes "json", Json) ∷ []
+formats = (codes "text", Text) ∷ (codes "json", Json) ∷ (codes "lock", Lock) ∷ []
+
+-- what counts of a version: the last of these options counts
+abbrev pub reaches : List (List ℕ × Reach)
+reaches = (codes "--peers", Peers) ∷ (codes "--flat", Dependencies) ∷ []
+
+abbrev pub reach_in : List ArgumentValue → Option Reach
+reach_in arguments = last_or None (filter_map (λ argument. meaning reaches argument.word) arguments)
 
 -- the groups of dependencies that can be left out
 abbrev pub groups : List (List ℕ)
@@ -55,10 +65,14 @@ pub data ArgumentErrorValue : Type 0 where
   no_value : (word : List ℕ) → ArgumentErrorValue
   no_format : (text : List ℕ) → ArgumentErrorValue
   no_group : (text : List ℕ) → ArgumentErrorValue
+  lock_not_flat : ArgumentErrorValue
+  lock_omits : ArgumentErrorValue
+  lock_of_manifests : ArgumentErrorValue
   no_manifest : ArgumentErrorValue
   no_packuments : ArgumentErrorValue
-  -- that a text is no time and no number is said by `Values`, and not here
+  -- that a text is no time, no version and no number is said by `Values`, and not here
   no_time : (text : List ℕ) → ArgumentErrorValue
+  no_node_version : (text : List ℕ) → ArgumentErrorValue
   no_steps : (text : List ℕ) → ArgumentErrorValue
 
 -- what is wrong with the value of an option: there is none, or it is no format or no group
@@ -80,15 +94,20 @@ fault_of before argument = argument_fault argument
 
 -- ---- their meaning
 
--- The text about the program, for `--help` and `--version`; the format; the groups that are left out; and the values of the options
+-- The text about the program, for `--help` and `--version`; the format; what counts of a version, peers if it is `None`; the groups that
+-- are left out; whether the lowest versions are preferred; and the values of the options
 pub record ArgumentsValue : Type 0 where
   pub shown : Option Shown
   pub format : Format
   pub packuments : Option (List ℕ)
   pub manifest : Option (List ℕ)
+  pub reach : Option Reach
   pub omits : Omits
   pub tag : Option (List ℕ)
   pub before : Option (List ℕ)
+  pub node : Option (List ℕ)
+  pub lowest : Bool
+  pub lock : Option (List ℕ)
   pub steps : Option (List ℕ)
 
 -- the format, by the text of the option: lines for a person if there is none
@@ -101,9 +120,13 @@ asked_by arguments = record {
   format = format_of (value_of (codes "--format") arguments);
   packuments = value_of (codes "--packuments") arguments;
   manifest = value_of (codes "--manifest") arguments;
+  reach = reach_in arguments;
   omits = omits_in arguments;
   tag = value_of (codes "--tag") arguments;
   before = value_of (codes "--before") arguments;
+  node = value_of (codes "--node") arguments;
+  lowest = is_given (codes "--lowest") arguments;
+  lock = value_of (codes "--lock") arguments;
   steps = value_of (codes "--steps") arguments;
 }
 
@@ -123,9 +146,13 @@ arguments_value asked = record {
   format = asked.format;
   packuments = text_value asked.packuments;
   manifest = text_value asked.manifest;
+  reach = asked.reach;
   omits = asked.omits;
   tag = text_value asked.tag;
   before = text_value asked.before;
+  node = text_value asked.node;
+  lowest = asked.lowest;
+  lock = text_value asked.lock;
   steps = text_value asked.steps;
 }
 
@@ -135,9 +162,13 @@ argument_error_value (Errors.UnknownOption quoted) = unknown_option quoted.text.
 argument_error_value (Errors.NoValue quoted) = no_value quoted.text.now
 argument_error_value (Errors.Format quoted) = no_format quoted.text.now
 argument_error_value (Errors.Omit quoted) = no_group quoted.text.now
+argument_error_value Errors.LockNotFlat = lock_not_flat
+argument_error_value Errors.LockOmits = lock_omits
+argument_error_value Errors.LockOfManifests = lock_of_manifests
 argument_error_value Errors.NoManifest = no_manifest
 argument_error_value Errors.NoPackuments = no_packuments
 argument_error_value (Errors.Time quoted) = no_time quoted.text.now
+argument_error_value (Errors.NodeVersion quoted) = no_node_version quoted.text.now
 argument_error_value (Errors.Steps quoted) = no_steps quoted.text.now
 
 abbrev pub arguments_result : Result Arguments ArgumentError → Result ArgumentsValue ArgumentErrorValue

@@ -1,16 +1,18 @@
 //! Reads the arguments of the program.
 ghost use Rattle.std.specs.Prelude.{◌≡◌, [], codes, false, map, option_map, string_bytes};
+ghost use Rattle.std.specs.Option.{option_or};
 ghost use Rattle.command_lines.specs.Arguments.{argument_value};
 ghost use Rattle.command_lines.specs.Given.{first_fault, is_among, meaning, value_of};
 ghost use Rattle.npm_resolve_command.specs.Arguments as ArgumentRules;
 ghost use Rattle.npm_resolve_command.specs.Arguments.{ArgumentErrorValue, argument_error_value, arguments_of, arguments_result};
-ghost use Rattle.npm_resolve_command.specs.Arguments.{arguments_value, fault_of, flags, formats, groups, text_value, valued};
+ghost use Rattle.npm_resolve_command.specs.Arguments.{arguments_value, fault_of, flags, formats, groups, reaches, text_value, valued};
 
 use crate::argument_error::ArgumentError;
 use command_lines::{
-    Argument, Faults, MAX_WORDS, Options, Quoted, Shown, has_value, shown_in, value_of,
+    Argument, Faults, MAX_WORDS, Options, Quoted, Shown, first_argument, has_value, is_given,
+    shown_in, value_of,
 };
-use npm_resolve::Omits;
+use npm_resolve::{Omits, Reach};
 use npm_resolve_reports::Format;
 
 /// What the arguments mean. A text is the value of the last option of its name.
@@ -22,9 +24,16 @@ pub struct Arguments<'a> {
     pub packuments: Option<&'a str>,
     /// A manifest. `values_of` lists all of them.
     pub manifest: Option<&'a str>,
+    /// Peers, if it is `None`.
+    pub reach: Option<Reach>,
     pub omits: Omits,
     pub tag: Option<&'a str>,
     pub before: Option<&'a str>,
+    pub node: Option<&'a str>,
+    /// The lowest versions are preferred.
+    pub lowest: bool,
+    /// A lock file.
+    pub lock: Option<&'a str>,
     pub steps: Option<&'a str>,
 }
 
@@ -40,6 +49,8 @@ impl Options for ResolveOptions {
             || word == "--omit"
             || word == "--tag"
             || word == "--before"
+            || word == "--node"
+            || word == "--lock"
             || word == "--steps"
             || word == "--format"
     }
@@ -49,7 +60,13 @@ impl Options for ResolveOptions {
 fn is_flag(word: &str) -> bool
     ensures { result ≡ is_among flags word.now }
 {
-    word == "--help" || word == "-h" || word == "--version" || word == "-V" || word == "--peers"
+    word == "--help"
+        || word == "-h"
+        || word == "--version"
+        || word == "-V"
+        || word == "--peers"
+        || word == "--flat"
+        || word == "--lowest"
 }
 
 /// Reads the words after the program's name. Of two values of an option the last one counts, but each group of `--omit`.
@@ -74,10 +91,50 @@ fn asked_by<'a>(words: &'a [String]) -> Arguments<'a>
         format: format_in(words),
         packuments: value_of::<ResolveOptions>(words, "--packuments"),
         manifest: value_of::<ResolveOptions>(words, "--manifest"),
+        reach: reach_in(words),
         omits: omits_in(words),
         tag: value_of::<ResolveOptions>(words, "--tag"),
         before: value_of::<ResolveOptions>(words, "--before"),
+        node: value_of::<ResolveOptions>(words, "--node"),
+        lowest: is_given::<ResolveOptions>(words, "--lowest"),
+        lock: value_of::<ResolveOptions>(words, "--lock"),
         steps: value_of::<ResolveOptions>(words, "--steps"),
+    }
+}
+
+/// What counts of a version, by the last of the options that say so.
+fn reach_in(words: &[String]) -> Option<Reach>
+    ensures { result ≡ ArgumentRules.reach_in (arguments_of (map string_bytes words.now)) }
+{
+    let mut reach = None;
+    let mut left = words;
+    'words: while let Some((argument, rest)) = first_argument::<ResolveOptions>(left) {
+        reach = later_reach(reach, argument.word);
+        left = rest;
+    }
+    reach
+}
+
+/// What the word says, or else the one before it.
+fn later_reach(before: Option<Reach>, word: &str) -> Option<Reach>
+    ensures { result ≡ option_or (meaning reaches word.now) before }
+{
+    match reach_of(word) {
+        Some(reach) => Some(reach),
+        None => before,
+    }
+}
+
+/// What counts of a version, as the option says.
+fn reach_of(word: &str) -> Option<Reach>
+    ensures { result ≡ meaning reaches word.now }
+{
+    if word == "--peers" {
+        Some(Reach::Peers)
+    } else if word == "--flat" {
+        Some(Reach::Dependencies)
+    } else {
+        None
     }
 }
 
@@ -111,6 +168,8 @@ fn format_of(text: &str) -> Option<Format>
         Some(Format::Text)
     } else if text == "json" {
         Some(Format::Json)
+    } else if text == "lock" {
+        Some(Format::Lock)
     } else {
         None
     }

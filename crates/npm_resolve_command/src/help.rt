@@ -12,8 +12,8 @@ Usage: npm_resolve [OPTIONS] --manifest FILE.. --packuments FOLDER
 It selects a version of each package that a package.json asks for, and of each package that a selected version has as
 a peer, so that all of their ranges are met: what npm install --strict-peer-deps must find, or stops at with ERESOLVE.
 Each version is the best one with which the others fit: the version of the tag, or else the newest. It writes a line
-NAME@VERSION for each. If no versions fit together, it writes which dependencies cannot be installed together; without
-any one of them the others can.
+NAME@VERSION for each. If no versions fit together, it writes which dependencies cannot be installed together, and why;
+without any one of them the others can.
 
 Options, of which the value may also be in the same word, as in --steps=1000:
   --manifest FILE    A package.json, of which dependencies, devDependencies, optionalDependencies and peerDependencies
@@ -23,8 +23,13 @@ Options, of which the value may also be in the same word, as in --steps=1000:
                      A folder with the documents of packages, as a registry serves them: NAME.json or NAME/package.json,
                      and @SCOPE/NAME alike. Only regular files are read.
                      Example: npm_resolve --manifest package.json --packuments mirror
-  --peers            Select the packages that the manifests ask for, and peers. This is the default.
+  --peers            Select the packages that the manifests ask for, and peers. This is the default. Of --peers and
+                     --flat the last one counts.
                      Example: npm_resolve --peers --manifest package.json --packuments mirror
+  --flat             Select one version of each package that is installed, as bundles for browsers and import maps need
+                     it: dependencies of selected versions count too. Their optionalDependencies only limit, and their
+                     devDependencies never count.
+                     Example: npm_resolve --flat --manifest package.json --packuments mirror
   --omit GROUP       Leave out devDependencies (dev), optionalDependencies (optional), or all peers (peer). It may be
                      given more than once.
                      Example: npm_resolve --omit dev --omit optional --manifest package.json --packuments mirror
@@ -33,10 +38,22 @@ Options, of which the value may also be in the same word, as in --steps=1000:
                      Example: npm_resolve --before 2024-03-01 --manifest package.json --packuments mirror
   --tag TAG          Prefer the version of this tag. The default is latest.
                      Example: npm_resolve --tag next --manifest package.json --packuments mirror
+  --node VERSION     Prefer versions whose engines.node admits this version of Node. 20 means 20.0.0, and v20.11
+                     means 20.11.0. With no --node each version of Node is fine.
+                     Example: npm_resolve --node 20 --manifest package.json --packuments mirror
+  --lowest           Prefer the lowest versions: those that the lower ends of the ranges allow. The tag does not count, and
+                     deprecated versions still come last.
+                     Example: npm_resolve --lowest --manifest package.json --packuments mirror
+  --lock FILE        A package-lock.json or npm-shrinkwrap.json of version 2 or 3. The version in node_modules/NAME comes
+                     first of the versions of NAME, so that little changes. If FILE is -, standard input is read.
+                     Example: npm_resolve --lock package-lock.json --manifest package.json --packuments mirror
   --steps N          Stop after N steps of the search; a step tries one version. The default is 10000000.
                      Example: npm_resolve --steps 100000 --manifest package.json --packuments mirror
-  --format FORMAT    text: write lines for a person. json: write a JSON object. The default is text.
+  --format FORMAT    text: write lines for a person. json: write a JSON object. lock: with --flat, one manifest and no --omit,
+                     write a package-lock.json of version 3; if no versions fit together, the lines of text. The default
+                     is text.
                      Example: npm_resolve --format json --manifest package.json --packuments mirror
+                     Example: npm_resolve --flat --format lock --manifest package.json --packuments mirror
   -h, --help         Write this text.
                      Example: npm_resolve --help
   -V, --version      Write the version of this program.

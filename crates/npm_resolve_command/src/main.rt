@@ -12,14 +12,16 @@ ghost use Rattle.npm_resolve_reports.specs.declared.reply.Ending.{Ending};
 mod argument_error;
 mod arguments;
 mod help;
+mod lock_file;
 mod program_error;
 mod values;
 
 use arguments::{Arguments, ResolveOptions, read_arguments};
 use command_lines::{Quoted, Shown, words_of};
 use help::{HELP, VERSION};
-use npm_pick_files::{checked_manifest, packument_in, value_at, values_of};
-use npm_resolve::Options;
+use lock_file::{LockFile, lock_in};
+use npm_pick_reports::{checked_manifest, packument_in, value_at, values_of};
+use npm_resolve::{Options, Reach};
 use npm_resolve_reports::{Done, Ending, Question, RunError, run};
 use program_error::ProgramError;
 use serde_json::Value;
@@ -27,7 +29,7 @@ use std::alloc::AllocError;
 use std::io;
 use std::io::Write;
 use std::process::ExitCode;
-use values::{before_of, folder_of, steps_of};
+use values::{before_of, check_lock, folder_of, node_of, steps_of, version_of};
 
 /// Ends with the status of `status_of`.
 fn main(rt: HostRuntime) -> ExitCode {
@@ -90,13 +92,24 @@ fn resolved<'a>(
     let folder = folder_of(&asked)?;
     let steps = steps_of(asked.steps)?;
     let before = before_of(rt.alloc(), asked.before)?;
-    let manifests = manifests_at(rt, words)?;
+    let paths = values_of::<ResolveOptions>(rt.alloc(), words, "--manifest")?;
+    check_lock(&asked, paths.len())?;
+    let node_text = node_of(rt.alloc(), asked.node)?;
+    let node_version = version_of(&node_text);
+    let node = node_version.as_ref();
+    let manifests = manifests_at(rt, &paths)?;
+    let lock_file = lock_file_at(rt, asked.lock)?;
+    let lock = lock_in(rt.alloc(), &lock_file)?;
     let question = Question {
         manifests: &manifests,
         options: Options {
             default_tag: asked.tag.unwrap_or("latest"),
             before,
+            node,
+            is_lowest: asked.lowest,
+            lock,
         },
+        reach: asked.reach.unwrap_or(Reach::Peers),
         omits: asked.omits,
         steps,
     };
@@ -105,26 +118,46 @@ fn resolved<'a>(
     Ok(done)
 }
 
-/// Reads the manifests that the words name.
-fn manifests_at<'a>(rt: &HostRuntime, words: &'a [String]) -> Result<Vec<Value>, ProgramError<'a>> {
+/// Reads the manifests at these paths.
+fn manifests_at<'a>(rt: &HostRuntime, paths: &[&'a str]) -> Result<Vec<Value>, ProgramError<'a>> {
     let mut manifests = Vec::new(rt.alloc());
-    for path in values_of::<ResolveOptions>(rt.alloc(), words, "--manifest")? {
-        let manifest = manifest_at(rt, path)?;
+    for path in paths {
+        let manifest = manifest_at(rt, *path)?;
         manifests.push(manifest).map_err(|_| AllocError)?;
     }
     Ok(manifests)
 }
 
-/// Reads a manifest; `-` is standard input.
+/// Reads a manifest.
 fn manifest_at<'a>(rt: &HostRuntime, path: &'a str) -> Result<Value, ProgramError<'a>> {
-    let quoted = Quoted { text: path };
-    let value = match value_at(rt, path) {
-        Ok(value) => value,
-        Err(error) => return Err(ProgramError::File("--manifest", quoted, error)),
-    };
+    let value = file_value(rt, "--manifest", path)?;
     match checked_manifest(value) {
         Ok(manifest) => Ok(manifest),
-        Err(fault) => Err(ProgramError::Manifest(quoted, fault)),
+        Err(fault) => Err(ProgramError::Manifest(Quoted { text: path }, fault)),
+    }
+}
+
+/// Reads the lock file, if one is named.
+fn lock_file_at<'a>(
+    rt: &HostRuntime,
+    path: Option<&'a str>,
+) -> Result<Option<LockFile<'a>>, ProgramError<'a>> {
+    let Some(path) = path else {
+        return Ok(None);
+    };
+    let value = file_value(rt, "--lock", path)?;
+    Ok(Some(LockFile { path, value }))
+}
+
+/// Reads the JSON value of the file after an option; `-` is standard input.
+fn file_value<'a>(
+    rt: &HostRuntime,
+    option: &'static str,
+    path: &'a str,
+) -> Result<Value, ProgramError<'a>> {
+    match value_at(rt, path) {
+        Ok(value) => Ok(value),
+        Err(error) => Err(ProgramError::File(option, Quoted { text: path }, error)),
     }
 }
 

@@ -25,6 +25,12 @@ pub enum ProgramError<'a> {
     /// The JSON value of this file is no manifest.
     #[error("--manifest {0}: {1}")]
     Manifest(Quoted<'a>, Fault),
+    /// The JSON value of this file is no lock file.
+    #[error("--lock {0}: {1}")]
+    Lock(Quoted<'a>, Fault),
+    /// The lock file is of another version.
+    #[error("--lock {0}: `lockfileVersion` is not 2 or 3")]
+    LockVersion(Quoted<'a>),
     /// The program stopped.
     #[error("{0}")]
     Run(RunError),

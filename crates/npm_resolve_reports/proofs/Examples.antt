@@ -1,1 +1,2 @@
 pub mod LineExamples
+pub mod SentenceExamples

@@ -48,6 +48,13 @@ module _ {A X : Type 0} (seen : A → X) (items : List A) where
         ∙ ap (λ l. l ++ (made (seen item) ∷ [])) held ∙ sym (map-append made (map seen (take i items)) (seen item ∷ []))
         ∙ ap (map made) (sym (seen_at i none small))
 
+    -- the same where the item has a name
+    pub one_more : (i : ℕ) (item : A) (old new : List V) (value : V) → i < length items → item ≡ get_or items i item
+        → new ≡ old ++ (value ∷ []) → shown value ≡ made (seen item)
+        → map shown old ≡ map made (map seen (take i items)) → map shown new ≡ map made (map seen (take (i + 1) items))
+    one_more i item old new value small here is same held =
+        one_at i item old new value small is (same ∙ ap (λ x. made (seen x)) here) held
+
     pub one_all : (i : ℕ) (old : List V) → length items ≤ i → map shown old ≡ map made (map seen (take i items))
         → map shown old ≡ map made (map seen items)
     one_all i old past held = held ∙ ap (λ l. map made (map seen l)) (take_all i items past)

@@ -1,4 +1,5 @@
 mod Gathered
 mod Texts
 mod Objects
+mod Reasons
 pub mod Examples

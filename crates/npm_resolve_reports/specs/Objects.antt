@@ -6,9 +6,12 @@ use Rattle.serde_json.specs.Written.{compact_text}
 use Rattle.npm_texts.specs.RangeText.{filled}
 use Rattle.npm_candidates.specs.Asks.{AskValue, ask_value}
 use Rattle.npm_resolve.specs.Answers.{ChosenValue, chosen_value}
+use Rattle.npm_resolve.specs.ReasonValues.{reasons_of}
 use Rattle.npm_resolve.specs.declared.answer.Resolution.{Resolution}
 use Rattle.npm_resolve.specs.declared.answer.Resolution.TheVariants as Resolutions
+use Rattle.npm_resolve.specs.declared.conflict.Conflict.{Conflict}
 use Rattle.npm_resolve.specs.declared.documents.Document.{Document}
+use Rattle.npm_resolve_reports.specs.ReasonObjects.{reasons_data}
 use Rattle.npm_resolve_reports.specs.Texts.{has_document}
 
 -- `{"name":"old","package":"react","version":"17.0.2"}`
@@ -27,20 +30,23 @@ culprit_data documents ask = object (member (codes "document") (boolean (has_doc
     (member (codes "name") (string ask.name) (member (codes "needed") (boolean ask.needed)
     (member (codes "spec") (string (filled ask.spec)) no_members))))
 
--- `{"culprits":[..],"outcome":"none"}`
-abbrev pub blamed_data : List Document → List AskValue → Data
-blamed_data documents asks = object (member (codes "culprits") (array (items_of (map (culprit_data documents) asks)))
-    (member (codes "outcome") (string (codes "none")) no_members))
+-- `{"culprits":[..],"outcome":"none","reasons":[..]}`
+abbrev pub conflict_data : List Document → Conflict → Data
+conflict_data documents conflict = object
+    (member (codes "culprits") (array (items_of (map (culprit_data documents) (map ask_value conflict.culprits.items))))
+    (member (codes "outcome") (string (codes "none")) (member (codes "reasons")
+    (reasons_data documents (reasons_of conflict)) no_members)))
 
 abbrev pub unblamed_data : Data
-unblamed_data = object (member (codes "culprits") null (member (codes "outcome") (string (codes "none")) no_members))
+unblamed_data = object (member (codes "culprits") null (member (codes "outcome") (string (codes "none"))
+    (member (codes "reasons") null no_members)))
 
 abbrev pub undecided_data : Data
 undecided_data = object (member (codes "outcome") (string (codes "undecided")) no_members)
 
 abbrev pub resolution_data : List Document → Resolution → Data
 resolution_data documents (Resolutions.Selected chosen) = selected_data (map chosen_value chosen.items)
-resolution_data documents (Resolutions.NoSelection (Some asks)) = blamed_data documents (map ask_value asks.items)
+resolution_data documents (Resolutions.NoSelection (Some conflict)) = conflict_data documents conflict
 resolution_data documents (Resolutions.NoSelection None) = unblamed_data
 resolution_data documents Resolutions.Undecided = undecided_data
 

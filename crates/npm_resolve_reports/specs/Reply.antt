@@ -1,20 +1,22 @@
 -- What is written for a question, and how the program ends.
-use Rattle.std.specs.Prelude.{◌≡◌, ℕ, List, Err, map}
+use Rattle.std.specs.Prelude.{◌≡◌, ℕ, List, map}
 use Rattle.npm_candidates.specs.Asks.{ask_value}
 use Rattle.npm_pick_reports.specs.Loading.{Loads}
-use Rattle.npm_pick_reports.specs.declared.format.Format.{Format}
-use Rattle.npm_pick_reports.specs.declared.format.Format.TheVariants.{Json, Text}
+use Rattle.serde_json.specs.declared.value.Value.{Value}
 use Rattle.npm_pick_reports.specs.Loading.{IsLoadFailure}
 use Rattle.npm_pick_reports.specs.declared.run_error.RunError.{RunError}
-use Rattle.npm_resolve.specs.Answers.{IsAnswer}
+use Rattle.npm_resolve.specs.Answers.{IsAnswer, chosen_value}
 use Rattle.npm_resolve.specs.Documents.{AreDocumentsFor}
 use Rattle.npm_resolve.specs.declared.answer.Answer.{Answer}
 use Rattle.npm_resolve.specs.declared.answer.Resolution.{Resolution}
 use Rattle.npm_resolve.specs.declared.answer.Resolution.TheVariants as Resolutions
 use Rattle.npm_resolve.specs.declared.documents.Document.{Document}
+use Rattle.npm_resolve_reports.specs.Locks.{AreLockLines}
 use Rattle.npm_resolve_reports.specs.Notes as Notes
 use Rattle.npm_resolve_reports.specs.Objects.{json_line}
-use Rattle.npm_resolve_reports.specs.Texts.{AreTextLines}
+use Rattle.npm_resolve_reports.specs.TextLines.{AreTextLines}
+use Rattle.npm_resolve_reports.specs.declared.format.Format.{Format}
+use Rattle.npm_resolve_reports.specs.declared.format.Format.TheVariants.{Json, Lock, Text}
 use Rattle.npm_resolve_reports.specs.declared.reply.Done.{Done}
 use Rattle.npm_resolve_reports.specs.declared.reply.Ending.{Ending}
 use Rattle.npm_resolve_reports.specs.declared.reply.Ending.TheVariants.{NoSelection, Selected, Undecided}
@@ -27,10 +29,18 @@ pub record ReplyValue : Type 0 where
   pub notes : List ℕ
   pub ending : Ending
 
+-- the lock file of what is selected, or lines for a person if nothing is
+abbrev pub AreFileLines : List Value → List Document → Resolution → (lines : List ℕ) → Type 0
+AreFileLines manifests documents (Resolutions.Selected chosen) lines =
+    AreLockLines manifests documents (map chosen_value chosen.items) lines
+AreFileLines manifests documents (Resolutions.NoSelection blamed) lines = AreTextLines documents (Resolutions.NoSelection blamed) lines
+AreFileLines manifests documents Resolutions.Undecided lines = AreTextLines documents Resolutions.Undecided lines
+
 -- the lines of a resolution
-abbrev pub AreLines : Format → List Document → Resolution → (lines : List ℕ) → Type 0
-AreLines Text documents resolution lines = AreTextLines documents resolution lines
-AreLines Json documents resolution lines = lines ≡ json_line documents resolution
+abbrev pub AreLines : Format → List Value → List Document → Resolution → (lines : List ℕ) → Type 0
+AreLines Text manifests documents resolution lines = AreTextLines documents resolution lines
+AreLines Json manifests documents resolution lines = lines ≡ json_line documents resolution
+AreLines Lock manifests documents resolution lines = AreFileLines manifests documents resolution lines
 
 abbrev pub ending_of : Resolution → Ending
 ending_of (Resolutions.Selected chosen) = Selected
@@ -41,10 +51,10 @@ ending_of Resolutions.Undecided = Undecided
 -- answer for them.
 pub record IsReply (Gives : Loads) (question : Question) (format : Format) (reply : ReplyValue) : Type 0 where
   pub documents : List Document
-  pub read : AreDocumentsFor Gives question.manifests.now question.options question.omits documents
+  pub read : AreDocumentsFor Gives question.manifests.now question.options question.reach question.omits documents
   pub answer : Answer
-  pub answered : IsAnswer question.manifests.now documents question.options question.omits answer
-  pub lines : AreLines format documents answer.resolution reply.lines
+  pub answered : IsAnswer question.manifests.now documents question.options question.reach question.omits answer
+  pub lines : AreLines format question.manifests.now documents answer.resolution reply.lines
   pub notes : reply.notes ≡ Notes.note_lines (map ask_value answer.left_out.items)
   pub ending : reply.ending ≡ ending_of answer.resolution
 

@@ -1,15 +1,13 @@
--- The lines for a person.
-use Rattle.std.specs.Prelude.{◌≡◌, ◌==◌, ◌++◌, ℕ, List, [], ◌∷◌, Bool, None, Option, Some, bytes_eq, codes, flat_map, if◌then◌else◌, length, map, string_bytes}
+-- What is selected and what cannot be installed together, in lines for a person.
+use Rattle.std.specs.Prelude.{◌≡◌, ◌==◌, ◌++◌, ℕ, List, [], ◌∷◌, Bool, bytes_eq, codes, flat_map, if◌then◌else◌, length, map, string_bytes}
 use Rattle.std.specs.Cmp.Lexicographic.{slice_cmp}
 use Rattle.std.specs.List.{list_any}
 use Rattle.std.specs.List.Sorted.{IsPermutation, IsSorted}
 use Rattle.std.specs.Ordering.{nat_cmp}
 use Rattle.command_lines.specs.Shown.{shown}
 use Rattle.npm_texts.specs.RangeText.{filled}
-use Rattle.npm_candidates.specs.Asks.{AskValue, ask_value}
-use Rattle.npm_resolve.specs.Answers.{ChosenValue, chosen_value}
-use Rattle.npm_resolve.specs.declared.answer.Resolution.{Resolution}
-use Rattle.npm_resolve.specs.declared.answer.Resolution.TheVariants as Resolutions
+use Rattle.npm_candidates.specs.Asks.{AskValue}
+use Rattle.npm_resolve.specs.Answers.{ChosenValue}
 use Rattle.npm_resolve.specs.declared.documents.Document.{Document}
 
 -- ---- what is selected
@@ -66,11 +64,3 @@ culprit_lines documents asks = culprits_head asks ++ flat_map (culprit_line docu
 -- it takes too long to find them
 abbrev pub unblamed_line : List ℕ
 unblamed_line = codes "No versions fit together. To say what cannot be installed together takes more steps." ++ (10 ∷ [])
-
--- ---- all lines
-
-abbrev pub AreTextLines : List Document → Resolution → (lines : List ℕ) → Type 0
-AreTextLines documents (Resolutions.Selected chosen) lines = AreTexts (map chosen_value chosen.items) lines
-AreTextLines documents (Resolutions.NoSelection (Some asks)) lines = lines ≡ culprit_lines documents (map ask_value asks.items)
-AreTextLines documents (Resolutions.NoSelection None) lines = lines ≡ unblamed_line
-AreTextLines documents Resolutions.Undecided lines = lines ≡ []

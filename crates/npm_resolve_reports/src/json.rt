@@ -7,8 +7,9 @@ ghost use Rattle.npm_resolve.specs.Answers.{chosen_value};
 ghost use Rattle.npm_resolve_reports.specs.Objects as Objects;
 
 use crate::Result;
+use crate::reasons_json::reasons_json;
 use crate::text::has_document;
-use npm_resolve::{Ask, Chosen, Document, Resolution};
+use npm_resolve::{Ask, Chosen, Conflict, Document, Resolution};
 use npm_texts::{filled, put_text};
 use serde_json::{Map, Value, put};
 use std::alloc::Global;
@@ -29,7 +30,11 @@ pub(crate) fn json_line(
 }
 
 /// The text of the object.
-fn json_text(alloc: Global, documents: &[Document], resolution: &Resolution<'_>) -> Result<String>
+pub(crate) fn json_text(
+    alloc: Global,
+    documents: &[Document],
+    resolution: &Resolution<'_>,
+) -> Result<String>
     ensures { IfOk result (λ text. string_bytes text ≡ Objects.json_text documents.now resolution.now) }
 {
     json_of(alloc, documents, resolution)?.to_string(alloc)
@@ -41,7 +46,7 @@ fn json_of(alloc: Global, documents: &[Document], resolution: &Resolution<'_>) -
 {
     match resolution {
         Resolution::Selected(chosen) => selected_json(alloc, chosen),
-        Resolution::NoSelection(Some(asks)) => blamed_json(alloc, documents, asks),
+        Resolution::NoSelection(Some(conflict)) => conflict_json(alloc, documents, conflict),
         Resolution::NoSelection(None) => unblamed_json(alloc),
         Resolution::Undecided => undecided_json(alloc),
     }
@@ -80,14 +85,16 @@ fn chosen_json(alloc: Global, chosen: Chosen<'_>) -> Result<Value>
     Ok(Value::Object(members))
 }
 
-/// The object of what cannot be installed together.
-fn blamed_json(alloc: Global, documents: &[Document], asks: &[Ask<'_>]) -> Result<Value>
-    ensures { IfOk result (λ value. view value ≡ Objects.blamed_data documents.now (map ask_value asks.now)) }
+/// The object of what cannot be installed together, and why.
+fn conflict_json(alloc: Global, documents: &[Document], conflict: &Conflict<'_>) -> Result<Value>
+    ensures { IfOk result (λ value. view value ≡ Objects.conflict_data documents.now conflict.now) }
 {
-    let culprits = culprit_values(alloc, documents, asks)?;
+    let culprits = culprit_values(alloc, documents, &conflict.culprits)?;
+    let reasons = reasons_json(alloc, documents, conflict.reasons.as_ref())?;
     let mut members = Map::new(alloc);
     put(&mut members, alloc, "culprits", Value::Array(culprits))?;
     put_text(&mut members, alloc, "outcome", "none")?;
+    put(&mut members, alloc, "reasons", reasons)?;
     Ok(Value::Object(members))
 }
 
@@ -116,7 +123,12 @@ fn culprit_json(alloc: Global, documents: &[Document], ask: Ask<'_>) -> Result<V
 }
 
 /// Adds a member whose value is `true` or `false`.
-fn put_bool(members: &mut Map<String, Value>, alloc: Global, name: &str, value: bool) -> Result<()>
+pub(crate) fn put_bool(
+    members: &mut Map<String, Value>,
+    alloc: Global,
+    name: &str,
+    value: bool,
+) -> Result<()>
     ensures { OnOk result (members_view members.new.entries
         ≡ with_member name.now (boolean value) (members_view members.old.entries)) }
 {
@@ -131,13 +143,14 @@ fn put_null(members: &mut Map<String, Value>, alloc: Global, name: &str) -> Resu
     put(members, alloc, name, Value::Null)
 }
 
-/// The object if it takes too long to find the culprits.
+/// The object if it takes too long to find what cannot be installed together.
 fn unblamed_json(alloc: Global) -> Result<Value>
     ensures { IfOk result (λ value. view value ≡ Objects.unblamed_data) }
 {
     let mut members = Map::new(alloc);
     put_null(&mut members, alloc, "culprits")?;
     put_text(&mut members, alloc, "outcome", "none")?;
+    put_null(&mut members, alloc, "reasons")?;
     Ok(Value::Object(members))
 }
 

@@ -1,14 +1,22 @@
 //! What a resolver says: the versions of packages that fit together, or what manifests ask for that cannot be met together.
 //!
-//! [`run`] writes the lines of the reply to a [`Question`], in a [`Format`], and returns how the program ends.
+//! [`run`] writes the lines of the reply to a [`Question`], in a [`Format`], and returns how the program ends. [`resolution_text`] is for
+//! other languages: it returns the JSON object of a resolution.
 #![tactic(auto)]
 
+mod format;
 mod json;
+mod lock;
 mod notes;
+mod object_text;
+mod reasons_json;
 mod reply;
+mod sentence;
 mod text;
 
-pub use npm_pick_reports::{Format, LoadError, RunError};
+pub use format::Format;
+pub use npm_pick_reports::{LoadError, RunError};
+pub use object_text::resolution_text;
 pub use reply::{Done, Ending, Question, run};
 
 /// The result of what fails by memory alone, if no other error is named.

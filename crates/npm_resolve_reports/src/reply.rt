@@ -3,13 +3,15 @@ ghost use Rattle.std.specs.Prelude.{◌≡◌, ◌≢◌, List, ℕ, IfErr, IfOk
 ghost use Rattle.std.specs.Fn.{FnReturnsAt};
 ghost use Rattle.std.specs.Io.KnownBytes.{Appends};
 ghost use Rattle.npm_resolve_reports.specs.Reply as Replies;
-ghost use Rattle.npm_resolve_reports.specs.Reply.{AreLines, IsFailure, IsReply, done_value, reply_value};
+ghost use Rattle.npm_resolve_reports.specs.Reply.{AreFileLines, AreLines, IsFailure, IsReply, done_value, reply_value};
 
+use crate::format::Format;
 use crate::json::json_line;
+use crate::lock::lock_lines;
 use crate::notes::note_lines;
 use crate::text::text_lines;
-use npm_pick_reports::{Format, LoadError, RunError};
-use npm_resolve::{Document, Omits, Options, Resolution, documents_for, resolved};
+use npm_pick_reports::{LoadError, RunError};
+use npm_resolve::{Document, Omits, Options, Reach, Resolution, documents_for, resolved};
 use serde_json::Value;
 use std::alloc::{AllocError, Global};
 use std::io::Write;
@@ -19,6 +21,7 @@ use std::io::Write;
 pub struct Question<'q> {
     pub manifests: &'q [Value],
     pub options: Options<'q>,
+    pub reach: Reach,
     pub omits: Omits,
     /// So many steps are done at most, and so many again to find what cannot be installed together.
     pub steps: u64,
@@ -103,17 +106,18 @@ fn reply_of<F: Fn(&str) -> Result<Option<Value>, LoadError>>(
     let Question {
         manifests,
         options,
+        reach,
         omits,
         steps,
     } = question;
-    let documents = match documents_for(alloc, manifests, &options, omits, load) {
+    let documents = match documents_for(alloc, manifests, &options, reach, omits, load) {
         Ok(documents) => documents,
         Err(LoadError::Memory) => return Err(RunError::Memory),
         Err(error) => return Err(RunError::Load(error)),
     };
-    let answer = resolved(alloc, manifests, &documents, &options, omits, steps)?;
+    let answer = resolved(alloc, manifests, &documents, &options, reach, omits, steps)?;
     Ok(Reply {
-        lines: lines_of(alloc, &documents, &answer.resolution, format)?,
+        lines: lines_of(alloc, manifests, &documents, &answer.resolution, format)?,
         done: Done {
             ending: ending_of(&answer.resolution),
             notes: note_lines(alloc, &answer.left_out)?,
@@ -122,17 +126,36 @@ fn reply_of<F: Fn(&str) -> Result<Option<Value>, LoadError>>(
 }
 
 /// The lines of a resolution.
-fn lines_of(
+fn lines_of<'v>(
     alloc: Global,
-    documents: &[Document],
-    resolution: &Resolution<'_>,
+    manifests: &'v [Value],
+    documents: &'v [Document],
+    resolution: &Resolution<'v>,
     format: Format,
 ) -> Result<Vec<u8>, AllocError>
-    ensures { IfOk result (λ lines. AreLines format documents.now resolution.now lines.items) }
+    ensures { IfOk result (λ lines. AreLines format manifests.now documents.now resolution.now lines.items) }
 {
     match format {
         Format::Text => text_lines(alloc, documents, resolution),
         Format::Json => json_line(alloc, documents, resolution),
+        Format::Lock => file_lines(alloc, manifests, documents, resolution),
+    }
+}
+
+/// The lock file of what is selected, or lines of text if nothing is.
+fn file_lines<'v>(
+    alloc: Global,
+    manifests: &'v [Value],
+    documents: &'v [Document],
+    resolution: &Resolution<'v>,
+) -> Result<Vec<u8>, AllocError>
+    ensures { IfOk result (λ lines. AreFileLines manifests.now documents.now resolution.now lines.items) }
+{
+    match resolution {
+        Resolution::Selected(chosen) => lock_lines(alloc, manifests, documents, chosen),
+        Resolution::NoSelection(_) | Resolution::Undecided => {
+            text_lines(alloc, documents, resolution)
+        }
     }
 }
 

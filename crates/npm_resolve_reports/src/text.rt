@@ -2,12 +2,16 @@
 ghost use Rattle.std.specs.Prelude.{◌≡◌, ◌++◌, IfOk, OnOk, map, string_bytes};
 ghost use Rattle.npm_candidates.specs.Asks.{ask_value};
 ghost use Rattle.npm_resolve.specs.Answers.{chosen_value};
+ghost use Rattle.npm_resolve.specs.ReasonValues.{reason_value};
+ghost use Rattle.npm_resolve_reports.specs.TextLines as TextLines;
+ghost use Rattle.npm_resolve_reports.specs.TextLines.{AreTextLines};
 ghost use Rattle.npm_resolve_reports.specs.Texts as Texts;
-ghost use Rattle.npm_resolve_reports.specs.Texts.{AreTexts, AreTextLines};
+ghost use Rattle.npm_resolve_reports.specs.Texts.{AreTexts};
 
 use crate::Result;
+use crate::sentence::Sentence;
 use command_lines::push_shown;
-use npm_resolve::{Ask, Chosen, Document, Resolution};
+use npm_resolve::{Ask, Chosen, Conflict, Document, Reason, Resolution};
 use npm_texts::filled;
 use std::alloc::Global;
 
@@ -21,7 +25,7 @@ pub(crate) fn text_lines(
 {
     match resolution {
         Resolution::Selected(chosen) => chosen_lines(alloc, chosen),
-        Resolution::NoSelection(Some(asks)) => culprit_lines(alloc, documents, asks),
+        Resolution::NoSelection(Some(conflict)) => conflict_lines(alloc, documents, conflict),
         Resolution::NoSelection(None) => unblamed_line(alloc),
         Resolution::Undecided => Ok(Vec::new(alloc)),
     }
@@ -79,6 +83,48 @@ fn push_line(lines: &mut Vec<u8>, text: &str) -> Result<()>
 {
     push_shown(lines, text)?;
     lines.extend_from_slice(b"\n")
+}
+
+/// What cannot be installed together, and why.
+fn conflict_lines(alloc: Global, documents: &[Document], conflict: &Conflict<'_>) -> Result<Vec<u8>>
+    ensures { IfOk result (λ lines. lines.items ≡ TextLines.conflict_lines documents.now conflict.now) }
+{
+    let mut lines = culprit_lines(alloc, documents, &conflict.culprits)?;
+    if let Some(reasons) = &conflict.reasons {
+        push_reasons(alloc, &mut lines, documents, reasons)?;
+    }
+    Ok(lines)
+}
+
+/// Adds why it cannot be installed.
+fn push_reasons(
+    alloc: Global,
+    lines: &mut Vec<u8>,
+    documents: &[Document],
+    reasons: &[Reason<'_>],
+) -> Result<()>
+    ensures { OnOk result (lines.new.items ≡ lines.old.items ++ TextLines.reason_lines documents.now (map reason_value reasons.now)) }
+{
+    lines.extend_from_slice(b"because\n")?;
+    for (place, reason) in reasons.iter().enumerate() {
+        push_reason(alloc, lines, place, Sentence { documents, reason })?;
+    }
+    Ok(())
+}
+
+/// Adds a line of the reasons.
+fn push_reason(
+    alloc: Global,
+    lines: &mut Vec<u8>,
+    place: usize,
+    sentence: Sentence<'_>,
+) -> Result<()>
+    ensures { OnOk result (lines.new.items ≡ lines.old.items
+        ++ TextLines.reason_line sentence.entry.documents.now place (reason_value sentence.entry.reason.now)) }
+{
+    let number = place as u128 + 1;
+    let line = format!(in alloc; "  {number}. {sentence}\n")?;
+    lines.extend_from_slice(line.as_bytes())
 }
 
 /// What cannot be installed together.

@@ -220,8 +220,8 @@ fn leaves_both_alone_where_a_gauge_had_failed(rt: HostRuntime) {
     }
 }
 
-/// `.ci/refuse_memory` makes each allocation of the program fail in turn, and `rt try --test --fail-alloc N` makes one
-/// of this test fail.
+/// `tests/memory` has each allocation of the program fail in turn, and `rt try --test --fail-alloc N` makes one of this
+/// test fail.
 #[test]
 fn answers_or_says_that_memory_is_out(rt: HostRuntime) {
     let outcome = outcome_of(rt.alloc(), PAIRS, (7, usize::MAX), WHOLE);

@@ -5,3 +5,5 @@ pub mod Conflicts
 pub mod Steps
 pub mod Examples
 pub mod Missed
+mod Places
+mod Grown

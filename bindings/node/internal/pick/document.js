@@ -15,9 +15,9 @@ const HALF = /[\ud800-\udbff](?![\udc00-\udfff])|(?<![\ud800-\udbff])[\udc00-\ud
 const PLAIN_TIME = /^\d{4}-(?:0[1-9]|1[0-2])-(?:0[1-9]|1\d|2[0-8])T(?:[01]\d|2[0-3]):[0-5]\d:[0-5]\d\.\d{3}Z$/;
 // It is no time, so the library never takes it to be in time.
 const NO_TIME = '"-"';
-// The first and the last time that have four digits for the year.
+// The first and the last time that the library reads.
 const FIRST = Date.parse('0000-01-01T00:00:00.000Z');
-const LAST = Date.parse('9999-12-31T23:59:59.999Z');
+const LAST = Date.parse('9999-12-30T22:00:00.999Z');
 
 const wellFormed = (text) => text.replace(HALF, '\ufffd');
 const quoted = (text) => (PLAIN.test(text) ? `"${text}"` : JSON.stringify(wellFormed(text)));

@@ -17,7 +17,7 @@ const root = path.join(__dirname, '../..');
 function build(native, sources, made) {
     const room = fs.mkdtempSync(path.join(os.tmpdir(), 'refused-'));
     process.once('exit', () => fs.rmSync(room, { recursive: true }));
-    for (const name of ['index.js', 'pick.js', 'package.json', 'internal', 'build/Release']) {
+    for (const name of ['index.js', 'pick.js', 'resolve.js', 'package.json', 'internal', 'build/Release']) {
         fs.cpSync(path.join(root, name), path.join(room, name), { recursive: true });
     }
     const include = path.join(path.dirname(fs.realpathSync(process.execPath)), '../include/node');

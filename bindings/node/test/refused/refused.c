@@ -3,8 +3,8 @@
  * The native part with two more functions. `refuse(count, isOne)` lets so many allocations through and refuses the next
  * one or all that follow, or none if the count is negative, and returns how many blocks are not yet freed. `refusals()`
  * returns how many were refused since then. The linker's `--wrap` sends the allocations of the package and of the
- * library here. NATIVE names the native part: `refused.test.js` builds this file with the native part of the package, and
- * `pick-refused.test.js` with that of `pick.js`.
+ * library here. NATIVE names the native part: `refused.test.js` builds this file with the native part of the package,
+ * `pick-refused.test.js` with that of `pick.js`, and `resolve-refused.test.js` with that of `resolve.js`.
  */
 #include <node_api.h>
 

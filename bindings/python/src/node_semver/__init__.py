@@ -1,5 +1,6 @@
 # SPDX-License-Identifier: Apache-2.0
-"""npm's versions and version ranges: `Version` and `Range`; and the version that npm would install: `pick`.
+"""npm's versions and version ranges: `Version` and `Range`; and the version that npm would install: `pick`;
+and versions that fit together: `resolve`.
 
 >>> wanted = Range('^1.2.3-rc.4 || >=3')
 >>> '1.9.0' in wanted
@@ -13,10 +14,12 @@ True
 from ._error import BumpError, BumpFault, FaultKind, SemverError
 from ._native import Range, Version, satisfies
 from ._picking import PickCode, Picked, PickError, PickFault, pick
+from ._resolving import Chosen, Culprit, Group, NoSelection, Reason, Resolution, Selected, Undecided, Wish, resolve
 from ._types import Bump, Cut, CutKind, Interval, ReleaseType
 
 __all__ = [
-    "Bump", "BumpError", "BumpFault", "Cut", "CutKind", "FaultKind", "Interval", "PickCode", "PickError", "PickFault",
-    "Picked", "Range", "ReleaseType", "SemverError", "Version", "pick", "satisfies",
+    "Bump", "BumpError", "BumpFault", "Chosen", "Culprit", "Cut", "CutKind", "FaultKind", "Group", "Interval", "NoSelection",
+    "PickCode", "PickError", "PickFault", "Picked", "Range", "Reason", "ReleaseType", "Resolution", "Selected", "SemverError",
+    "Undecided", "Version", "Wish", "pick", "resolve", "satisfies",
 ]  # fmt: skip
 __version__ = "1.0.0"

@@ -14,11 +14,12 @@ PACKAGE = os.path.dirname(os.path.dirname(os.path.dirname(os.path.abspath(__file
 ROOT = os.path.dirname(os.path.dirname(PACKAGE))
 PYTHON = sys.executable
 
-# A program that uses each of the two extension modules, with what it prints.
+# A program that uses each of the three extension modules, with what it prints.
 PROGRAM = """
 from importlib.metadata import PackageNotFoundError, version
-from node_semver import Range, pick
-print("1.9.0" in Range("^1.2 || 3"), pick({"versions": {"1.9.0": {}}}, "^1").version, version("denimscree-semver"))
+from node_semver import Range, pick, resolve
+print("1.9.0" in Range("^1.2 || 3"), pick({"versions": {"1.9.0": {}}}, "^1").version, resolve({}, {})["outcome"],
+    version("denimscree-semver"))
 for other in ("node_semver", "node-semver"):
     try:
         print(version(other))
@@ -33,7 +34,7 @@ def content(*names: str) -> str:
 
 
 VERSION = content(ROOT, "VERSION").strip()
-PRINTED = f"True 1.9.0 {VERSION}\nno node_semver\nno node-semver\n"
+PRINTED = f"True 1.9.0 selected {VERSION}\nno node_semver\nno node-semver\n"
 [WHEEL] = glob(os.path.join(os.environ["DISTRIBUTIONS"], "*.whl"))
 [SOURCES] = glob(os.path.join(os.environ["DISTRIBUTIONS"], "*.tar.gz"))
 

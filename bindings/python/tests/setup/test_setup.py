@@ -26,6 +26,8 @@ MAKEFILE = """
 all: build/libnode_semver.a
 pick: all
 \tcp build/libnode_semver.a build/libnpm_pick.a
+resolve: all
+\tcp build/libnode_semver.a build/libnpm_resolve.a
 build/libnode_semver.a: ../../crates/one/source.c
 \tmkdir -p build
 \tcc -fPIC -c -o build/source.o $<
@@ -44,7 +46,7 @@ class Setup(unittest.TestCase):
         skipped = shutil.ignore_patterns("build", "tests", "__pycache__", "*.egg-info")
         shutil.copytree(PACKAGE, self.python, ignore=skipped)
         os.makedirs(os.path.join(self.c, "include"))
-        for name in ("node_semver.h", "npm_pick.h"):
+        for name in ("node_semver.h", "npm_pick.h", "npm_resolve.h"):
             header = os.path.join("include", name)
             shutil.copy(os.path.join(os.path.dirname(PACKAGE), "c", header), os.path.join(self.c, header))
         os.makedirs(os.path.dirname(self.source))
@@ -98,7 +100,7 @@ class Setup(unittest.TestCase):
         self.assertEqual((self.linked(), self.times_built()), ("third", 3))
 
     def installed(self) -> str:
-        """The path of a library, installed with its header and the second one into a folder of their own."""
+        """The path of a library, installed with its header and the two others into a folder of their own."""
         self.write(self.source, SOURCE % "first")
         self.linked()
         prefix = os.path.join(os.path.dirname(self.python), "prefix")
@@ -114,7 +116,7 @@ class Setup(unittest.TestCase):
         self.assertEqual(self.linked(NODE_SEMVER_LIBRARY=older), "first")
         moved = os.path.join(self.python, "moved")
         os.mkdir(moved)
-        for name in ("libnode_semver.a", "libnpm_pick.a"):
+        for name in ("libnode_semver.a", "libnpm_pick.a", "libnpm_resolve.a"):
             shutil.copy(os.path.join(os.path.dirname(older), name), moved)
         headers = os.path.join(self.c, "include")
         moved = os.path.join(moved, "libnode_semver.a")
@@ -125,7 +127,7 @@ class Setup(unittest.TestCase):
     def test_says_what_is_missing(self) -> None:
         library = self.installed()
         header = os.path.join(os.path.dirname(os.path.dirname(library)), "include", "npm_pick.h")
-        pick = os.path.join(os.path.dirname(library), "libnpm_pick.a")
+        pick, resolve = (os.path.join(os.path.dirname(library), name) for name in ("libnpm_pick.a", "libnpm_resolve.a"))
         shutil.rmtree(self.c)
         self.refused("NODE_SEMVER_LIBRARY is not set.")
         self.refused("NODE_SEMVER_LIBRARY is not set.", NODE_SEMVER_LIBRARY="")
@@ -140,11 +142,12 @@ class Setup(unittest.TestCase):
         self.refused(f"There is no header {header}.", NODE_SEMVER_LIBRARY=library)
         self.write(header, text)
         self.assertEqual(self.linked(NODE_SEMVER_LIBRARY=library), "first")
-        os.remove(pick)
-        self.refused(f"There is no library {pick}.", NODE_SEMVER_LIBRARY=library)
+        for missing in (resolve, pick):
+            os.remove(missing)
+            self.refused(f"There is no library {missing}.", NODE_SEMVER_LIBRARY=library)
 
     def test_says_that_make_failed(self) -> None:
-        self.write(os.path.join(self.c, "Makefile"), "all pick:\n\t@echo rt is not in PATH >&2; exit 1\n")
+        self.write(os.path.join(self.c, "Makefile"), "all pick resolve:\n\t@echo rt is not in PATH >&2; exit 1\n")
         status, said = self.build()
         self.assertEqual(status, 1, said)
         self.assertIn("\nrt is not in PATH\n", "\n" + said)

@@ -6,7 +6,7 @@ import functools
 from typing import List, Optional, Tuple, Union
 
 from node_semver import Bump, BumpError, BumpFault, Cut, CutKind, FaultKind, Interval, Range, ReleaseType, SemverError
-from node_semver import PickCode, Picked, PickError, PickFault, Version, pick, satisfies
+from node_semver import PickCode, Picked, PickError, PickFault, Resolution, Version, pick, resolve, satisfies
 
 version: Version = Version("1.2.3-rc.4")
 strict: Version = Version("1.2.3-rc.4", strict=True)
@@ -73,3 +73,9 @@ try:
     pick(b"{}", "next", before="2020-01-01T00:00:00Z", default_tag="next", npm=None, include_staged=False)
 except PickError as none:
     cause: Tuple[PickFault, PickCode, str] = (none.kind, none.code, none.wanted)
+
+answer: Resolution = resolve({"dependencies": {"one": "^1"}}, b"{}", before="2020-01-01T00:00:00Z", omit=["dev", "peer"], steps=7)
+if answer["outcome"] == "selected":
+    names: List[str] = [f"{one['name']}@{one['version']}" for one in answer["packages"]]
+elif answer["outcome"] == "none":
+    specs: List[str] = [one["spec"] for one in answer["culprits"] or []]

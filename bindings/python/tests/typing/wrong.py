@@ -3,7 +3,7 @@
 
 from typing import List
 
-from node_semver import Range, SemverError, Version, satisfies
+from node_semver import Range, SemverError, Version, resolve, satisfies
 
 version = Version("1.2.3")
 wanted = Range("^1")
@@ -52,6 +52,12 @@ Range.from_sets([(("before", version), ("none", None))])  # wrong
 Range.from_sets([(("before", 1), ("end", None))])  # wrong
 wanted.sets[0][0][1].major  # wrong
 wanted.sets = ()  # wrong
+resolve({})  # wrong
+resolve({}, [])  # wrong
+resolve({}, {}, omit="all")  # wrong
+resolve({}, {}, steps="7")  # wrong
+resolve({}, {}, 7)  # wrong
+resolve({}, {})["packages"]  # wrong
 
 
 class Child(Version):  # wrong

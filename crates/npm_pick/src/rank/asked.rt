@@ -50,8 +50,8 @@ impl<'v, 'o> Asked<'v, 'o> {
     }
 }
 
-/// A range of `engines`.
-fn engine_of<'v>(manifest: &'v Value, engine: &str) -> Option<&'v Value>
+/// Returns what the `engines` of a manifest ask of an engine: `>=18` of `{"engines": {"node": ">=18"}}`. Does not allocate.
+pub fn engine_of<'v>(manifest: &'v Value, engine: &str) -> Option<&'v Value>
     ensures { option_map (λ asked. view asked.now) result ≡ Ranks.engine_of (view manifest.now) engine.now }
 {
     manifest.get("engines")?.get(engine)
@@ -68,8 +68,21 @@ fn fits(alloc: Global, version: &Option<VersionRef<'_>>, asked: Option<&Value>) 
     }
 }
 
-/// Returns `true` if a range of `engines` admits this version of the engine.
-fn is_engine_for(alloc: Global, version: &VersionRef<'_>, asked: &Value) -> Result<bool>
+/// Returns `true` if a range of `engines` admits this version of the engine. What JavaScript counts as false admits each version, and
+/// any other value that is no text, or no range, admits none.
+///
+/// # Errors
+///
+/// An allocation failed.
+///
+/// # Memory
+///
+/// Allocates the range while it runs.
+///
+/// # Examples
+///
+/// `>=18` admits 20.11.1 and not 16.20.2.
+pub fn is_engine_for(alloc: Global, version: &VersionRef<'_>, asked: &Value) -> Result<bool>
     ensures { IfOk result (λ fits. IsTrue fits ↔ Ranks.IsEngineFor version.now (view asked.now)) }
 {
     if !is_true(asked) {

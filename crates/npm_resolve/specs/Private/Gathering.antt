@@ -5,6 +5,7 @@ use Rattle.std.specs.List.{All, AllZip, Contains}
 use Rattle.npm_candidates.specs.Asks.{AskValue, is_registered}
 use Rattle.npm_candidates.specs.declared.options.Omits.{Omits}
 use Rattle.npm_candidates.specs.declared.options.Options.{Options}
+use Rattle.npm_candidates.specs.declared.owner.Reach.{Reach}
 use Rattle.npm_pick_reports.specs.Loading.{Loads}
 use Rattle.serde_json.specs.declared.value.Value.{Value}
 use Rattle.npm_resolve.specs.Documents.{ArePeers, ArePeersOf, IsAskedAs, IsFound, IsRead, all_asked}
@@ -52,15 +53,15 @@ pub record AreBegun (omits : Omits) (manifests : List Value) (requests : Request
   pub added : AreAdded wishes start requests
 
 -- The package of a request has no document, or one, whose candidates ask for more.
-pub data IsAnswered (Gives : Loads) (options : Options) (omits : Omits) (name of_package : List ℕ) (documents new_documents : List Document)
+pub data IsAnswered (Gives : Loads) (options : Options) (reach : Reach) (omits : Omits) (name of_package : List ℕ) (documents new_documents : List Document)
     (old new : Requests)
     : Type 0 where
   absent : Gives of_package (Ok None) → new_documents ≡ documents → new ≡ old
-      → IsAnswered Gives options omits name of_package documents new_documents old new
+      → IsAnswered Gives options reach omits name of_package documents new_documents old new
   found : (document : Document) (peers : List AskValue) → string_bytes document.name ≡ name
       → string_bytes document.package ≡ of_package → Gives of_package (Ok (Some document.packument))
-      → new_documents ≡ documents ++ (document ∷ []) → ArePeers options omits document.packument peers → AreAdded peers old new
-      → IsAnswered Gives options omits name of_package documents new_documents old new
+      → new_documents ≡ documents ++ (document ∷ []) → ArePeers options reach omits document.packument peers → AreAdded peers old new
+      → IsAnswered Gives options reach omits name of_package documents new_documents old new
 
 -- What is asked for was seen. What waits was asked for, and so was each document; and a name that was seen waits, or is read.
 pub record AreHeld (Gives : Loads) (asked : List AskValue) (documents : List Document) (requests : Requests) : Type 0 where
@@ -71,9 +72,9 @@ pub record AreHeld (Gives : Loads) (asked : List AskValue) (documents : List Doc
       → IsWaiting requests.queue.items name ⊎ IsRead Gives asked documents name
 
 -- The same of what the manifests and the candidates of the documents so far ask for.
-pub record AreGathered (Gives : Loads) (options : Options) (omits : Omits) (wishes : List AskValue) (documents : List Document)
+pub record AreGathered (Gives : Loads) (options : Options) (reach : Reach) (omits : Omits) (wishes : List AskValue) (documents : List Document)
     (requests : Requests)
     : Type 0 where
   pub peers : List (List AskValue)
-  pub of_documents : AllZip (ArePeersOf options omits) documents peers
+  pub of_documents : AllZip (ArePeersOf options reach omits) documents peers
   pub held : AreHeld Gives (all_asked wishes peers) documents requests

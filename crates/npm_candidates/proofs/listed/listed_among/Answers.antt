@@ -5,17 +5,17 @@ use Rattle.npm_pick.specs.Packument.{releases_among}
 use Rattle.npm_candidates.specs.Candidates.{listed, none, passed}
 use Rattle.npm_candidates.proofs.listed.listed_among.Goals as goal
 
-pub loop-key-preserved-in-Continue-1 : goal.loop-key-preserved-in-Continue-1
-loop-key-preserved-in-Continue-1 c = λ later are.
+pub loop-key-preserved-in-Continue-branch-3 : goal.loop-key-preserved-in-Continue-branch-3
+loop-key-preserved-in-Continue-branch-3 c = λ later are.
     let so = rw c.in-Some.ensures.steps at c.loop-key.invariant in
-    let found = rw c.in-Some-candidate_of.is at c.candidate_of.ensures.found in
-    rw (c.in_ok-push.ensures.items, append_assoc) (so (c.in-Some-candidate_of.candidate ∷ later)
-    (listed _ c.in-Some-candidate_of.candidate _ later (rw c.as_str.ensures.value at found) are))
+    let found = rw c.in-Some-2.is at c.in_ok-candidate.ensures.found in
+    rw (c.in_ok-push.ensures.items, append_assoc) (so (c.in-Some-2.candidate ∷ later)
+    (listed _ c.in-Some-2.candidate _ later (rw c.as_str.ensures.value at found) are))
 
 pub loop-key-preserved : goal.loop-key-preserved
 loop-key-preserved c = λ later are.
     let so = rw c.in-Some.ensures.steps at c.loop-key.invariant in
-    let without = rw c.in_default.is at c.candidate_of.ensures.none in
+    let without = rw c.in_default.is at c.in_ok-candidate.ensures.none in
     so later (passed _ _ later (rw c.as_str.ensures.value at without) are)
 
 pub returns : goal.returns

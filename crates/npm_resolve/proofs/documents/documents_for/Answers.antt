@@ -12,7 +12,7 @@ loop-init g c =
       begun.left_out,
       begun.of_root,
       rw c.new-documents.ensures.items (begins (FnReturnsAt g.F.Fn c.args.load)
-          c.args.options.now c.args.omits begun.wishes begun.start c.in-Ok.requests begun.empty begun.unseen begun.added),
+          c.args.options.now c.args.reach c.args.omits begun.wishes begun.start c.in-Ok.requests begun.empty begun.unseen begun.added),
     )
 
 pub loop-preserved : goal.loop-preserved
@@ -21,7 +21,7 @@ loop-preserved g c =
       held.0,
       held.1,
       held.2,
-      gathered_more (FnReturnsAt g.F.Fn c.args.load) c.args.options.now c.args.omits held.0
+      gathered_more (FnReturnsAt g.F.Fn c.args.load) c.args.options.now c.args.reach c.args.omits held.0
           c.loop.documents.items c.loop.requests _ _ c.in-Some.request (rw c.in-Some.is at c.pop_front.ensures.items) refl held.3 _
           c.in_ok-add_document.ensures.added,
     )

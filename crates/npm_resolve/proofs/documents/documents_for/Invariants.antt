@@ -8,4 +8,4 @@ use Rattle.npm_resolve.proofs.documents.documents_for.Given as goal
 
 abbrev pub invariant-loop : goal.invariant-loop
 invariant-loop g l = (wishes left_out : List AskValue) × AreWishes l.omits l.manifests wishes left_out
-    × AreGathered (FnReturnsAt g.F.Fn l.load) l.options l.omits wishes l.documents.items l.requests
+    × AreGathered (FnReturnsAt g.F.Fn l.load) l.options l.reach l.omits wishes l.documents.items l.requests

@@ -6,7 +6,7 @@ use Rattle.npm_resolve.proofs.Zips.{item_more}
 use Rattle.npm_resolve.proofs.instance.askers_of.Goals as goal
 
 pub loop-candidate-preserved : goal.loop-candidate-preserved
-loop-candidate-preserved c = rw c.in_ok-push.ensures.items (item_more (IsAsker c.args.omits) c.args.candidates.now
+loop-candidate-preserved c = rw c.in_ok-push.ensures.items (item_more (IsAsker c.args.reach c.args.omits) c.args.candidates.now
     c.loop-candidate.askers.items c.loop-candidate.candidate-index c.candidate-item.result _ c.loop-candidate-test.true
     c.candidate-item.is c.loop-candidate.invariant
     (map ask_value c.in_ok-found.found.left_out.items, c.in_ok-found.ensures))

@@ -4,4 +4,4 @@ use Rattle.npm_resolve.specs.Instance.{AreListed}
 use Rattle.npm_resolve.proofs.instance.askers_of.Given as goal
 
 abbrev pub invariant-loop-candidate : goal.invariant-loop-candidate
-invariant-loop-candidate l = AreListed l.omits (take l.candidate-index l.candidates) l.askers.items
+invariant-loop-candidate l = AreListed l.reach l.omits (take l.candidate-index l.candidates) l.askers.items

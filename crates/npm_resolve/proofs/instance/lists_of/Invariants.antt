@@ -5,4 +5,4 @@ use Rattle.npm_resolve.specs.Instance.{IsListedFor}
 use Rattle.npm_resolve.proofs.instance.lists_of.Given as goal
 
 abbrev pub invariant-loop-offer : goal.invariant-loop-offer
-invariant-loop-offer l = AllZip (IsListedFor l.omits) (take l.offer-index l.offers) l.lists.items
+invariant-loop-offer l = AllZip (IsListedFor l.reach l.omits) (take l.offer-index l.offers) l.lists.items

@@ -16,7 +16,7 @@ loop-candidate-preserved c =
     let held = c.loop-candidate.invariant in
     let asks = map ask_value c.in_ok-found.found.asks.items in (
       held.0 ++ asks ∷ [],
-      item_more (IsPeer c.args.omits) c.deref-candidate-items.result.now held.0 c.loop-candidate.candidate-index c.candidate-item.result asks
+      item_more (IsPeer c.args.reach c.args.omits) c.deref-candidate-items.result.now held.0 c.loop-candidate.candidate-index c.candidate-item.result asks
           c.loop-candidate-test.true c.candidate-item.is held.1 (map ask_value c.in_ok-found.found.left_out.items, c.in_ok-found.ensures),
       peers_more held.0 asks _ _ _ held.2 (rw c.deref.ensures.value at c.in_ok-add_all.ensures),
     )

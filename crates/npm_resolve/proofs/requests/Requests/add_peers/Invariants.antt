@@ -7,5 +7,5 @@ use Rattle.npm_resolve.specs.Private.Gathering.{AreAdded}
 use Rattle.npm_resolve.proofs.requests.Requests.add_peers.Given as goal
 
 abbrev pub invariant-loop-candidate : goal.invariant-loop-candidate
-invariant-loop-candidate l = (each : List (List AskValue)) × AllZip (IsPeer l.omits) (take l.candidate-index l.candidate-items) each
+invariant-loop-candidate l = (each : List (List AskValue)) × AllZip (IsPeer l.reach l.omits) (take l.candidate-index l.candidate-items) each
     × AreAdded (flat_map (λ (asks : List AskValue). asks) each) l.initial.self l.self

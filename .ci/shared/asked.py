@@ -1,0 +1,132 @@
+"""What the programs that answer calls return for the lines that tests ask, where these programs are not built: `rt try` runs each of
+them once with all these lines. The answers are kept by the sum of what the program is made of.
+
+The tests say themselves what they ask: they run once with DENIMSCREE_ASKED, and `tests/support/answers.py` then writes the lines that
+have no answer to the file of that name. A line that is made of the answer to another one is found a round later.
+"""
+import concurrent.futures
+import functools
+import json
+import os
+import subprocess
+import tempfile
+import time
+
+import files
+import kept
+import parts
+import pytests
+import unproved
+from results import Job, Result
+
+NAME = "what tests ask"
+PROGRAMS = ("semver_answers", "npm_answers")
+ASKING = ("rows", "pages", "memory/refused.calls", "memory/refused.tsv", "memory/takes_none.calls", "memory/takes_none.tsv",
+          "models/test_json_places.py")  # The tests that ask them.
+ROUNDS = 4
+LONGEST = 50000  # Longer lines are not asked: the build with checks would take a second for each.
+
+
+def key_of(program):
+    return kept.sum_of(unproved.sources(program), ["answers", program, unproved.lines_of(program)])
+
+
+def known(program):
+    """The answers that are kept of a program as its sources stand, by the lines."""
+    return kept.passed(key_of(program)) or {}
+
+
+def lacking(picked, environment):
+    """The lines that tests ask and that have no answer, by the programs."""
+    with tempfile.NamedTemporaryFile("r", encoding="utf-8") as file:
+        subprocess.run(pytests.command(picked or ASKING, "--tb=no", "--assert=plain"), cwd=pytests.TOP, stdin=subprocess.DEVNULL,
+                       env={**environment, "DENIMSCREE_ASKED": file.name}, stdout=subprocess.DEVNULL, stderr=subprocess.DEVNULL)
+        lines = list(map(json.loads, dict.fromkeys(file)))
+    for program in (it for it in PROGRAMS if not picked and not parts.is_built(it)):
+        lines += [(program, line) for line in stored(program, "stdin") if line not in known(program)]
+    return {program: [line for name, line in lines if name == program] for program, _ in lines}
+
+
+def stored(program, name):
+    """The lines of a file of a program's stored run."""
+    return unproved.stored(program, name).decode().splitlines()
+
+
+def run_stored(program, run):
+    """The result of the stored run, by the answers to its lines if they are kept."""
+    lines, answers, wanted = stored(program, "stdin"), known(program), stored(program, "stdout")
+    if any(line not in answers for line in lines):
+        return run()
+    got = [answers[line] for line in lines]
+    said = "" if got == wanted else f"standard output differs: {unproved.beside(*map(chr(10).join, (wanted, got)))}"
+    return [Result(f"{program}: its stored run", 0, int(not said), int(bool(said)), said)]
+
+
+def answered(program, lines):
+    """Asks a program: its answers by the lines, and what is wrong if it ended before the last of them."""
+    # (the build with checks answers, and the interpreter, which would take longer, gets one step)
+    status, output, error, _ = unproved.tried(program, ["--steps", "1"], "".join(f"{line}\n" for line in lines).encode())
+    found = output.split("\n")[:-1]
+    if status == 0 and len(found) == len(lines):
+        return dict(zip(lines, found)), ""
+    ended = lines[len(found)] if len(found) < len(lines) else "no line"
+    # (what the program wrote stands between what is said of it)
+    told = error if len(error) < 2000 else f"{error[:1000]}\n..\n{error[-1000:]}"
+    return dict(zip(lines, found)), f"rt try of {program} ended with status {status} at {ended[:300]}\n{told}"
+
+
+def ask(program, lines):
+    """Asks a program, and keeps its answers: what is wrong if it ended before the last one, or nothing."""
+    found, said = answered(program, lines)
+    kept.keep(key_of(program), {**known(program), **found})
+    return said
+
+
+def ask_all(picked, environment):
+    """Asks the programs all lines that have no answer, side by side: what is wrong, or nothing."""
+    for _ in range(ROUNDS):
+        lines = lacking(picked, environment)
+        with concurrent.futures.ThreadPoolExecutor() as pool:
+            said = "\n".join(filter(None, pool.map(ask, lines, lines.values())))
+        if said or not lines:
+            return said
+    return f"tests still ask lines that have no answer after {ROUNDS} rounds: a test should ask all that it can before it compares"
+
+
+def picked_of(tests):
+    """The tests that are asked for and that ask calls; none if all tests are asked for."""
+    names = [name.removeprefix(f"{pytests.FOLDER}/") for name in tests.tests if tests.words and tests.is_asked(name)]
+    return [name for name in names if name.startswith(ASKING)]
+
+
+def key():
+    """The sum of what says which lines are asked, and of what answers them."""
+    pages = [path for path in files.below("") if path.endswith(".md")]
+    return kept.sum_of([*pages, *files.below(pytests.FOLDER), ".ci/shared/asked.py"], [NAME, *map(key_of, PROGRAMS)])
+
+
+def run(tests, programs, environment, is_anew):
+    """Asks what the tests ask. Returns no result, unless a program does not answer."""
+    began, picked = time.monotonic(), picked_of(tests)
+    if is_anew:
+        for program in programs:
+            kept.forget(key_of(program))
+    elif tests.words and not picked or kept.passed(key()) and all(map(known, programs)):
+        return []
+    said = ask_all(picked, environment)
+    if not said and not picked:
+        kept.keep(key(), True)
+    return [Result(NAME, time.monotonic() - began, 0, 1, said)] if said else []
+
+
+def jobs(tests, others, environment, is_anew):
+    """A job for the programs that are not built, if there are any. The job of the tests begins after it, and those of the programs'
+    stored runs begin late, so that most take their answers from it."""
+    programs = [program for program in PROGRAMS if not os.environ.get("DENIMSCREE_PROGRAMS") and not parts.is_built(program)]
+    if programs:
+        job = Job(NAME, [], lambda: run(tests, programs, environment, is_anew), None, 4e6)
+        job.why_not = tests.why_not or ("" if kept.toolchain() else "rt is not there")
+        tests.after.append(job)
+        for other in (it for it in others if it.name in programs):
+            other.run, other.cost = functools.partial(run_stored, other.name, other.run), 0
+        yield job

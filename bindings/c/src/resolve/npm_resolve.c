@@ -1,0 +1,43 @@
+/* SPDX-License-Identifier: Apache-2.0 */
+/*
+ * The calls of npm_resolve.h. The proved call reads through pointers that are not null: here an empty text, a room of no bytes
+ * and a length that nobody reads take the place of a null pointer. The Makefile gives the proved call the name that is
+ * declared here.
+ *
+ * See docs/DECISIONS.md, "An answer for C is written to the caller's array".
+ */
+#include "npm_resolve.h"
+
+npm_resolve_status proved_resolve_versions(const char *manifest, size_t manifest_length, const char *documents,
+                                           size_t documents_length, const char *default_tag, size_t default_tag_length,
+                                           const char *before, size_t before_length, bool omit_dev, bool omit_optional,
+                                           bool omit_peer, uint64_t steps, char *room, size_t size, size_t *length);
+
+static npm_resolve_text text_at(const char *bytes, size_t length) {
+    npm_resolve_text text = {"", 0};
+    if (bytes != NULL) {
+        text.bytes = bytes;
+        text.length = length;
+    }
+    return text;
+}
+
+npm_resolve_status npm_resolve_versions(const char *manifest, size_t manifest_length, const char *documents,
+                                        size_t documents_length, const npm_resolve_options *options, char *room, size_t size,
+                                        size_t *length) {
+    static const npm_resolve_options none = NPM_RESOLVE_NO_OPTIONS;
+    const npm_resolve_options *given = options == NULL ? &none : options;
+    npm_resolve_text of_root = text_at(manifest, manifest_length), of_packages = text_at(documents, documents_length);
+    npm_resolve_text default_tag = text_at(given->default_tag.bytes, given->default_tag.length);
+    npm_resolve_text before = text_at(given->before.bytes, given->before.length);
+    size_t unread = 0;
+    char no_room = 0;
+    return proved_resolve_versions(of_root.bytes, of_root.length, of_packages.bytes, of_packages.length, default_tag.bytes,
+                                   default_tag.length, before.bytes, before.length, given->omit_dev, given->omit_optional,
+                                   given->omit_peer, given->steps, room == NULL ? &no_room : room, room == NULL ? 0 : size,
+                                   length == NULL ? &unread : length);
+}
+
+const char *npm_resolve_library_version(void) {
+    return NPM_RESOLVE_LIBRARY_VERSION;
+}

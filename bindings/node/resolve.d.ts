@@ -1,0 +1,100 @@
+// SPDX-License-Identifier: Apache-2.0
+import pick = require('./pick');
+
+/**
+ * Versions of packages that fit together, or what cannot be installed together: what `npm install --strict-peer-deps` must find, or
+ * stops at with `ERESOLVE`. One version is selected of each package that the manifest asks for, and of the peers of the versions
+ * that are selected.
+ *
+ * Names are chosen in the order in which they are first needed. Each choice is the first version with which a selection that fits
+ * exists: that of the tag, or else the newest.
+ */
+declare function resolve(manifest: resolve.Manifest, documents: resolve.Documents, options?: resolve.Options): resolve.Resolution;
+
+declare namespace resolve {
+    /** A package.json. */
+    interface Manifest {
+        name?: string;
+        version?: string;
+        dependencies?: { readonly [name: string]: string } | null;
+        devDependencies?: { readonly [name: string]: string } | null;
+        optionalDependencies?: { readonly [name: string]: string } | null;
+        peerDependencies?: { readonly [name: string]: string } | null;
+        peerDependenciesMeta?: { readonly [name: string]: { optional?: boolean } };
+    }
+
+    /** The documents of packages by their names, as a registry serves them. A package that is not here has no versions. */
+    interface Documents {
+        readonly [name: string]: pick.Packument | null | undefined;
+    }
+
+    /** Groups of dependencies. */
+    type Group = 'dev' | 'optional' | 'peer';
+
+    interface Options {
+        /** The version of this tag is preferred. Without it: `'latest'`. */
+        defaultTag?: string | null | undefined;
+        /** Versions that were published later are left out. */
+        before?: Date | string | number | null | undefined;
+        /** What is left out: `devDependencies`, `optionalDependencies`, or all peers. */
+        omit?: Group | readonly Group[] | null | undefined;
+        /** So many steps of the search are done at most, and so many again for the culprits. Without it: 10,000,000. */
+        steps?: number | undefined;
+    }
+
+    /** A version that is selected. */
+    interface Chosen {
+        /** The name that is asked for. */
+        name: string;
+        /** The name of the package in the registry. It is another one for an alias. */
+        package: string;
+        /** The version, as the document writes it. */
+        version: string;
+    }
+
+    /** A dependency that cannot be installed together with the others. Without any one of them the others can. */
+    interface Culprit {
+        name: string;
+        spec: string;
+        /** It is needed. Otherwise an optional peer, which only limits. */
+        needed: boolean;
+        /** There is a document of this name. */
+        document: boolean;
+    }
+
+    /** What is asked of a name. The spec is null for any. */
+    interface Wish {
+        name: string;
+        spec: string | null;
+        needed: boolean;
+    }
+
+    /** What never holds together in a line: a version of a name that asks for a wish, and what a wish does not allow. */
+    type Term =
+        | { term: 'asking'; name: string; wish: Wish }
+        | { term: 'outside'; wish: Wish };
+
+    /**
+     * A line of the reasons, and its sentence. It says what the manifest asks for; what versions of a name ask for; or that whatever is
+     * installed of the name, one of the lines with these numbers, from 0, rules it out. The last line has no terms.
+     */
+    type Reason =
+        | { source: 'root'; wish: Wish; terms: Term[]; text: string }
+        | { source: 'versions'; name: string; versions: string[]; wish: Wish; terms: Term[]; text: string }
+        | { source: 'lines'; name: string; lines: number[]; terms: Term[]; text: string };
+
+    /** The answer. An object may have more members than these. */
+    type Resolution =
+        /** The packages are in the order in which they are first needed. */
+        | { outcome: 'selected'; packages: Chosen[] }
+        /** No versions fit together, and why. The culprits are null if it takes more steps to find them, and so are the reasons. */
+        | { outcome: 'none'; culprits: Culprit[] | null; reasons: Reason[] | null }
+        /** The steps were used up before either was known. */
+        | { outcome: 'undecided' };
+
+    interface ResolveError extends Error {
+        code?: 'EINVALIDMANIFEST' | 'EINVALIDDOCUMENTS' | 'EINVALIDOPTION' | 'ERR_MEMORY_ALLOCATION_FAILED';
+    }
+}
+
+export = resolve;

@@ -1,0 +1,36 @@
+// SPDX-License-Identifier: Apache-2.0
+// Each allocation of each call of `resolve` refused in turn, alone and with all that follow. The native part is built with
+// refused/refused.c for this.
+'use strict';
+
+const path = require('node:path');
+const { build, testEach } = require('./refused/refuse.js');
+const { react } = require('./resolve-rows.json');
+
+const room = build('resolve/resolve.c', [], 'npm_resolve');
+const resolve = require(path.join(room, 'resolve.js'));
+const native = require(path.join(room, 'build/Release/npm_resolve.node'));
+
+const asks = (dependencies) => ({ dependencies });
+
+// The answer, or the code of the error.
+function told(...asked) {
+    try {
+        return resolve(...asked);
+    } catch (error) {
+        if (error.code === 'ERR_MEMORY_ALLOCATION_FAILED') {
+            throw error;
+        }
+        return error.code;
+    }
+}
+
+testEach(native, {
+    'versions that fit together': () => told(asks({ react: '^18', 'react-hot': '*' }), react),
+    'with options': () => told(asks({ 'react-hot': '*' }), react, { defaultTag: 'old', before: '2023-01-01', omit: 'dev' }),
+    'none that do': () => told(asks({ react: '^18', 'react-hot': '^4' }), react),
+    'a name without a document': () => told(asks({ gone: '*' }), react),
+    'no steps': () => told(asks({ react: '*' }), react, { steps: 0 }),
+    'no manifest': () => told(7, react),
+    'no documents': () => told(asks({ react: '*' }), 7),
+}, 400);

@@ -1,0 +1,60 @@
+# SPDX-License-Identifier: Apache-2.0
+"""Each allocation of a call of `resolve` fails in turn: it raises MemoryError, and keeps no memory.
+
+It runs from the build that NODE_SEMVER_REFUSE=1 makes.
+"""
+
+import ctypes
+import json
+import unittest
+from typing import Union
+
+from node_semver import _resolve
+
+NATIVE = ctypes.PyDLL(_resolve.__file__)
+NATIVE.refuse_at.argtypes = [ctypes.c_long]
+NATIVE.blocks_kept.restype = ctypes.c_long
+
+DOCUMENTS = json.dumps({
+    "hot": {"versions": {"4.0.0": {"peerDependencies": {"react": "^17"}}, "5.0.0": {"peerDependencies": {"react": "^18"}}}},
+    "react": {"dist-tags": {"latest": "18.2.0"}, "versions": {"17.0.2": {"deprecated": True}, "18.2.0": {}}},
+})  # fmt: skip
+
+
+def resolve(manifest: str, documents: str = DOCUMENTS) -> Union[str, int]:
+    return _resolve.resolve(manifest, documents, "latest", "2024-01-01T00:00:00Z", 1000, True, False, False)
+
+
+def asks(dependencies: str) -> str:
+    return f'{{"dependencies": {{{dependencies}}}}}'
+
+
+class Refused(unittest.TestCase):
+    def count_of(self, *words: str) -> int:
+        """How many allocations of a call were refused."""
+        expected, kept, place = resolve(*words), NATIVE.blocks_kept(), 0
+        while True:
+            NATIVE.refuse_at(place)
+            try:
+                answer = resolve(*words)
+            except MemoryError:
+                answer = expected
+            has_refused = NATIVE.has_refused()
+            NATIVE.refuse_at(-1)
+            self.assertEqual(answer, expected, (words, place))
+            self.assertEqual(NATIVE.blocks_kept(), kept, (words, place))
+            self.assertEqual(resolve(*words), expected)
+            if not has_refused:
+                return place
+            place += 1
+
+    def test_each_allocation(self) -> None:
+        calls = [
+            [asks('"hot": "*", "react": "^18"')], [asks('"hot": "^4", "react": "^18"')], [asks('"gone": "*"')],
+            [asks('"gone": "file:a"')], ["{}", "7"], ["7"], ["{}", "[1, 2"],
+        ]  # fmt: skip
+        self.assertGreater(sum(self.count_of(*words) for words in calls), 200)
+
+
+if __name__ == "__main__":
+    unittest.main()

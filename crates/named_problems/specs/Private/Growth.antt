@@ -1,6 +1,0 @@
--- Ranges that are added behind others.
-use Rattle.std.specs.Prelude.{◌≡◌, ◌++◌, List}
-use Rattle.named_problems.specs.declared.wanted.Wanted.{Wanted}
-
-abbrev pub Extends : (old new : List Wanted) → Type 0
-Extends old new = (more : List Wanted) × (new ≡ old ++ more)

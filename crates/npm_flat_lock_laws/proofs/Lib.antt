@@ -1,0 +1,4 @@
+mod Members
+mod Folders
+mod Edges
+mod Ranges

@@ -1,0 +1,3 @@
+mod Reaching
+mod Marking
+pub mod Examples

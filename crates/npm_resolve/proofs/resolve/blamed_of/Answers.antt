@@ -1,7 +1,0 @@
--- The culprits are demands of the root.
-use Rattle.npm_resolve.proofs.resolve.blamed_of.Goals as goal
-
-pub blamed_asks-requires-clause-within : goal.blamed_asks-requires-clause-within
-blamed_asks-requires-clause-within c =
-    let culprits = rw c.in-Some.is at c.in_ok-demands.ensures.culprits in
-    rw c.deref.ensures.value culprits.within

@@ -1,0 +1,2 @@
+mod Loaders
+pub mod Examples

@@ -3,13 +3,9 @@ import json
 import subprocess
 
 import applications
-from support import programs
+from support import programs, registry
 
 PACKAGES, VERSIONS = 500, 100
-
-
-def written(path, value):
-    path.write_text(json.dumps(value), encoding="utf-8")
 
 
 def resolved(folder, *words):
@@ -20,8 +16,8 @@ def resolved(folder, *words):
 def test_a_large_application_gets_a_lock_file_without_problems(tmp_path):
     (tmp_path / "mirror").mkdir()
     for name, document in applications.documents(PACKAGES, VERSIONS).items():
-        written(tmp_path / "mirror" / f"{name}.json", document)
-    written(tmp_path / "package.json", applications.manifest(PACKAGES, VERSIONS))
+        registry.put(tmp_path / "mirror" / f"{name}.json", document)
+    registry.put(tmp_path / "package.json", applications.manifest(PACKAGES, VERSIONS))
     lines = resolved(tmp_path)
     assert (lines.returncode, lines.stderr) == (0, "") and len(lines.stdout.splitlines()) > PACKAGES // 2
     lock = resolved(tmp_path, "--format", "lock")

@@ -60,7 +60,7 @@ def test_wrong_reasons_are_found(old, new):
 
 def is_proof(root, lines, case=reasons.PLUGIN):
     """What the program says of lines."""
-    return solving.said_of(programs.built("solving_answers"), [root, *case[1:], None, reasons.given(lines)])[0]
+    return lines_of([root, *case[1:], None, reasons.given(lines)])[0]
 
 
 def changed(old, new):

@@ -24,7 +24,7 @@ SCRIPTS = {"named_calls": "makes the calls", "node_semver_callers": "examples",
            "version_solving": "runs of tests/models", "solving_reasons": "runs of tests/models",
            "npm_candidates": "runs of tests/models", "npm_resolve": "runs of tests/models",
            "npm_resolve_reports": "runs of tests/programs",
-           "npm_flat_locks": "runs of tests/programs", "npm_flat_lock_laws": "does not allocate"}
+           "npm_flat_locks": "runs of tests/programs", "npm_resolve_laws": "does not allocate"}
 
 # A function, and the call that makes it.
 THROUGH = {
@@ -66,13 +66,17 @@ THROUGH = {
     "npm_texts::put_text": "npm_lock::check",
     "npm_packages::lock_of": "npm_lock::check",
     "Index::of_lock": "npm_lock::check",
+    "SoundLock::of": "npm_lock::check",
+    "npm_lock::check_sound_lock": "npm_lock::check",
     "Lock::find": "npm_lock::check",
     "npm_packages::asked_of": "npm_lock::check",
     "npm_packages::rules_of": "npm_lock::check",
+    "npm_packages::rules_in": "npm_resolve::resolved",
     "npm_packages::place_text": "npm_lock::check_any",
     "Mismatch::to_json": "npm_lock::mismatches_of",
     "Problem::to_json": "npm_lock::check",
     "Unchecked::to_json": "npm_lock::check",
+    "Dependents::of_sound_lock": "npm_advisories::audit_lock",
     "npm_advisories::audit": "npm_advisories::audit_lock",
     "Found::to_json": "npm_advisories::audit_lock",
     **{name: "npm_advisories::audit_lock" for name in (

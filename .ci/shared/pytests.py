@@ -52,7 +52,7 @@ def results(report):
         name = f"{FOLDER}/" + "::".join(filter(None, [case.get("file"), of.replace(".", "::"), case.get("name")]))
         wrong = [it for kind in ("failure", "error", "skipped") for it in case.findall(kind)]
         said = "\n".join(f"{it.get('message', '')}\n{it.text or ''}" for it in wrong)
-        unbuilt = re.search(r"\w+ is not built of these sources: [^\n]*", said)
+        unbuilt = re.search(r"\w+ is not built of these sources: [^\n\"]*", said)
         counts = (0, 0) if unbuilt else (0, 1) if wrong else (1, 0)
         yield Result(name, float(case.get("time", 0)), *counts, said, unbuilt[0] if unbuilt else "")
 

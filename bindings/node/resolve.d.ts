@@ -9,7 +9,24 @@ import pick = require('./pick');
  * Names are chosen in the order in which they are first needed. Each choice is the first version with which a selection that fits
  * exists: that of the tag, or else the newest.
  */
-declare function resolve(manifest: resolve.Manifest, documents: resolve.Documents, options?: resolve.Options): resolve.Resolution;
+declare function resolve(
+    manifest: resolve.Manifest,
+    documents: resolve.Documents,
+    options?: resolve.Options & { lockfile?: false | null | undefined },
+): resolve.Resolution;
+
+/** With `lockfile: true`: a lock file in the place of the packages. */
+declare function resolve(
+    manifest: resolve.Manifest,
+    documents: resolve.Documents,
+    options: resolve.Options & { lockfile: true },
+): resolve.LockResolution;
+
+declare function resolve(
+    manifest: resolve.Manifest,
+    documents: resolve.Documents,
+    options?: resolve.Options,
+): resolve.Resolution | resolve.LockResolution;
 
 declare namespace resolve {
     /** A package.json. */
@@ -21,11 +38,24 @@ declare namespace resolve {
         optionalDependencies?: { readonly [name: string]: string } | null;
         peerDependencies?: { readonly [name: string]: string } | null;
         peerDependenciesMeta?: { readonly [name: string]: { optional?: boolean } };
+        /** Specs that count in place of others: a text is one for all versions of its name. Other rules are not read. */
+        overrides?: Overrides | null;
+    }
+
+    /** Rules for the packages of these names, and for those below them. */
+    interface Overrides {
+        readonly [name: string]: string | Overrides;
     }
 
     /** The documents of packages by their names, as a registry serves them. A package that is not here has no versions. */
     interface Documents {
         readonly [name: string]: pick.Packument | null | undefined;
+    }
+
+    /** A package-lock.json, or an npm-shrinkwrap.json. */
+    interface Lock {
+        lockfileVersion?: number;
+        packages?: { readonly [folder: string]: object };
     }
 
     /** Groups of dependencies. */
@@ -38,6 +68,16 @@ declare namespace resolve {
         before?: Date | string | number | null | undefined;
         /** What is left out: `devDependencies`, `optionalDependencies`, or all peers. */
         omit?: Group | readonly Group[] | null | undefined;
+        /** For `engines`. Without it any version of Node is fine. */
+        nodeVersion?: string | null | undefined;
+        /** A package-lock.json of version 2 or 3, or its text. The version in `node_modules/NAME` comes first for a name. */
+        lock?: Lock | string | null | undefined;
+        /** Dependencies of selected versions count too: one version is selected of each package that is installed. */
+        flat?: boolean | null | undefined;
+        /** The lowest versions are preferred, and the tag does not count. */
+        lowest?: boolean | null | undefined;
+        /** The answer is a package-lock.json, if versions fit together. It takes `flat`, and no `omit`. */
+        lockfile?: boolean | null | undefined;
         /** So many steps of the search are done at most, and so many again for the culprits. Without it: 10,000,000. */
         steps?: number | undefined;
     }
@@ -83,17 +123,26 @@ declare namespace resolve {
         | { source: 'versions'; name: string; versions: string[]; wish: Wish; terms: Term[]; text: string }
         | { source: 'lines'; name: string; lines: number[]; terms: Term[]; text: string };
 
-    /** The answer. An object may have more members than these. */
-    type Resolution =
-        /** The packages are in the order in which they are first needed. */
-        | { outcome: 'selected'; packages: Chosen[] }
-        /** No versions fit together, and why. The culprits are null if it takes more steps to find them, and so are the reasons. */
-        | { outcome: 'none'; culprits: Culprit[] | null; reasons: Reason[] | null }
-        /** The steps were used up before either was known. */
-        | { outcome: 'undecided' };
+    /** No versions fit together, and why. The culprits are null if it takes more steps to find them, and so are the reasons. */
+    interface NoSelection {
+        outcome: 'none';
+        culprits: Culprit[] | null;
+        reasons: Reason[] | null;
+    }
+
+    /** The steps were used up before either was known. */
+    interface Undecided {
+        outcome: 'undecided';
+    }
+
+    /** The answer. An object may have more members than these. The packages are in the order in which they are first needed. */
+    type Resolution = { outcome: 'selected'; packages: Chosen[] } | NoSelection | Undecided;
+
+    /** The answer with `lockfile: true`: the text of a package-lock.json of version 3, if versions fit together. */
+    type LockResolution = { outcome: 'selected'; lockfile: string } | NoSelection | Undecided;
 
     interface ResolveError extends Error {
-        code?: 'EINVALIDMANIFEST' | 'EINVALIDDOCUMENTS' | 'EINVALIDOPTION' | 'ERR_MEMORY_ALLOCATION_FAILED';
+        code?: 'EINVALIDMANIFEST' | 'EINVALIDDOCUMENTS' | 'EINVALIDLOCK' | 'EINVALIDOPTION' | 'ERR_MEMORY_ALLOCATION_FAILED';
     }
 }
 

@@ -6,6 +6,8 @@ version_solving, which makes all selections:
 - The root asks for `dependencies`, `devDependencies`, `optionalDependencies` and `peerDependencies`, and a version for its
   `peerDependencies`, unless `dependencies` or `optionalDependencies` have the name. Of the root the last of `peerDependencies`,
   `dependencies`, `optionalDependencies` and `devDependencies` counts. A peer that `peerDependenciesMeta` calls optional only limits.
+- A rule in `overrides` of the root counts in place of each spec of its name, but for `*` and the empty text. A rule that has a range in
+  its key or is no text, and one for a name with several rules, is not read.
 - In the flat form a version asks for its `dependencies` and `optionalDependencies` too, of which the latter only limit.
 - The versions of a document are in this order: that of the lock file; that of the tag `latest`, if it is not deprecated and fits the
   version of Node; what is not deprecated and fits; what fits; what is not deprecated; and the greater version. Where the lowest are
@@ -86,11 +88,23 @@ def document(r, is_flat):
     return {"dist-tags": tags, "versions": versions}
 
 
+def overrides(r):
+    """Rules for some names: most of them are read."""
+    made = {name: spec(r, name) for name in r.sample([*NAMES, "alias"], r.randint(1, 2))}
+    if r.random() < .2:
+        made[f"{r.choice(NAMES)}@1"] = "^1"
+    if r.random() < .2:
+        made["parent"] = {r.choice(NAMES): "^1"}
+    return made
+
+
 def problem(r, is_flat=False):
     manifest = {kind: group(r, 2) for kind in
                 ("dependencies", "devDependencies", "optionalDependencies", "peerDependencies") if r.random() < .6}
     if r.random() < .3 and "peerDependencies" in manifest:
         manifest["peerDependenciesMeta"] = {name: {"optional": True} for name in manifest["peerDependencies"]}
+    if r.random() < .33:
+        manifest["overrides"] = overrides(r)
     omits = [kind for kind in ("dev", "optional", "peer") if r.random() < .08]
     options = {"flat": True} if is_flat else {}
     if r.random() < .2:
@@ -106,15 +120,31 @@ def problem(r, is_flat=False):
 
 # ---- the model
 
-def asks(manifest, is_root, omits, is_flat):
-    """What is asked, by name: the spec, and whether the name is needed."""
+def named(rules):
+    """The name of each rule, of those inside others too."""
+    for key, value in rules.items():
+        yield key[0] + key[1:].partition("@")[0]
+        if isinstance(value, dict):
+            yield from named(value)
+
+
+def changed(root, name, text):
+    """The spec of a name, as the rules of the root change it."""
+    rules = root.get("overrides", {})
+    rule = rules.get(name)
+    return rule if isinstance(rule, str) and rule not in ("", "*") and list(named(rules)).count(name) == 1 else text
+
+
+def asks(root, manifest, omits, is_flat):
+    """What a manifest asks, by name: the spec, as the root changes it, and whether the name is needed."""
+    is_root = manifest is root
     found = {}
     for kind, omitted in (("peerDependencies", "peer"), ("dependencies", None), ("optionalDependencies", "optional"),
                           *([("devDependencies", "dev")] if is_root else [])):
         for name, text in manifest.get(kind, {}).items():
             optional = kind == "peerDependencies" and bool(manifest.get("peerDependenciesMeta", {}).get(name, {}).get("optional"))
             optional = optional or kind == "optionalDependencies" and not is_root
-            found[name] = (text, not optional, kind == "peerDependencies", omitted)
+            found[name] = (changed(root, name, text), not optional, kind == "peerDependencies", omitted)
     return [(name, text, needed) for name, (text, needed, is_peer, omitted) in sorted(found.items(), key=lambda one: one[0].encode())
             if omitted not in omits and (is_root or is_flat or is_peer)]
 
@@ -172,7 +202,7 @@ def numbered(problem):
     """The problem by numbers, and the names, the versions and the asks of the root."""
     manifest, documents, omits, options = problem
     is_flat = options.get("flat", False)
-    root = [ask for ask in asks(manifest, True, omits, is_flat) if registered(*ask[:2])]
+    root = [ask for ask in asks(manifest, manifest, omits, is_flat) if registered(*ask[:2])]
     places, queue = {}, list(root)
     while queue:
         name, text, _ = queue.pop(0)
@@ -181,7 +211,7 @@ def numbered(problem):
             continue
         places[name] = (package, locked_first(preferred(documents[package], options), name, options) if package in documents else [])
         for version in places[name][1]:
-            queue += [ask for ask in asks(documents[package]["versions"][version], False, omits, is_flat) if registered(*ask[:2])]
+            queue += [ask for ask in asks(manifest, documents[package]["versions"][version], omits, is_flat) if registered(*ask[:2])]
     names, ranges = list(places), []
 
     def demand(ask):
@@ -191,7 +221,7 @@ def numbered(problem):
         ranges.append([int(asked == package and allowed(documents[package], version, text, options)) for version in versions])
         return [names.index(name), len(ranges) - 1, needed]
 
-    packages = [[[demand(ask) for ask in asks(documents[package]["versions"][version], False, omits, is_flat)
+    packages = [[[demand(ask) for ask in asks(manifest, documents[package]["versions"][version], omits, is_flat)
                   if registered(*ask[:2])] for version in versions] for package, versions in places.values()]
     return ([demand(ask) for ask in root], packages, ranges), names, [versions for _, versions in places.values()], root
 

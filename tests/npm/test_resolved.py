@@ -1,29 +1,28 @@
 """The program npm_resolve beside npm itself, over a registry on this machine.
 
-Some packages are made, whose versions have each other as peers, and manifests that ask for a few of them. Where the program selects
+Sets of packages are made, whose versions have each other as peers, and manifests that ask for a few of a set. Where the program selects
 versions, `npm install --strict-peer-deps` of these very versions must succeed; where it says that none fit together, npm must stop with
-ERESOLVE for the manifest. Each spec has a version, so nothing else is wrong with a manifest.
+ERESOLVE for the manifest. Each spec has a version, so nothing else is wrong with a manifest. A third of the manifests have `overrides`,
+for packages that the root itself does not ask for: npm refuses others, unless both have the same spec.
 """
 import json
 import os
 import random
 import subprocess
-import tempfile
 
 from support import made as making, programs, registry
 
-MANIFESTS = 20
-PLUGINS = ["a", "b", "c", "d", "e"]
+SETS, MANIFESTS = 10, 20  # Sets of packages, and manifests of each.
 CORES = ["1.0.0", "1.1.0", "2.0.0", "2.1.0", "3.0.0"]
+INSTALL = ["install", "--package-lock-only", "--strict-peer-deps"]
 
 
-def plugin(r, name):
-    """The document of a plugin: each of its versions has a core as a peer, and perhaps another plugin."""
+def plugin(r, core, before):
+    """The document of a plugin: each of its versions has the core as a peer, and perhaps one of the plugins before it."""
     versions = {}
     for major in (1, 2, 3):
-        peers = {"core": r.choice([f"^{major}", f"^{major}", f"^{major} || ^{max(1, major - 1)}", f">={major}"])}
+        peers = {core: r.choice([f"^{major}", f"^{major}", f"^{major} || ^{max(1, major - 1)}", f">={major}"])}
         meta = {}
-        before = PLUGINS[: PLUGINS.index(name)]
         if before and r.random() < 0.6:
             other = r.choice(before)
             peers[other] = f"^{r.randint(1, major)}"
@@ -33,49 +32,69 @@ def plugin(r, name):
     return {"dist-tags": {"latest": "3.0.0"}, "versions": versions}
 
 
-def manifest(r):
-    wanted = {"core": r.choice(["*", "^1", "^2", "^3", "<3"])} if r.random() < 0.7 else {}
-    for name in r.sample(PLUGINS, r.randint(2, 4)):
+def packages(r, core, plugins):
+    """The documents of a set."""
+    return {core: {"dist-tags": {"latest": "3.0.0"}, "versions": {version: {} for version in CORES}},
+            **{name: plugin(r, core, plugins[:at]) for at, name in enumerate(plugins)}}
+
+
+def manifest(r, core, plugins):
+    wanted = {core: r.choice(["*", "^1", "^2", "^3", "<3"])} if r.random() < 0.7 else {}
+    for name in r.sample(plugins, r.randint(2, 4)):
         wanted[name] = r.choice(["*", "^1", "^2", "^3", ">=2", "<3"])
-    return {"name": "project", "version": "1.0.0", "dependencies": wanted}
+    made = {"name": "project", "version": "1.0.0", "dependencies": wanted}
+    if r.random() < .34:
+        made["overrides"] = {name: r.choice(["^1", "^2", "^3", "1.0.0", "2.0.0"]) for name in [core, *plugins] if name not in wanted}
+    return made
 
 
-def npm(room, manifest, address):
-    """The status of npm's install of a manifest, and what it says."""
-    folder = tempfile.mkdtemp(dir=room)
-    registry.put(os.path.join(folder, "package.json"), manifest)
-    return registry.npm(room, folder, address, "install", "--package-lock-only", "--strict-peer-deps")
+def with_versions(manifest, versions):
+    """The manifest with these versions alone, for which npm must find nothing to change."""
+    rules = {name: versions.get(name, spec) for name, spec in manifest.get("overrides", {}).items()}
+    return {**manifest, "dependencies": versions, "overrides": rules}
 
 
-def fault(room, manifest, address):
-    """Whether versions fit together for a manifest, and what is wrong with that."""
+def selected(room, manifest):
+    """The versions that the program selects, or None if none fit together."""
     registry.put(os.path.join(room, "package.json"), manifest)
     words = [programs.built("npm_resolve"), "--manifest", "package.json", "--packuments", "mirror", "--format", "json"]
     done = subprocess.run(words, cwd=room, stdin=subprocess.DEVNULL, capture_output=True, encoding="utf-8")
-    if done.returncode not in (0, 1) or done.stderr:
-        return None, f"status {done.returncode}: {done.stderr}"
+    assert done.returncode in (0, 1) and not done.stderr, f"{json.dumps(manifest)}: status {done.returncode}: {done.stderr}"
     said = json.loads(done.stdout)
-    if said["outcome"] == "selected":
-        pinned = {one["name"]: one["version"] for one in said["packages"]}
-        status, told = npm(room, {**manifest, "dependencies": pinned}, address)
-        return True, None if status == 0 else f"npm refuses {pinned}: {told}"
-    status, told = npm(room, manifest, address)
-    return False, None if status and "ERESOLVE" in told else f"npm ends with status {status}: {told}"
+    return {one["name"]: one["version"] for one in said["packages"]} if said["outcome"] == "selected" else None
+
+
+def commands(room, manifests, found):
+    """The commands of npm: an install of each selection, and of each manifest that has none."""
+    for at, (one, pinned) in enumerate(zip(manifests, found)):
+        folder = os.path.join(room, str(at))
+        os.mkdir(folder)
+        registry.put(os.path.join(folder, "package.json"), one if pinned is None else with_versions(one, pinned))
+        yield folder, INSTALL
+
+
+def fault(pinned, status, told):
+    """What is wrong with what npm does, or None."""
+    if pinned is None:
+        return None if status and "ERESOLVE" in told else f"npm ends with status {status}: {told}"
+    return None if status == 0 else f"npm refuses {pinned}: {told}"
 
 
 def test_fits_where_npm_installs(record_property, tmp_path):
     r, room = random.Random(5 + making.SEED), str(tmp_path)
-    packages = {"core": {"dist-tags": {"latest": "3.0.0"}, "versions": {version: {} for version in CORES}},
-                **{name: plugin(r, name) for name in PLUGINS}}
+    names = [(f"core{at}", [f"{letter}{at}" for letter in "abcde"]) for at in range(SETS * making.TIMES)]
+    documents = {name: document for core, plugins in names for name, document in packages(r, core, plugins).items()}
+    manifests = [manifest(r, core, plugins) for core, plugins in names for _ in range(MANIFESTS)]
     os.mkdir(os.path.join(room, "mirror"))
-    for name, document in packages.items():
+    for name, document in documents.items():
         registry.put(os.path.join(room, "mirror", f"{name}.json"), document)
-    with registry.served(room, packages) as address:
-        manifests = [manifest(r) for _ in range(MANIFESTS * making.TIMES)]
-        found = [fault(room, one, address) for one in manifests]
-    wrong = [f"{json.dumps(one['dependencies'])}: {said}" for one, (_, said) in zip(manifests, found) if said]
+    found = [selected(room, one) for one in manifests]
+    with registry.served(room, documents) as address:
+        installed = registry.npm(room, address, list(commands(room, manifests, found)))
+    faults = [fault(pinned, *one) for pinned, one in zip(found, installed)]
+    wrong = [f"{json.dumps(one)}: {said}" for one, said in zip(manifests, faults) if said]
     assert not wrong, "\n".join(wrong)
-    fits = sum(fit for fit, _ in found)
     # Few of either kind would compare little.
+    fits = sum(pinned is not None for pinned in found)
     assert len(found) // 4 <= fits <= len(found) - len(found) // 4
     record_property("made", len(found))

@@ -7,27 +7,48 @@ import time
 
 from support import programs
 
+SERVER = os.path.join(programs.TESTS, "support", "registry.js")
+COMMANDS = os.path.join(programs.TESTS, "npm", "commands.js")
+
 
 def put(path, value):
     with open(path, "w", encoding="utf-8") as out:
         json.dump(value, out)
 
 
-def npm(room, folder, address, *words):
-    """The status of a command of npm in a folder, and what it says."""
-    words = ["npm", *words, "--no-audit", "--no-fund", "--ignore-scripts", "--no-update-notifier", f"--registry={address}",
-             f"--cache={room}/cache", f"--userconfig={room}/npmrc"]
-    done = subprocess.run(words, cwd=folder, env=programs.environment(), stdin=subprocess.DEVNULL, capture_output=True, encoding="utf-8")
-    return done.returncode, done.stderr
+def with_options(room, address, words):
+    """The words of a command of npm, with those that each has."""
+    return [*words, "--no-audit", "--no-fund", "--ignore-scripts", "--no-update-notifier", "--logs-max=0", f"--registry={address}",
+            f"--cache={room}/cache", f"--userconfig={room}/npmrc"]
+
+
+def run(words, folder, given=""):
+    return subprocess.run(words, cwd=folder, env=programs.environment(), input=given, capture_output=True, encoding="utf-8")
+
+
+def npm_itself(room, address, commands):
+    """The status of each command of npm, a folder and its words, and what it says. Each runs by itself."""
+    ran = [run(["npm", *with_options(room, address, words)], folder) for folder, words in commands]
+    return [(done.returncode, done.stderr) for done in ran]
+
+
+def npm(room, address, commands):
+    """The same by npm's own code in one process, which takes a tenth of the time."""
+    lines = [{"folder": folder, "words": with_options(room, address, words)} for folder, words in commands]
+    done = run(["node", COMMANDS], room, "".join(f"{json.dumps(line)}\n" for line in lines))
+    found = [json.loads(line) for line in done.stdout.splitlines()]
+    assert done.returncode == 0 and len(found) == len(lines), f"npm ended after {len(found)} of {len(lines)} commands: {done.stderr}"
+    return [(one["status"], one["said"]) for one in found]
 
 
 @contextlib.contextmanager
-def served(room, packages):
-    """The address of a registry that has these packages. It listens inside `with`."""
-    put(os.path.join(room, "packages.json"), packages)
+def served(room, packages=None):
+    """The address of a registry that has these packages, or those that `registry.js` names. It listens inside `with`."""
+    at, given = os.path.join(room, "address"), os.path.join(room, "packages.json")
+    if packages:
+        put(given, packages)
     open(os.path.join(room, "npmrc"), "w").close()
-    at, script = os.path.join(room, "address"), os.path.join(programs.ROOT, ".ci", "npm_registry.js")
-    process = subprocess.Popen(["node", script, at, os.path.join(room, "packages.json")])
+    process = subprocess.Popen(["node", SERVER, at, *([given] if packages else [])])
     try:
         yield address_in(at)
     finally:

@@ -37,11 +37,27 @@ typedef uint32_t npm_resolve_status;
 #define NPM_RESOLVE_OK 0u                /* there is an answer */
 #define NPM_RESOLVE_OUT_OF_MEMORY 1u     /* an allocation failed */
 #define NPM_RESOLVE_NOT_UTF8 2u          /* one of the texts is not UTF-8 */
-#define NPM_RESOLVE_INVALID_OPTION 3u    /* `before` is no time */
+#define NPM_RESOLVE_INVALID_OPTION 3u    /* `before` is no time, or `node` is no version */
 #define NPM_RESOLVE_MANIFEST_NO_JSON 4u  /* the manifest is no JSON, or its values nest deeper than 127 */
 #define NPM_RESOLVE_INVALID_MANIFEST 5u  /* the manifest is no object, or its `version` or a dependency is no string */
 #define NPM_RESOLVE_DOCUMENTS_NO_JSON 6u /* the documents are no JSON, or their values nest deeper than 127 */
 #define NPM_RESOLVE_INVALID_DOCUMENTS 7u /* the documents are no object */
+
+/* What is wrong with `lock`: the first fault, of the packages in the order of their folders' bytes. */
+#define NPM_RESOLVE_LOCK_NO_JSON 8u          /* it is no JSON, or its values nest deeper than 127 */
+#define NPM_RESOLVE_LOCK_VERSION 9u          /* `lockfileVersion` is not 2 or 3 */
+#define NPM_RESOLVE_LOCK_PACKAGES 10u        /* `packages` is no object */
+#define NPM_RESOLVE_LOCK_FOLDER 11u          /* npm does not write the folder of a package so, or it has more than 4096 bytes */
+#define NPM_RESOLVE_LOCK_WORKSPACES 12u      /* `workspaces` of the root is no list */
+#define NPM_RESOLVE_LOCK_PACKAGE 13u         /* a member of `packages` is no object */
+#define NPM_RESOLVE_LOCK_LINK 14u            /* `resolved` of a link names no package of the file */
+#define NPM_RESOLVE_LOCK_PACKAGE_VERSION 15u /* `version` of a package is no string */
+#define NPM_RESOLVE_LOCK_DEPENDENCIES 16u    /* the dependencies of a package are no object */
+#define NPM_RESOLVE_LOCK_SPEC 17u            /* a dependency of a package is no string */
+
+/* Why `lock_file` is refused. */
+#define NPM_RESOLVE_NOT_FLAT 18u /* `flat` is not set: without it dependencies of versions are not selected */
+#define NPM_RESOLVE_OMITS 19u    /* a group is left out: a lock file has all groups */
 
 /* A text of an option. An empty text counts as an absent option. */
 typedef struct npm_resolve_text {
@@ -56,20 +72,32 @@ typedef struct npm_resolve_text {
 typedef struct npm_resolve_options {
     npm_resolve_text default_tag; /* the version of this tag is preferred; none: `latest` */
     npm_resolve_text before;      /* a time, as `2024-03-01T12:00:00Z`: versions that were published later are left out */
+    npm_resolve_text node;        /* the version of Node, for `engines`; none: any version is fine */
+    npm_resolve_text lock;        /* a package-lock.json of version 2 or 3: the version in node_modules/NAME comes first */
     uint64_t steps;               /* so many steps at most, and so many again to find what cannot be installed together */
     bool omit_dev;                /* `devDependencies` are left out */
     bool omit_optional;           /* `optionalDependencies` are left out */
     bool omit_peer;               /* all peers are left out */
+    bool flat;                    /* dependencies of selected versions count too: one version of each package */
+    bool lowest;                  /* the lowest versions are preferred, and the tag does not count */
+    bool lock_file;               /* with `flat`, and no group left out: the answer is a package-lock.json */
 } npm_resolve_options;
 
 /* No option, and the steps of NPM_RESOLVE_STEPS. */
-#define NPM_RESOLVE_NO_OPTIONS { { NULL, 0 }, { NULL, 0 }, NPM_RESOLVE_STEPS, false, false, false }
+#define NPM_RESOLVE_NO_OPTIONS                                                                                          \
+    {                                                                                                                  \
+        { NULL, 0 }, { NULL, 0 }, { NULL, 0 }, { NULL, 0 }, NPM_RESOLVE_STEPS, false, false, false, false, false, false \
+    }
 
 /*
  * Finds versions that fit together, or what cannot be installed together, and returns NPM_RESOLVE_OK. The manifest is a
  * package.json: its `dependencies`, `devDependencies`, `optionalDependencies` and `peerDependencies` count, and the peers of
- * the versions that are selected. The documents are an object from the name of a package to its document, as a registry serves
- * it. Both are texts in JSON. A package whose name is no member has no document, and so no versions.
+ * the versions that are selected; with `flat` their dependencies too. The documents are an object from the name of a package to
+ * its document, as a registry serves it. Both are texts in JSON. A package whose name is no member has no document, and so no
+ * versions.
+ *
+ * `overrides` of the manifest count too: in {"a": "1.0.0"} the spec 1.0.0 counts in place of each other spec of `a`. Rules that
+ * have a range or `$` in them, and those for one parent, are not read.
  *
  * The answer is a JSON object without spaces:
  *
@@ -78,7 +106,8 @@ typedef struct npm_resolve_options {
  *     {"outcome":"undecided"}
  *
  * The last one says that the steps were used up; if they were used up after `none` was known, `culprits` is null. The object may
- * get more members.
+ * get more members. With `lock_file` the answer is the text of a package-lock.json of version 3 instead, if versions fit
+ * together. It begins with a brace and a newline, and the object with a brace and a quote.
  *
  * It is written to the room of `size` bytes if it fits, without a zero at the end; else the room stays as it was. `*length` is
  * its length in either case, and the call may be made again with a room of so many bytes. On any other status than

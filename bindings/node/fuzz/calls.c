@@ -107,7 +107,7 @@ static void check_result(napi_value result, unsigned number) {
 static void call(struct line *line) {
     unsigned number = next_character(line) % function_count, place = next_place(line);
     struct napi_callback_info__ info = {0};
-    while (info.count < 10 && line->length > 0) {
+    while (info.count < MOST_ARGUMENTS && line->length > 0) {
         info.arguments[info.count++] = held[next_place(line)];
     }
     napi_value result = functions[number].call(NULL, &info);

@@ -28,10 +28,12 @@ struct napi_value__ {
     const char *code; /* of an error */
 };
 
-/* What a function was called with. */
+/* What a function was called with. No call of the native parts has more arguments. */
+enum { MOST_ARGUMENTS = 13 };
+
 struct napi_callback_info__ {
     size_t count;
-    napi_value arguments[10];
+    napi_value arguments[MOST_ARGUMENTS];
 };
 
 struct function {

@@ -1,6 +1,7 @@
 /* SPDX-License-Identifier: Apache-2.0 */
 /* The functions that the JavaScript of this package calls. Each takes keys and makes one call of node_semver, or a few.
- * See docs/DECISIONS.md, "A version crosses as a text". */
+ * A version crosses as a text, which is faster than an object with a finalizer. A list crosses as one string, so no JavaScript
+ * runs while C reads it. */
 #include "binding.h"
 
 /* What `compare`, `compareBuild` and `diff` return where the first key, or the second, is no version. */

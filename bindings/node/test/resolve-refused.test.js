@@ -5,7 +5,7 @@
 
 const path = require('node:path');
 const { build, testEach } = require('./refused/refuse.js');
-const { react } = require('./resolve-rows.json');
+const { react, tree } = require('./resolve-rows.json');
 
 const room = build('resolve/resolve.c', [], 'npm_resolve');
 const resolve = require(path.join(room, 'resolve.js'));
@@ -30,7 +30,11 @@ testEach(native, {
     'with options': () => told(asks({ 'react-hot': '*' }), react, { defaultTag: 'old', before: '2023-01-01', omit: 'dev' }),
     'none that do': () => told(asks({ react: '^18', 'react-hot': '^4' }), react),
     'a name without a document': () => told(asks({ gone: '*' }), react),
+    'flat, and the lowest versions': () => told(asks({ a: '*' }), tree, { flat: true, lowest: true, nodeVersion: '20.0.0' }),
+    'a lock file': () => told(asks({ a: '*' }), tree, { lock: { lockfileVersion: 3, packages: { 'node_modules/a': { version: '1.0.0' } } } }),
+    'a lock file with a fault': () => told(asks({ a: '*' }), tree, { lock: '{"lockfileVersion":3,"packages":{"":7}}' }),
+    'a lock file as the answer': () => told(asks({ a: '*' }), tree, { flat: true, lockfile: true }),
     'no steps': () => told(asks({ react: '*' }), react, { steps: 0 }),
     'no manifest': () => told(7, react),
     'no documents': () => told(asks({ react: '*' }), 7),
-}, 400);
+}, 700);

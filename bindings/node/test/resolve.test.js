@@ -7,7 +7,7 @@ const { spawnSync } = require('node:child_process');
 const path = require('node:path');
 const { test } = require('node:test');
 const resolve = require('../resolve.js');
-const { react, rows } = require('./resolve-rows.json');
+const { react, tree, rows } = require('./resolve-rows.json');
 
 const root = path.join(__dirname, '..');
 
@@ -18,13 +18,27 @@ const ERRORS = {
     before: ['EINVALIDOPTION', 'before '],
     omit: ['EINVALIDOPTION', 'omit '],
     steps: ['EINVALIDOPTION', 'steps '],
+    node: ['EINVALIDOPTION', 'nodeVersion is no version'],
+    'node type': ['EINVALIDOPTION', 'nodeVersion must be a string'],
+    'flat type': ['EINVALIDOPTION', 'flat must be '],
+    'lowest type': ['EINVALIDOPTION', 'lowest must be '],
+    'lockfile type': ['EINVALIDOPTION', 'lockfile must be '],
+    lockfile: ['EINVALIDOPTION', 'lockfile takes '],
+    lock: ['EINVALIDLOCK', 'the lock file'],
 };
 
+// The code of the error of a row, and how its message begins. That of a lock file says where the fault is.
+function errorOf(error) {
+    const name = error in ERRORS ? error : 'lock';
+    const [code, text] = ERRORS[name];
+    return [code, name === 'lock' ? text + error.slice('lock'.length) : text];
+}
+
 // An answer as a row has it.
-function told({ outcome, packages, culprits }) {
+function told({ outcome, packages, lockfile, culprits }) {
     switch (outcome) {
     case 'selected':
-        return { packages: packages.map((one) => [one.name, one.package, one.version]) };
+        return lockfile ? { lockfile } : { packages: packages.map((one) => [one.name, one.package, one.version]) };
     case 'none':
         return { culprits: culprits && culprits.map(({ name, spec, needed, document }) => [name, spec, needed, document]) };
     default:
@@ -34,13 +48,15 @@ function told({ outcome, packages, culprits }) {
 
 for (const { name, manifest, documents, options = {}, error, ...expected } of rows) {
     test(name, () => {
-        const { tag, ...others } = options;
-        const call = () => resolve(manifest, documents === 'react' ? react : documents, { defaultTag: tag, ...others });
+        const { tag, node, ...others } = options;
+        const given = { react, tree }[documents] ?? documents;
+        const call = () => resolve(manifest, given, { defaultTag: tag, nodeVersion: node, ...others });
         if (error) {
-            const [code, text] = ERRORS[error];
+            const [code, text] = errorOf(error);
             assert.throws(call, (thrown) => thrown.code === code && thrown.message.startsWith(text));
         } else {
-            assert.deepStrictEqual(told(call()), expected);
+            const { lockfile } = expected;
+            assert.deepStrictEqual(told(call()), lockfile ? { lockfile: `${JSON.stringify(lockfile, null, 2)}\n` } : expected);
         }
     });
 }
@@ -88,6 +104,63 @@ test('options of every kind', () => {
         assert.throws(() => versionOf({ before }), { code: 'EINVALIDOPTION', message: 'before is no time' });
     }
     assert.throws(() => resolve(asks, react, null), TypeError);
+});
+
+test('options that are true or false, a version of Node and a lock file, of every kind', () => {
+    for (const options of [{ flat: null, lowest: undefined, lockfile: null }, { nodeVersion: null, lock: null }, { nodeVersion: '', lock: '' }]) {
+        assert.strictEqual(versionOf(options), '18.3.0');
+    }
+    for (const name of ['flat', 'lowest', 'lockfile']) {
+        for (const value of [0, 1, 'true', {}, [], () => true, Symbol('a'), 1n, new Boolean(true)]) {
+            assert.throws(() => versionOf({ [name]: value }), { code: 'EINVALIDOPTION', message: `${name} must be true or false` });
+        }
+    }
+    for (const nodeVersion of [20, 20n, true, {}, ['20.0.0'], Symbol('a'), new String('20.0.0')]) {
+        assert.throws(() => versionOf({ nodeVersion }), { code: 'EINVALIDOPTION', message: 'nodeVersion must be a string' });
+    }
+    for (const nodeVersion of ['20', '^20', '\ud800', '20.0.0\0', '1'.repeat(300), 'x'.repeat(1 << 20)]) {
+        assert.throws(() => versionOf({ nodeVersion }), { code: 'EINVALIDOPTION' });
+    }
+    for (const lock of [7, true, [], () => 1, Symbol('a'), new Date(0), new Proxy({}, {}), '7', '[]', 'null', '{"lockfileVersion":"3"}']) {
+        assert.throws(() => versionOf({ lock }), { code: 'EINVALIDLOCK', message: 'the lock file: `lockfileVersion` is not 2 or 3' });
+    }
+    for (const lock of ['{', ' ', '\ud800', '\ufeff{}', `${'['.repeat(300)}`]) {
+        assert.throws(() => versionOf({ lock }), { code: 'EINVALIDLOCK', message: /^the lock file cannot be read: / });
+    }
+    assert.throws(() => versionOf({ lock: 1n }), TypeError);
+});
+
+test('options that throw as they are read, and that change', () => {
+    const thrown = new Error('read');
+    const throwing = { get() { throw thrown; }, enumerable: true };
+    for (const name of ['flat', 'lowest', 'lockfile', 'lock', 'nodeVersion']) {
+        assert.throws(() => versionOf(Object.defineProperty({}, name, throwing)), thrown);
+    }
+    for (const lock of [
+        Object.defineProperty({}, 'packages', throwing), { lockfileVersion: 3, packages: Object.defineProperty({}, 'a', throwing) },
+        new Proxy({}, { getOwnPropertyDescriptor() { throw thrown; } }),
+    ]) {
+        assert.throws(() => versionOf({ lock }), thrown);
+    }
+    let count = 0;
+    const options = { flat: true, get lockfile() { count += 1; return count === 1; } };
+    assert.strictEqual(typeof resolve(asks, react, options).lockfile, 'string');
+    assert.strictEqual(count, 1);
+});
+
+test('a lock file as the answer is a lock file as an option', () => {
+    const { lockfile } = resolve({ dependencies: { a: '1.0.0' } }, tree, { flat: true, lockfile: true });
+    for (const lock of [lockfile, JSON.parse(lockfile)]) {
+        const { packages } = resolve({ dependencies: { a: '*' } }, tree, { lock });
+        assert.deepStrictEqual(packages, [{ name: 'a', package: 'a', version: '1.0.0' }]);
+    }
+});
+
+test('what is not read of a lock file does not count', () => {
+    const lock = { lockfileVersion: 3, packages: { 'node_modules/react': { version: '17.0.2', license: '\ud800' } }, dependencies: '\udc00' };
+    assert.strictEqual(versionOf({ lock }), '17.0.2');
+    Object.freeze(lock);
+    assert.strictEqual(versionOf({ lock }), '17.0.2');
 });
 
 test('values that JSON does not have', () => {

@@ -58,6 +58,9 @@ function codeOf(error: pick.PickError): string | undefined {
 const resolution: resolve.Resolution = resolve({ dependencies: { one: '^1' } }, { one: packument, two: null },
     { before: new Date(0), omit: ['dev', 'peer'], steps: 1000, defaultTag: 'next' });
 const selected: string[] = resolution.outcome === 'selected' ? resolution.packages.map((one) => `${one.name}@${one.version}`) : [];
+const lock: resolve.LockResolution = resolve({}, {}, { flat: true, lowest: false, nodeVersion: 'v20.1.0', lockfile: true,
+    lock: { lockfileVersion: 3, packages: { 'node_modules/one': { version: '1.0.0' } } } });
+const lockText: string = lock.outcome === 'selected' ? lock.lockfile : '';
 const blamed: string[] = resolution.outcome === 'none' ? (resolution.culprits ?? []).map(({ name, spec }) => `${name}@${spec}`) : [];
 function faultOf(error: resolve.ResolveError): string | undefined {
     return error.code === 'EINVALIDOPTION' ? error.message : error.code;
@@ -204,8 +207,13 @@ export const ofComparator: Record<keyof OfComparator, true> = {
 export const picks: true = is<typeof pick,
     <M extends pick.Manifest>(packument: pick.Packument<M>, wanted?: string | null, opts?: pick.Options) => M & pick.Marks>();
 
-export const resolves: true = is<typeof resolve,
-    (manifest: resolve.Manifest, documents: resolve.Documents, options?: resolve.Options) => resolve.Resolution>();
+export const resolves: true = is<typeof resolve, {
+    (manifest: resolve.Manifest, documents: resolve.Documents,
+        options?: resolve.Options & { lockfile?: false | null | undefined }): resolve.Resolution;
+    (manifest: resolve.Manifest, documents: resolve.Documents, options: resolve.Options & { lockfile: true }): resolve.LockResolution;
+    (manifest: resolve.Manifest, documents: resolve.Documents,
+        options?: resolve.Options): resolve.Resolution | resolve.LockResolution;
+}>();
 
 // The members of the values that calls take and return.
 interface Flags { loose?: boolean | undefined; includePrerelease?: boolean | undefined }

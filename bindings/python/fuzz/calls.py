@@ -62,6 +62,8 @@ CALLS: Dict[int, Callable[..., Any]] = dict(enumerate([
     lambda one, other, more: pick(one, other, avoid=more, avoid_strict=True),
     lambda one, other, more: pick(one, other, before=more, node=more), lambda one, other: resolve(one, other),
     lambda one, other, more: resolve(one, other, before=more, default_tag=more, steps=100),
+    lambda one, other, more: resolve(one, other, node=more, flat=True, lowest=True, steps=100),
+    lambda one, other, more: resolve(one, other, lock=more, flat=True, lockfile=True, steps=100),
 ]))  # fmt: skip
 
 

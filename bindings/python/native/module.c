@@ -2,7 +2,8 @@
  *
  * The extension module node_semver._native. It has no global state: each interpreter has types of its own.
  *
- * See docs/DECISIONS.md, "A C extension, not ctypes".
+ * It is no module over ctypes, with which `copy.copy` frees a handle twice, and a version passed for a range crashes. It costs the
+ * free-threaded build.
  */
 #include "native.h"
 

@@ -9,33 +9,47 @@ import threading
 import unittest
 from datetime import datetime, timedelta, timezone
 from types import MappingProxyType
-from typing import Any, Dict, List
+from typing import Any, Dict, List, Union
 
-from node_semver import Resolution, resolve
+from node_semver import LockResolution, Resolution, resolve
 
 HERE = os.path.dirname(os.path.abspath(__file__))
 
 with open(os.path.join(HERE, "..", "..", "node", "test", "resolve-rows.json"), encoding="utf-8") as file:
     SHARED = json.load(file)
 REACT: Dict[str, Any] = SHARED["react"]
+TREE: Dict[str, Any] = SHARED["tree"]
 ASKS = {"dependencies": {"react": "*"}}
 
 # How the message of an error begins, where it is not the name of what is wrong.
-BEGINS = {"manifest": "the manifest ", "documents": "the documents "}
+BEGINS = {
+    "manifest": "the manifest ", "documents": "the documents ", "node": "before must be a time, and node ",
+    "lock cannot be read": "the lock file is no JSON",
+}  # fmt: skip
 
 
-def told(answer: Resolution) -> Dict[str, Any]:
+def told(answer: Union[Resolution, LockResolution]) -> Dict[str, Any]:
     """An answer as a row has it."""
-    if answer["outcome"] == "selected":
-        return {"packages": [[one["name"], one["package"], one["version"]] for one in answer["packages"]]}
-    if answer["outcome"] == "none":
-        culprits = answer["culprits"] or []
+    members: Dict[str, Any] = {**answer}
+    if "lockfile" in members:
+        return {"lockfile": members["lockfile"]}
+    if "packages" in members:
+        return {"packages": [[one["name"], one["package"], one["version"]] for one in members["packages"]]}
+    if "culprits" in members:
+        culprits = members["culprits"] or []
         return {"culprits": [[one["name"], one["spec"], one["needed"], one["document"]] for one in culprits]}
-    return {answer["outcome"]: True}
+    return {members["outcome"]: True}
 
 
 def asked(row: Dict[str, Any]) -> List[Any]:
-    return [row["manifest"], REACT if row["documents"] == "react" else row["documents"]]
+    documents = row["documents"]
+    return [row["manifest"], SHARED[documents] if isinstance(documents, str) else documents]
+
+
+def beginning(error: str) -> str:
+    """How the message of the error of a row begins. That of a lock file says where the fault is."""
+    name = error.replace(" type", " must be ")
+    return BEGINS.get(name, f"the lock file: {name[6:]}" if name.startswith("lock: ") else name)
 
 
 def options_of(row: Dict[str, Any]) -> Dict[str, Any]:
@@ -44,23 +58,25 @@ def options_of(row: Dict[str, Any]) -> Dict[str, Any]:
 
 
 def version_of(**options: Any) -> str:
-    answer = resolve(ASKS, REACT, **options)
+    answer: Resolution = resolve(ASKS, REACT, **options)
     assert answer["outcome"] == "selected"
     return answer["packages"][0]["version"]
 
 
 class Resolve(unittest.TestCase):
     def check(self, row: Dict[str, Any], *given: Any) -> None:
-        expected = {name: row[name] for name in ("packages", "culprits", "undecided") if name in row}
+        expected = {name: row[name] for name in ("packages", "lockfile", "culprits", "undecided") if name in row}
+        if "lockfile" in expected:
+            expected["lockfile"] = json.dumps(expected["lockfile"], indent=2, ensure_ascii=False) + "\n"
         if "error" not in row:
             self.assertEqual(told(resolve(*given, **options_of(row))), expected)
             return
         with self.assertRaises((TypeError, ValueError)) as caught:
             resolve(*given, **options_of(row))
-        self.assertTrue(str(caught.exception).startswith(BEGINS.get(row["error"], row["error"])), caught.exception)
+        self.assertTrue(str(caught.exception).startswith(beginning(row["error"])), caught.exception)
 
     def test_rows(self) -> None:
-        self.assertGreater(len(SHARED["rows"]), 40)
+        self.assertGreater(len(SHARED["rows"]), 100)
         for row in SHARED["rows"]:
             with self.subTest(row["name"]):
                 texts = [json.dumps(it) for it in asked(row)]
@@ -113,6 +129,53 @@ class Resolve(unittest.TestCase):
         for name, value in [("before", 7), ("before", b"*"), ("default_tag", b"*"), ("omit", 7), ("steps", "7"), ("steps", 1.5)]:
             with self.subTest(name=name, value=value), self.assertRaises(TypeError):
                 version_of(**{name: value})
+
+    def test_marks_a_version_of_node_and_a_lock_file(self) -> None:
+        absent: List[Dict[str, Any]] = [
+            {"flat": False, "lowest": False, "lockfile": False}, {"node": None, "lock": None}, {"node": "", "lock": b""},
+        ]  # fmt: skip
+        for options in absent:
+            self.assertEqual(version_of(**options), "18.3.0")
+        values: List[Any] = [None, 0, 1, "true", [], {}, object()]
+        for name in ["flat", "lowest", "lockfile"]:
+            for value in values:
+                with self.subTest(name=name, value=value), self.assertRaisesRegex(TypeError, f"^{name} must be True or False$"):
+                    version_of(**{name: value})
+        for value in [20, 20.1, b"20.0.0", ["20.0.0"], object()]:
+            with self.subTest(node=value), self.assertRaisesRegex(TypeError, "^node must be a str$"):
+                version_of(node=value)
+        for node in ["20", "^20", "\ud800", "20.0.0\0", "1" * 300, "x" * (1 << 20)]:
+            with self.subTest(node=node[:10]), self.assertRaises(ValueError):
+                version_of(node=node)
+        for value in [7, True, [], (), object(), bytearray(b"{}"), {1}]:
+            with self.subTest(lock=value), self.assertRaisesRegex(TypeError, "^a lock file must be a dict, a str or bytes$"):
+                version_of(lock=value)
+        for text in ["{", " ", "[" * 300, "\ufeff{}", '"\\ud800"']:
+            with self.subTest(lock=text[:10]), self.assertRaisesRegex(ValueError, "^the lock file is no JSON"):
+                version_of(lock=text)
+        others: List[Any] = ["7", "[]", "null", b"{}", '{"lockfileVersion":"3"}', {}, MappingProxyType({})]
+        for value in others:
+            with self.subTest(lock=value), self.assertRaisesRegex(ValueError, "^the lock file: `lockfileVersion` is not 2 or 3$"):
+                version_of(lock=value)
+        for lock in [b"\xff", "\ud800"]:
+            with self.subTest(lock=lock), self.assertRaises(ValueError):
+                version_of(lock=lock)
+        with self.assertRaises(TypeError):
+            version_of(lock={"lockfileVersion": object()})
+
+    def test_a_lock_file_as_the_answer_is_a_lock_file_as_an_option(self) -> None:
+        answer = resolve({"dependencies": {"a": "1.0.0"}}, TREE, flat=True, lockfile=True)
+        assert answer["outcome"] == "selected"
+        text = answer["lockfile"]
+        frozen = MappingProxyType({name: MappingProxyType(it) if isinstance(it, dict) else it for name, it in json.loads(text).items()})
+        for lock in [text, text.encode(), json.loads(text), frozen]:
+            answered = resolve({"dependencies": {"a": "*"}}, TREE, lock=lock)
+            self.assertEqual(told(answered), {"packages": [["a", "a", "1.0.0"]]})
+
+    def test_what_is_not_read_of_a_lock_file_does_not_count(self) -> None:
+        package = {"version": "17.0.2", "license": "\ud800", "engines": object()}
+        lock = {"lockfileVersion": 3, "packages": {"node_modules/react": package}, "dependencies": object()}
+        self.assertEqual(version_of(lock=lock), "17.0.2")
 
     def test_values_of_other_types(self) -> None:
         values: List[Any] = [None, 7, [], object(), bytearray(b"{}")]

@@ -5,7 +5,6 @@ pub mod LeastVersion
 pub mod SpanLists
 pub mod Offering
 pub mod Uniting
-pub mod Installing
 pub mod Reading
 pub mod FileFaults
 pub mod Stepping

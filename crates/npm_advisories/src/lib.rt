@@ -29,7 +29,7 @@ pub use fault::{AuditError, Fault, FaultKind, Unread, is_refused};
 pub use found::{Found, Installed, audit};
 pub use id::{AdvisoryId, id_in};
 pub use index::Index;
-pub use lock::{LockError, audit_lock};
+pub use lock::{LockError, audit_lock, audit_sound_lock};
 pub use member::{items_at, listed_at, text_at};
 pub use severity::Severity;
 pub use steps::fault_steps;

@@ -9,12 +9,12 @@ ghost use Rattle.npm_packages.specs.Packages.{is_link};
 ghost use Rattle.npm_advisories.specs.Audit.{InstalledValue, IsAudit, found_value, installed_value};
 ghost use Rattle.npm_advisories.specs.Files.{advisories_of};
 ghost use Rattle.npm_packages.specs.LastParts.{IsEnd};
-ghost use Rattle.npm_advisories.specs.LockFaults.{IsFileFaultBeside, IsLockError};
+ghost use Rattle.npm_advisories.specs.LockFaults.{IsAuditErrorBeside, IsFileFaultBeside, IsLockError};
 ghost use Rattle.npm_advisories.specs.LockFile.{AreInstalled, AreInstalledOf, IsInstalledAs, IsName, IsOther};
 
 use crate::found::{Found, Installed, audit};
 use crate::{AuditError, Fault, Result, Severity, text_at};
-use npm_packages::{CheckError, Dependents, end_of};
+use npm_packages::{CheckError, Dependents, SoundLock, end_of};
 use serde_json::{Map, Value};
 use std::alloc::Global;
 
@@ -52,14 +52,42 @@ pub fn audit_lock<'f, 'v>(
     ensures file_sound { OnOk result (IsFileFaultBeside (view lock.now) (view file.now) None) }
     ensures refused { IfErr result (IsLockError (view lock.now) (view file.now)) }
 {
-    let installed = match installed_in(alloc, lock) {
-        Ok(installed) => installed,
-        Err(error) => return Err(error),
+    let lock = match SoundLock::of(alloc, lock) {
+        Ok(lock) => lock,
+        Err(CheckError::Refused(fault)) => return Err(LockError::Lock(fault)),
+        Err(CheckError::Memory) => return Err(LockError::Memory),
     };
-    match audit(alloc, file, level, &installed) {
+    match audit_sound_lock(file, level, &lock) {
         Ok(found) => Ok(found),
         Err(AuditError::Refused(fault)) => Err(LockError::Advisories(fault)),
         Err(AuditError::Memory) => Err(LockError::Memory),
+    }
+}
+
+/// Returns the installed packages of a lock file without a fault that an advisory hits, as [`audit_lock`] does.
+///
+/// # Errors
+///
+/// - `Refused`: the value is no advisories in npm's form or in OSV's, with the first fault and its place.
+/// - `Memory`: an allocation failed.
+pub fn audit_sound_lock<'f, 'v>(
+    file: &'f Value,
+    level: Severity,
+    lock: &SoundLock<'v>,
+) -> Result<Vec<Found<'f, 'v>>, AuditError<'f>>
+    ensures found { IfOk result (λ found. (installed : List InstalledValue)
+        × AreInstalledOf (view lock.now) installed
+        × IsAudit level (advisories_of (view file.now)) installed (map found_value found.items)) }
+    ensures sound { OnOk result (IsFileFaultBeside (view lock.now) (view file.now) None) }
+    ensures refused { IfErr result (IsAuditErrorBeside (view lock.now) (view file.now)) }
+{
+    let Ok(installed) = installed_among(lock) else {
+        return Err(AuditError::Memory);
+    };
+    match audit(lock.packages().alloc, file, level, &installed) {
+        Ok(found) => Ok(found),
+        Err(AuditError::Refused(fault)) => Err(AuditError::Refused(fault)),
+        Err(AuditError::Memory) => Err(AuditError::Memory),
     }
 }
 
@@ -69,19 +97,26 @@ pub(crate) fn installed_in<'f, 'v>(
     lock: &'v Value,
 ) -> Result<Vec<Installed<'v>>, LockError<'f>>
     ensures found { IfOk result (λ installed. AreInstalledOf (view lock.now) (map installed_value installed.items)) }
-    ensures sound { OnOk result (lock_fault (view lock.now) ≡ None) }
     ensures refused { IfErr result (λ error. (file : Data) → IsLockError (view lock.now) file error) }
 {
-    let dependents = match Dependents::of_lock(alloc, lock) {
-        Ok(dependents) => dependents,
+    let lock = match SoundLock::of(alloc, lock) {
+        Ok(lock) => lock,
         Err(CheckError::Refused(fault)) => return Err(LockError::Lock(fault)),
         Err(CheckError::Memory) => return Err(LockError::Memory),
     };
-    let members = lock.get("packages").and_then(Value::as_object).unwrap();
-    match installed_of(alloc, members, &dependents) {
+    match installed_among(&lock) {
         Ok(installed) => Ok(installed),
         Err(_) => Err(LockError::Memory),
     }
+}
+
+/// The installed packages of a lock file without a fault.
+fn installed_among<'v>(lock: &SoundLock<'v>) -> Result<Vec<Installed<'v>>>
+    ensures { IfOk result (λ installed. AreInstalledOf (view lock.now) (map installed_value installed.items)) }
+{
+    let dependents = Dependents::of_sound_lock(lock)?;
+    let packages = lock.packages();
+    installed_of(packages.alloc, packages.members, &dependents)
 }
 
 /// The installed packages among the members of `packages`.

@@ -2,18 +2,22 @@
 use Rattle.std.proofs.Common.{◌≡◌, ◌≤◌, ◌<◌, ◌∙◌, ◌∷◌, Bool, List, [], None, Ordering, Some, ap, codes, false, get_or, length, not, nat_cmp, refl, sym, true, ℕ}
 use Rattle.std.proofs.lemmas.List.Sorted.{ranks_by, sorted_far}
 use Rattle.std.specs.List.Sorted.{IsSorted}
+use Rattle.std.specs.Option.{option_map_or}
 use Rattle.std.specs.Ordering.{bool_cmp, is_lt, ordering_then}
 use Rattle.std.specs.declared.cmp.Ordering.TheVariants.{Less}
 use Rattle.node_semver.specs.Versions.{version_cmp}
 use Rattle.serde_json.specs.Data.{Data, boolean, member, no_members, object, string}
 use Rattle.npm_pick.specs.Rank.{Rank, rank_cmp}
-use Rattle.npm_candidates.specs.Asks.{asks_on, is_registered}
+use Rattle.npm_packages.specs.Asked.{asked_of}
+use Rattle.npm_packages.specs.Overrides.{rule_in}
+use Rattle.npm_candidates.specs.Asks.{RulesValue, asks_by, asks_on, is_registered, is_root}
 use Rattle.npm_candidates.specs.Candidates.{AreCandidates, is_tagged}
 use Rattle.npm_candidates.specs.Preference.{candidate_order, is_sound, lowest_order, version_preference}
 use Rattle.npm_candidates.specs.Private.Orders.{candidate_total}
 use Rattle.npm_candidates.specs.declared.candidate.Candidate.{Candidate}
 use Rattle.npm_candidates.specs.declared.options.Omits.{Omits}
 use Rattle.npm_candidates.specs.declared.options.Options.{Options}
+use Rattle.npm_candidates.specs.declared.owner.Owner.{Owner}
 use Rattle.npm_candidates.specs.declared.owner.Owner.TheVariants.{Root, Version}
 use Rattle.npm_candidates.specs.declared.owner.Reach.TheVariants.{Dependencies, Peers}
 
@@ -76,25 +80,28 @@ manifest = object (member (codes "dependencies") (object (member (codes "a") (st
     (member (codes "peerDependenciesMeta") (object (member (codes "c") (object (member (codes "optional") (boolean true) no_members))
     no_members)) no_members)))
 
+abbrev no_rules : RulesValue
+no_rules name = None
+
 abbrev nothing : Omits
 nothing = record { dev = false; optional = false; peer = false }
 
-pub a_dependency_counts_before_a_peer : asks_on manifest Root nothing (codes "a")
+pub a_dependency_counts_before_a_peer : asks_on manifest Root no_rules nothing (codes "a")
     ≡ record { name = codes "a"; spec = codes "^1"; needed = true } ∷ []
 a_dependency_counts_before_a_peer = refl
 
-pub a_version_asks_for_no_dependency : asks_on manifest (Version Peers) nothing (codes "a") ≡ []
+pub a_version_asks_for_no_dependency : asks_on manifest (Version Peers) no_rules nothing (codes "a") ≡ []
 a_version_asks_for_no_dependency = refl
 
-pub a_version_asks_for_its_peer : asks_on manifest (Version Peers) nothing (codes "b")
+pub a_version_asks_for_its_peer : asks_on manifest (Version Peers) no_rules nothing (codes "b")
     ≡ record { name = codes "b"; spec = codes "^3"; needed = true } ∷ []
 a_version_asks_for_its_peer = refl
 
-pub an_optional_peer_only_limits : asks_on manifest (Version Peers) nothing (codes "c")
+pub an_optional_peer_only_limits : asks_on manifest (Version Peers) no_rules nothing (codes "c")
     ≡ record { name = codes "c"; spec = codes "^4"; needed = false } ∷ []
 an_optional_peer_only_limits = refl
 
-pub peers_can_be_left_out : asks_on manifest (Version Peers) (record { dev = false; optional = false; peer = true }) (codes "b") ≡ []
+pub peers_can_be_left_out : asks_on manifest (Version Peers) no_rules (record { dev = false; optional = false; peer = true }) (codes "b") ≡ []
 peers_can_be_left_out = refl
 
 -- ---- what a version asks for whose dependencies count: `{"devDependencies": {"a": "^1"}, "optionalDependencies": {"b": "^2"},
@@ -106,24 +113,56 @@ bundled = object (member (codes "devDependencies") (object (member (codes "a") (
     (member (codes "dependencies") (object (member (codes "b") (string (codes "^3")) (member (codes "c") (string (codes "^4")) no_members)))
     no_members)))
 
-pub a_flat_version_asks_for_its_dependency : asks_on bundled (Version Dependencies) nothing (codes "c")
+pub a_flat_version_asks_for_its_dependency : asks_on bundled (Version Dependencies) no_rules nothing (codes "c")
     ≡ record { name = codes "c"; spec = codes "^4"; needed = true } ∷ []
 a_flat_version_asks_for_its_dependency = refl
 
-pub an_optional_dependency_of_a_version_only_limits : asks_on bundled (Version Dependencies) nothing (codes "b")
+pub an_optional_dependency_of_a_version_only_limits : asks_on bundled (Version Dependencies) no_rules nothing (codes "b")
     ≡ record { name = codes "b"; spec = codes "^2"; needed = false } ∷ []
 an_optional_dependency_of_a_version_only_limits = refl
 
-pub a_root_needs_its_optional_dependency : asks_on bundled Root nothing (codes "b")
+pub a_root_needs_its_optional_dependency : asks_on bundled Root no_rules nothing (codes "b")
     ≡ record { name = codes "b"; spec = codes "^2"; needed = true } ∷ []
 a_root_needs_its_optional_dependency = refl
 
-pub development_of_a_version_never_counts : asks_on bundled (Version Dependencies) nothing (codes "a") ≡ []
+pub development_of_a_version_never_counts : asks_on bundled (Version Dependencies) no_rules nothing (codes "a") ≡ []
 development_of_a_version_never_counts = refl
 
-pub optional_dependencies_are_left_out_everywhere : asks_on bundled (Version Dependencies)
+pub optional_dependencies_are_left_out_everywhere : asks_on bundled (Version Dependencies) no_rules
     (record { dev = false; optional = true; peer = false }) (codes "b") ≡ []
 optional_dependencies_are_left_out_everywhere = refl
+
+-- ---- what `overrides` change: `{"overrides": {"a": "2.0.0", "b": {"c": "3.0.0"}}}`
+
+abbrev root : Data
+root = object (member (codes "overrides") (object (member (codes "a") (string (codes "2.0.0")) (member (codes "b")
+    (object (member (codes "c") (string (codes "3.0.0")) no_members)) no_members))) no_members)
+
+pub a_rule_counts_for_the_root : asks_on manifest Root (rule_in root) nothing (codes "a")
+    ≡ record { name = codes "a"; spec = codes "2.0.0"; needed = true } ∷ []
+a_rule_counts_for_the_root = refl
+
+pub a_rule_counts_for_a_version : asks_on bundled (Version Dependencies)
+    (rule_in (object (member (codes "overrides") (object (member (codes "c") (string (codes "npm:d@1")) no_members)) no_members))) nothing (codes "c")
+    ≡ record { name = codes "c"; spec = codes "npm:d@1"; needed = true } ∷ []
+a_rule_counts_for_a_version = refl
+
+pub a_rule_counts_for_a_peer_that_is_not_needed : asks_on manifest (Version Peers)
+    (rule_in (object (member (codes "overrides") (object (member (codes "c") (string (codes "5")) no_members)) no_members))) nothing (codes "c")
+    ≡ record { name = codes "c"; spec = codes "5"; needed = false } ∷ []
+a_rule_counts_for_a_peer_that_is_not_needed = refl
+
+pub by_a_rule_that_is_not_read_nothing_changes : asks_on bundled (Version Dependencies) (rule_in root) nothing (codes "c")
+    ≡ record { name = codes "c"; spec = codes "^4"; needed = true } ∷ []
+by_a_rule_that_is_not_read_nothing_changes = refl
+
+pub a_rule_asks_for_nothing_itself : asks_on bundled (Version Peers) (rule_in root) nothing (codes "a") ≡ []
+a_rule_asks_for_nothing_itself = refl
+
+pub without_a_rule_nothing_changes : (asker : Data) (owner : Owner) (rules : RulesValue) (omits : Omits) (name : List ℕ)
+    → rules name ≡ None → asks_on asker owner rules omits name
+    ≡ option_map_or (asks_by owner omits name) (asked_of asker (not (is_root owner)) name) []
+without_a_rule_nothing_changes asker owner rules omits name none = rw none refl
 
 pub a_folder_asks_no_registry : is_registered (record { name = codes "a"; spec = codes "file:a"; needed = true }) ≡ false
 a_folder_asks_no_registry = refl

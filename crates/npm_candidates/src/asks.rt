@@ -2,13 +2,14 @@
 ghost use Rattle.std.specs.Prelude.{◌≡◌, ◌++◌, IfOk, OnOk, filter, map, not};
 ghost use Rattle.serde_json.specs.View.{view};
 ghost use Rattle.npm_packages.specs.PackageValue.{asked_value};
+ghost use Rattle.npm_packages.specs.Rules.{rule_at};
 ghost use Rattle.npm_candidates.specs.Asks as Asking;
 ghost use Rattle.npm_candidates.specs.Asks.{AreAllAsks, AreAsks, ask_value, is_registered};
 
 use crate::Result;
 use crate::options::Omits;
 use crate::owner::Owner;
-use npm_packages::{Asked, asked_of};
+use npm_packages::{Asked, Rules, asked_of, overridden};
 use npm_texts::registry_spec;
 use serde_json::Value;
 use std::alloc::Global;
@@ -29,6 +30,9 @@ pub struct Asks<'v> {
 ///
 /// If groups have the same name, npm's order decides: `devDependencies`, `optionalDependencies`, `dependencies`, `peerDependencies`.
 ///
+/// The rules are those of the root's `overrides`, as `npm_packages::rules_in` returns them: the spec of a rule counts in place of each
+/// other spec of its name. By a rule that is `Rule::Unread` no spec changes.
+///
 /// # Errors
 ///
 /// An allocation failed.
@@ -40,17 +44,19 @@ pub struct Asks<'v> {
 /// # Examples
 ///
 /// A root with `{"dependencies": {"a": "^1", "b": "file:b"}, "peerDependencies": {"c": "*"}}` asks for `a` by `^1` and for `c` by `*`,
-/// and `b` is left out. A version with these members asks for `c`, and by `Reach::Dependencies` for `a` too.
+/// and `b` is left out. A version with these members asks for `c`, and by `Reach::Dependencies` for `a` too. With the rule `2` for `c`
+/// both ask for `c` by `2`.
 pub fn asks_of<'v>(
     alloc: Global,
     manifest: &'v Value,
     owner: Owner,
+    rules: &Rules<'v>,
     omits: Omits,
 ) -> Result<Asks<'v>>
-    ensures { IfOk result (λ found. AreAsks (view manifest.now) owner omits (map ask_value found.asks.items)
-        (map ask_value found.left_out.items)) }
+    ensures { IfOk result (λ found. AreAsks (view manifest.now) owner (rule_at rules.now) omits
+        (map ask_value found.asks.items) (map ask_value found.left_out.items)) }
 {
-    let all = all_asks(alloc, manifest, owner, omits)?;
+    let all = all_asks(alloc, manifest, owner, rules, omits)?;
     parted(alloc, &all)
 }
 
@@ -59,14 +65,16 @@ fn all_asks<'v>(
     alloc: Global,
     manifest: &'v Value,
     owner: Owner,
+    rules: &Rules<'v>,
     omits: Omits,
 ) -> Result<Vec<Ask<'v>>>
-    ensures { IfOk result (λ asks. AreAllAsks (view manifest.now) owner omits (map ask_value asks.items)) }
+    ensures { IfOk result (λ asks. AreAllAsks (view manifest.now) owner (rule_at rules.now) omits (map ask_value asks.items)) }
 {
     let all = asked_of(alloc, manifest, !owner.is_root())?;
     let mut asks = Vec::new(alloc);
     for (name, asked) in all.iter() {
-        add_ask(&mut asks, owner, omits, *name, *asked)?;
+        let changed = overridden(rules, "", *name, *asked);
+        add_ask(&mut asks, owner, omits, *name, changed)?;
     }
     Ok(asks)
 }

@@ -26,13 +26,13 @@ mod workspace;
 pub use any_version::{check_any, convert};
 pub use found_workspace::workspace_problem;
 pub use group::Group;
-pub use lock_file::check;
+pub use lock_file::{check, check_sound_lock};
 pub use manifest::mismatches_of;
 pub use manifest_place::put_manifest;
 pub use mismatch::Mismatch;
 pub use npm_packages::{
-    CheckError, Dependents, Edge, Fault, check_package, check_specs, edges_of, has_text_version,
-    is_link, linked_folders, place_text,
+    CheckError, Dependents, Edge, Fault, SoundLock, check_package, check_specs, edges_of,
+    has_text_version, is_link, linked_folders, place_text,
 };
 pub use pattern::is_part;
 pub use problem::{Dependency, Kind, Problem, Problems, Reason, Unchecked};

@@ -19,8 +19,8 @@ use crate::problem::Problems;
 use crate::workspace::asker_patterns;
 use node_semver::Version;
 use npm_packages::{
-    CheckError, Index, Lock, Package, Rules, asked_of, is_installed, is_link, lock_of,
-    outermost_of, overridden, rules_of,
+    CheckError, Index, Lock, Package, Rules, SoundLock, asked_of, is_installed, is_link,
+    outermost_of, overridden,
 };
 use serde_json::Value;
 use std::alloc::Global;
@@ -38,12 +38,37 @@ pub fn check(alloc: Global, lock: &Value, node: Option<&Version>) -> Result<Prob
     ensures refused { (fault : Fault) → IsErrOf result (CheckError.Refused fault)
         ↔ (Faults.lock_fault (view lock.now) ≡ Some fault) }
 {
-    let lock = lock_of(alloc, lock).map_err(CheckError::Refused)?;
-    problems_of(lock, node).map_err(|_| CheckError::Memory)
+    match SoundLock::of(alloc, lock) {
+        Ok(lock) => check_sound_lock(&lock, node).map_err(|_| CheckError::Memory),
+        Err(error) => Err(error),
+    }
+}
+
+/// Returns the problems of a lock file without a fault, as [`check`] does.
+///
+/// # Errors
+///
+/// An allocation failed.
+///
+/// # Examples
+///
+/// Who checks a lock file and has it audited makes the [`SoundLock`] once, and hands it to this and to `audit_sound_lock` of
+/// npm_advisories.
+pub fn check_sound_lock(lock: &SoundLock<'_>, node: Option<&Version>) -> Result<Problems>
+    ensures { IfOk result (IsChecked (view lock.now) (option_map (λ version. version.now) node.entry)) }
+{
+    problems_of(lock.packages(), lock.index(), lock.rules(), node)
 }
 
 /// The problems of the members of `packages`.
-fn problems_of(lock: Lock<'_>, node: Option<&Version>) -> Result<Problems>
+fn problems_of<'v>(
+    lock: Lock<'v>,
+    index: &Index<'v>,
+    rules: &Rules<'v>,
+    node: Option<&Version>,
+) -> Result<Problems>
+    requires index { IsIndexOf (packages_data lock) index.now }
+    requires rules { AreRules (packages_data lock) rules.now }
     ensures ascending { IfOk result (λ problems.
         IsStrictlySortedBy (slice_cmp nat_cmp) (keys_of (members_view lock.entry.members.now.entries))) }
     ensures found { IfOk result (λ problems. (found : List Finding)
@@ -51,13 +76,11 @@ fn problems_of(lock: Lock<'_>, node: Option<&Version>) -> Result<Problems>
         (members_view lock.entry.members.now.entries) found
         × IsReport found problems) }
 {
-    let index = Index::of_lock(lock)?;
-    let rules = rules_of(lock)?;
     let mut problems = Problems::new(lock.alloc);
     for (folder, member) in lock.members.iter() {
         let folder = folder.as_str();
         let asker = Package { folder, member };
-        add_problems(lock, node, &index, &rules, asker, &mut problems)?;
+        add_problems(lock, node, index, rules, asker, &mut problems)?;
     }
     Ok(problems)
 }

@@ -63,13 +63,17 @@ rule_among name no_members = None
 rule_among name (member key value others) = both (rule_if (bytes_eq (name_of key) name) (rule_of key value))
     (both (rule_if (is_named_in name value) unread) (rule_among name others))
 
--- the members of the `overrides` of the root
-abbrev pub overrides_of : (packages : Data) → Option Members
-overrides_of packages = option_and_then as_object (option_and_then (get (codes "overrides")) (get [] packages))
+-- the members of the `overrides` of a manifest
+abbrev pub overrides_in : (manifest : Data) → Option Members
+overrides_in manifest = option_and_then as_object (get (codes "overrides") manifest)
 
--- the rule for a name
+-- the rule of a manifest for a name
+abbrev pub rule_in : (manifest : Data) → (name : List ℕ) → Option RuleValue
+rule_in manifest name = option_and_then (rule_among name) (overrides_in manifest)
+
+-- the rule of the root for a name
 abbrev pub rule_for : (packages : Data) → (name : List ℕ) → Option RuleValue
-rule_for packages name = option_and_then (rule_among name) (overrides_of packages)
+rule_for packages name = option_and_then (λ root. rule_in root name) (get [] packages)
 
 -- ---- a dependency
 

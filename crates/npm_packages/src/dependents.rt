@@ -1,17 +1,16 @@
 //! The range texts by which packages depend on installed packages.
 ghost use Rattle.std.specs.Prelude.{◌≡◌, ◌↔◌, ◌∷◌, ◌++◌, [], ℕ, IfOk, IsErrOf, List, OnOk, Some, cond, bytes_eq, map};
 ghost use Rattle.std.specs.Option.{option_map_or};
-ghost use Rattle.serde_json.specs.View.{members_view, view};
+ghost use Rattle.serde_json.specs.View.{view};
 ghost use Rattle.npm_packages.specs.Dependents.{AreDependents, AreTextsFor, IsEdgeText, texts_at};
-ghost use Rattle.npm_packages.specs.Edges.{AreEdges, EdgeValue, edge_value};
+ghost use Rattle.npm_packages.specs.Edges.{EdgeValue, edge_value};
 ghost use Rattle.npm_packages.specs.Faults as Faults;
-ghost use Rattle.npm_packages.specs.PackageValue.{packages_data};
 ghost use Rattle.npm_packages.specs.declared.fault.Fault.{Fault};
 
 use crate::Result;
-use crate::edges::{Edge, edges_among};
-use crate::fault::{CheckError, lock_of};
-use crate::place::Lock;
+use crate::edges::{Edge, edges_in};
+use crate::fault::CheckError;
+use crate::sound_lock::SoundLock;
 use npm_texts::{Spec, spec_of};
 use serde_json::Value;
 use std::alloc::Global;
@@ -42,8 +41,26 @@ impl<'v> Dependents<'v> {
         ensures refused { (fault : Fault) → IsErrOf result (CheckError.Refused fault)
             ↔ (Faults.lock_fault (view lock.now) ≡ Some fault) }
     {
-        let lock = lock_of(alloc, lock).map_err(CheckError::Refused)?;
-        dependents_among(lock).map_err(|_| CheckError::Memory)
+        match SoundLock::of(alloc, lock) {
+            Ok(lock) => Dependents::of_sound_lock(&lock).map_err(|_| CheckError::Memory),
+            Err(error) => Err(error),
+        }
+    }
+
+    /// Returns the texts as [`of_lock`](Dependents::of_lock) does, for a lock file without a fault.
+    ///
+    /// # Errors
+    ///
+    /// An allocation failed.
+    ///
+    /// # Memory
+    ///
+    /// While it runs, it holds the dependencies that `edges_of` returns.
+    pub fn of_sound_lock(lock: &SoundLock<'v>) -> Result<Dependents<'v>>
+        ensures { IfOk result (λ dependents. AreDependents (view lock.now) (texts_at dependents)) }
+    {
+        let edges = edges_in(lock)?;
+        dependents_of(lock.packages().alloc, &edges)
     }
 
     /// The texts by which other packages depend on the package in a folder: in the order of their folders' bytes, for each of
@@ -83,16 +100,6 @@ impl<'v> Dependents<'v> {
         list.push(text)?;
         Ok(())
     }
-}
-
-/// The dependents of all packages of a lock file that has no fault.
-fn dependents_among(lock: Lock<'_>) -> Result<Dependents<'_>>
-    ensures { IfOk result (λ dependents. (edges : List EdgeValue)
-        × AreEdges (packages_data lock.entry) (members_view lock.entry.members.now.entries) edges
-        × ((folder : List ℕ) → AreTextsFor folder edges (texts_at dependents folder))) }
-{
-    let edges = edges_among(lock)?;
-    dependents_of(lock.alloc, &edges)
 }
 
 /// The dependents of the packages that these dependencies lead to.

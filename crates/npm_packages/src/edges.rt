@@ -14,12 +14,13 @@ ghost use Rattle.npm_packages.specs.declared.fault.Fault.{Fault};
 
 use crate::Result;
 use crate::asked::{Asked, asked_of};
-use crate::fault::{CheckError, lock_of};
+use crate::fault::CheckError;
 use crate::folder::is_installed;
 use crate::index::Index;
-use crate::overrides::{Rules, overridden, rules_of};
+use crate::overrides::{Rules, overridden};
 use crate::place::{Lock, Package, is_link, version_of};
 use crate::search::outermost_of;
+use crate::sound_lock::SoundLock;
 use serde_json::Value;
 use std::alloc::Global;
 
@@ -69,22 +70,31 @@ pub fn edges_of(alloc: Global, lock: &Value) -> Result<Vec<Edge<'_>>, CheckError
     ensures refused { (fault : Fault) → IsErrOf result (CheckError.Refused fault)
         ↔ (Faults.lock_fault (view lock.now) ≡ Some fault) }
 {
-    let lock = lock_of(alloc, lock).map_err(CheckError::Refused)?;
-    edges_among(lock).map_err(|_| CheckError::Memory)
+    match SoundLock::of(alloc, lock) {
+        Ok(lock) => edges_in(&lock).map_err(|_| CheckError::Memory),
+        Err(error) => Err(error),
+    }
+}
+
+/// The dependencies of all packages of a lock file without a fault.
+pub(crate) fn edges_in<'v>(lock: &SoundLock<'v>) -> Result<Vec<Edge<'v>>>
+    ensures { IfOk result (λ edges. AreLockEdges (view lock.now) (map edge_value edges.items)) }
+{
+    edges_among(lock.packages(), lock.index(), lock.rules())
 }
 
 /// The dependencies of all packages.
-pub(crate) fn edges_among(lock: Lock<'_>) -> Result<Vec<Edge<'_>>>
+fn edges_among<'v>(lock: Lock<'v>, index: &Index<'v>, rules: &Rules<'v>) -> Result<Vec<Edge<'v>>>
+    requires index { IsIndexOf (packages_data lock) index.now }
+    requires rules { AreRules (packages_data lock) rules.now }
     ensures { IfOk result (λ edges. AreEdges (packages_data lock.entry) (members_view lock.entry.members.now.entries)
         (map edge_value edges.items)) }
 {
-    let index = Index::of_lock(lock)?;
-    let rules = rules_of(lock)?;
     let mut edges = Vec::new(lock.alloc);
     for (folder, member) in lock.members.iter() {
         let folder = folder.as_str();
         let asker = Package { folder, member };
-        add_package(lock, &index, &rules, asker, &mut edges)?;
+        add_package(lock, index, rules, asker, &mut edges)?;
     }
     Ok(edges)
 }

@@ -6,7 +6,7 @@ ghost use Rattle.serde_json.specs.View.{members_view, view};
 ghost use Rattle.npm_packages.specs.Overrides as Overrides;
 ghost use Rattle.npm_packages.specs.Overrides.{both, is_named_in, rule_among, rule_if, unread};
 ghost use Rattle.npm_packages.specs.PackageValue.{asked_value, packages_data};
-ghost use Rattle.npm_packages.specs.Rules.{AreRules, rule_at, rule_value};
+ghost use Rattle.npm_packages.specs.Rules.{AreRules, AreRulesIn, rule_at, rule_value};
 ghost use Rattle.npm_packages.specs.Private.OverrideKeys.{IsWithoutAtSign};
 
 use crate::Result;
@@ -44,9 +44,31 @@ pub type Rules<'v> = BTreeMap<&'v str, Rule<'v>>;
 pub fn rules_of(lock: Lock<'_>) -> Result<Rules<'_>>
     ensures { IfOk result (AreRules (packages_data lock.entry)) }
 {
-    match overrides_of(lock) {
-        Some(members) => rules_among(lock.alloc, members),
+    match lock.members.get("") {
+        Some(root) => rules_in(lock.alloc, root),
         None => Ok(BTreeMap::new(lock.alloc)),
+    }
+}
+
+/// Returns the rules in the `overrides` of a manifest, `package.json`, by name. npm reads those of a root alone.
+///
+/// # Errors
+///
+/// An allocation failed.
+///
+/// # Memory
+///
+/// Allocates an entry for each name. Names and specs are borrowed.
+///
+/// # Examples
+///
+/// For `{"overrides": {"a": "2", "b": {"c": "3"}}}`: `a` has the rule `2`. The rules for `b` and `c` are not read.
+pub fn rules_in(alloc: Global, manifest: &Value) -> Result<Rules<'_>>
+    ensures { IfOk result (AreRulesIn (view manifest.now)) }
+{
+    match overrides_in(manifest) {
+        Some(members) => rules_among(alloc, members),
+        None => Ok(BTreeMap::new(alloc)),
     }
 }
 
@@ -64,12 +86,11 @@ fn rules_among(alloc: Global, members: &Map<String, Value>) -> Result<Rules<'_>>
     Ok(rules)
 }
 
-/// The members of the `overrides` of the root.
-fn overrides_of(lock: Lock<'_>) -> Option<&Map<String, Value>>
-    ensures { option_map (λ members. members_view members.now.entries) result
-        ≡ Overrides.overrides_of (packages_data lock.entry) }
+/// The members of the `overrides` of a manifest.
+fn overrides_in(manifest: &Value) -> Option<&Map<String, Value>>
+    ensures { option_map (λ members. members_view members.now.entries) result ≡ Overrides.overrides_in (view manifest.now) }
 {
-    lock.members.get("")?.get("overrides")?.as_object()
+    manifest.get("overrides")?.as_object()
 }
 
 /// Adds a rule for each member of an object, at any depth. None of them is read.

@@ -8,7 +8,7 @@ use Rattle.std.specs.BTreeSet.{contains_text}
 use Rattle.std.specs.List.{All, Contains, flat_map}
 use Rattle.npm_texts.specs.RegistrySpec.{RegistrySpecValue, registry_spec}
 use Rattle.version_solving.specs.declared.ask.Ask.{Ask}
-use Rattle.npm_candidates.specs.Asks.{AskValue, ask_value, is_registered}
+use Rattle.npm_candidates.specs.Asks.{AskValue, RulesValue, ask_value, is_registered}
 use Rattle.npm_candidates.specs.declared.options.Omits.{Omits}
 use Rattle.npm_candidates.specs.declared.options.Options.{Options}
 use Rattle.npm_candidates.specs.declared.owner.Reach.{Reach}
@@ -304,12 +304,12 @@ module _ (Gives : Loads) (asked : List AskValue) (documents : List Document) (ol
           (sym added.queued) (new_read name (added.either name h));
     }
 
-module _ (Gives : Loads) (options : Options) (reach : Reach) (omits : Omits) (wishes : List AskValue) (documents : List Document)
+module _ (Gives : Loads) (options : Options) (reach : Reach) (rules : RulesValue) (omits : Omits) (wishes : List AskValue) (documents : List Document)
     (old popped new : Requests) (request : Request) (queued : old.queue.items ≡ request ∷ popped.queue.items)
-    (same : popped.seen ≡ old.seen) (gathered : AreGathered Gives options reach omits wishes documents old) where
+    (same : popped.seen ≡ old.seen) (gathered : AreGathered Gives options reach rules omits wishes documents old) where
   pub gathered_more : (after : List Document)
-      → IsAnswered Gives options reach omits (string_bytes request.name) (string_bytes request.package) documents after popped new
-      → AreGathered Gives options reach omits wishes after new
+      → IsAnswered Gives options reach rules omits (string_bytes request.name) (string_bytes request.package) documents after popped new
+      → AreGathered Gives options reach rules omits wishes after new
   gathered_more after (Gathered.absent none is stays) = rw (is, stays) (record {
     peers = gathered.peers;
     of_documents = gathered.of_documents;
@@ -317,7 +317,7 @@ module _ (Gives : Loads) (options : Options) (reach : Reach) (omits : Omits) (wi
   })
   gathered_more after (Gathered.found document more named packaged gives is peers added) = rw is (record {
     peers = gathered.peers ++ more ∷ [];
-    of_documents = zip_push (ArePeersOf options reach omits) documents gathered.peers document more gathered.of_documents peers;
+    of_documents = zip_push (ArePeersOf options reach rules omits) documents gathered.peers document more gathered.of_documents peers;
     held = subst (λ (l : List AskValue). AreHeld Gives l (documents ++ document ∷ []) new) (sym (asked_more wishes gathered.peers more))
         (found_held Gives (all_asked wishes gathered.peers) documents old popped request queued same gathered.held
         new document more named packaged gives added);
@@ -325,7 +325,7 @@ module _ (Gives : Loads) (options : Options) (reach : Reach) (omits : Omits) (wi
 
 -- ---- the first and the last
 
-module _ (Gives : Loads) (options : Options) (reach : Reach) (omits : Omits) (wishes : List AskValue) (start requests : Requests)
+module _ (Gives : Loads) (options : Options) (reach : Reach) (rules : RulesValue) (omits : Omits) (wishes : List AskValue) (start requests : Requests)
     (empty : start.queue.items ≡ []) (unseen : (name : List ℕ) → is_seen start name ≡ false) (added : AreAdded wishes start requests) where
   all_wait : requests.queue.items ≡ added.added
   all_wait = added.queued ∙ ap (λ l. l ++ added.added) empty
@@ -343,7 +343,7 @@ module _ (Gives : Loads) (options : Options) (reach : Reach) (omits : Omits) (wi
     read = λ name h. first_wait name (added.either name h);
   }
 
-  pub begins : AreGathered Gives options reach omits wishes [] requests
+  pub begins : AreGathered Gives options reach rules omits wishes [] requests
   begins = record { peers = []; of_documents = tt; held = begun }
 
 -- a list that is its own rest

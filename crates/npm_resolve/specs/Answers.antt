@@ -4,6 +4,7 @@ use Rattle.std.specs.Option.{IfSome, option_map_or}
 use Rattle.serde_json.specs.declared.value.Value.{Value}
 use Rattle.version_solving.specs.Documents.{problem_of}
 use Rattle.version_solving.specs.Solving.{IsTheSelection, NoneFits}
+use Rattle.version_solving.specs.declared.ask.Listed.{Listed}
 use Rattle.version_solving.specs.declared.outcome.Choice.{Choice}
 use Rattle.npm_candidates.specs.Asks.{ask_value}
 use Rattle.npm_candidates.specs.declared.options.Omits.{Omits}
@@ -11,6 +12,8 @@ use Rattle.npm_candidates.specs.declared.options.Options.{Options}
 use Rattle.npm_candidates.specs.declared.owner.Reach.{Reach}
 use Rattle.npm_resolve.specs.Explanations.{IsConflict}
 use Rattle.npm_resolve.specs.Instance.{IsInstance, key_of}
+use Rattle.npm_resolve.specs.ReasonValues.{text}
+use Rattle.npm_resolve.specs.Rules.{rules_of, unread_among}
 use Rattle.npm_resolve.specs.declared.answer.Answer.{Answer}
 use Rattle.npm_resolve.specs.declared.answer.Chosen.{Chosen}
 use Rattle.npm_resolve.specs.declared.answer.Resolution.{Resolution}
@@ -48,10 +51,13 @@ IsResolution posed (Resolutions.NoSelection found) = NoneFits (problem_of posed.
     × IfSome found (IsConflict posed)
 IsResolution posed Resolutions.Undecided = ⊤
 
--- The resolution is that of the problem that the manifests and the documents pose.
+-- The resolution is that of the problem that the manifests and the documents pose. Of the names in it, those are told whose rule in
+-- `overrides` is not read.
 pub record IsAnswer (manifests : List Value) (documents : List Document) (options : Options) (reach : Reach) (omits : Omits) (answer : Answer)
     : Type 0 where
   pub posed : Posed
   pub posing : IsInstance manifests documents options reach omits posed
   pub resolution : IsResolution posed answer.resolution
   pub left_out : posing.left_out ≡ map ask_value answer.left_out.items
+  pub unread : map text answer.unread.items
+      ≡ unread_among (rules_of manifests) (map (λ (one : Listed). one.name.now) posed.names.items)

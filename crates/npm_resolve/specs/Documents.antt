@@ -5,7 +5,7 @@ use Rattle.std.specs.List.{All, AllZip, Contains}
 use Rattle.serde_json.specs.View.{view}
 use Rattle.serde_json.specs.declared.value.Value.{Value}
 use Rattle.npm_texts.specs.RegistrySpec.{RegistrySpecValue, registry_spec}
-use Rattle.npm_candidates.specs.Asks.{AreAsks, AskValue, is_registered}
+use Rattle.npm_candidates.specs.Asks.{AreAsks, AskValue, RulesValue, is_registered}
 use Rattle.npm_candidates.specs.Candidates.{AreCandidates}
 use Rattle.npm_candidates.specs.declared.candidate.Candidate.{Candidate}
 use Rattle.npm_candidates.specs.declared.options.Omits.{Omits}
@@ -15,25 +15,26 @@ use Rattle.npm_candidates.specs.declared.owner.Reach.{Reach}
 use Rattle.npm_pick_reports.specs.Loading.{Loads}
 use Rattle.npm_pick_reports.specs.declared.load_error.LoadError.{LoadError}
 use Rattle.npm_pick_reports.specs.declared.load_error.LoadError.TheVariants.{Memory}
+use Rattle.npm_resolve.specs.Rules.{rules_of}
 use Rattle.npm_resolve.specs.Wishes.{AreWishes}
 use Rattle.npm_resolve.specs.declared.documents.Document.{Document}
 
 -- ---- what is asked for
 
 -- what a candidate asks for
-abbrev pub IsPeer : Reach → Omits → Candidate → List AskValue → Type 0
-IsPeer reach omits candidate asks = (left_out : List AskValue) × AreAsks (view candidate.manifest.now) (Version reach) omits asks left_out
+abbrev pub IsPeer : Reach → RulesValue → Omits → Candidate → List AskValue → Type 0
+IsPeer reach rules omits candidate asks = (left_out : List AskValue) × AreAsks (view candidate.manifest.now) (Version reach) rules omits asks left_out
 
 -- what the candidates of a document ask for, one candidate after the other
-pub record ArePeers (options : Options) (reach : Reach) (omits : Omits) (packument : Value) (peers : List AskValue) : Type 0 where
+pub record ArePeers (options : Options) (reach : Reach) (rules : RulesValue) (omits : Omits) (packument : Value) (peers : List AskValue) : Type 0 where
   pub candidates : List Candidate
   pub are : AreCandidates (view packument) options candidates
   pub each : List (List AskValue)
-  pub of_each : AllZip (IsPeer reach omits) candidates each
+  pub of_each : AllZip (IsPeer reach rules omits) candidates each
   pub all : peers ≡ flat_map (λ (asks : List AskValue). asks) each
 
-abbrev pub ArePeersOf : Options → Reach → Omits → Document → List AskValue → Type 0
-ArePeersOf options reach omits document peers = ArePeers options reach omits document.packument peers
+abbrev pub ArePeersOf : Options → Reach → RulesValue → Omits → Document → List AskValue → Type 0
+ArePeersOf options reach rules omits document peers = ArePeers options reach rules omits document.packument peers
 
 -- One of these asks is for this name, and asks for this package.
 pub record IsAskedAs (asked : List AskValue) (name of_package : List ℕ) : Type 0 where
@@ -70,9 +71,9 @@ pub record AreDocumentsFor (Gives : Loads) (manifests : List Value) (options : O
     : Type 0 where
   pub wishes : List AskValue
   pub left_out : List AskValue
-  pub of_root : AreWishes omits manifests wishes left_out
+  pub of_root : AreWishes (rules_of manifests) omits manifests wishes left_out
   pub peers : List (List AskValue)
-  pub of_documents : AllZip (ArePeersOf options reach omits) documents peers
+  pub of_documents : AllZip (ArePeersOf options reach (rules_of manifests) omits) documents peers
   pub read : AreAllRead Gives (all_asked wishes peers) documents
   pub found : All (IsFound Gives (all_asked wishes peers)) documents
 

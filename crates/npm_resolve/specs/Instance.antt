@@ -11,7 +11,7 @@ use Rattle.version_solving.specs.declared.ask.Asker.{Asker}
 use Rattle.version_solving.specs.declared.ask.Listed.{Listed}
 use Rattle.version_solving.specs.declared.wanted.Wanted.{Wanted}
 use Rattle.npm_texts.specs.RegistrySpec.{RegistrySpecValue, registry_spec}
-use Rattle.npm_candidates.specs.Asks.{AreAsks, AskValue, ask_value}
+use Rattle.npm_candidates.specs.Asks.{AreAsks, AskValue, RulesValue, ask_value}
 use Rattle.npm_candidates.specs.Locked.{AreOffered}
 use Rattle.npm_candidates.specs.Meanings.{IsAdmitted, IsMeaning, MeaningValue, nothing}
 use Rattle.npm_candidates.specs.declared.candidate.Candidate.{Candidate}
@@ -19,6 +19,7 @@ use Rattle.npm_candidates.specs.declared.options.Omits.{Omits}
 use Rattle.npm_candidates.specs.declared.options.Options.{Options}
 use Rattle.npm_candidates.specs.declared.owner.Owner.TheVariants.{Version}
 use Rattle.npm_candidates.specs.declared.owner.Reach.{Reach}
+use Rattle.npm_resolve.specs.Rules.{rules_of}
 use Rattle.npm_resolve.specs.Wishes.{AreWishes}
 use Rattle.npm_resolve.specs.declared.documents.Document.{Document}
 use Rattle.npm_resolve.specs.declared.instance.Offer.{Offer}
@@ -38,16 +39,16 @@ abbrev pub key_of : Offer → (candidate : ℕ) → List ℕ
 key_of offer candidate = option_map_or (λ found. found.key.now) (slice_get offer.candidates.items candidate) []
 
 -- A candidate asks for its peers, and for its dependencies too if they count.
-abbrev pub IsAsker : Reach → Omits → Candidate → Asker → Type 0
-IsAsker reach omits candidate asker = (left_out : List AskValue)
-    × AreAsks (view candidate.manifest.now) (Version reach) omits (map ask_value asker.asks.items) left_out
+abbrev pub IsAsker : Reach → RulesValue → Omits → Candidate → Asker → Type 0
+IsAsker reach rules omits candidate asker = (left_out : List AskValue)
+    × AreAsks (view candidate.manifest.now) (Version reach) rules omits (map ask_value asker.asks.items) left_out
 
-abbrev pub AreListed : Reach → Omits → List Candidate → List Asker → Type 0
-AreListed reach omits = AllZip (IsAsker reach omits)
+abbrev pub AreListed : Reach → RulesValue → Omits → List Candidate → List Asker → Type 0
+AreListed reach rules omits = AllZip (IsAsker reach rules omits)
 
-pub record IsListedFor (reach : Reach) (omits : Omits) (offer : Offer) (listed : Listed) : Type 0 where
+pub record IsListedFor (reach : Reach) (rules : RulesValue) (omits : Omits) (offer : Offer) (listed : Listed) : Type 0 where
   pub name : listed.name.now ≡ offer.name.now
-  pub askers : AreListed reach omits offer.candidates.items listed.candidates.items
+  pub askers : AreListed reach rules omits offer.candidates.items listed.candidates.items
 
 -- ---- ranges
 
@@ -107,10 +108,10 @@ pub record IsInstance (manifests : List Value) (documents : List Document) (opti
     (posed : Posed)
     : Type 0 where
   pub left_out : List AskValue
-  pub asked : AreWishes omits manifests (map ask_value posed.wishes.items) left_out
+  pub asked : AreWishes (rules_of manifests) omits manifests (map ask_value posed.wishes.items) left_out
   pub offered : AllZip (IsOffer options) documents posed.offers.items
   pub listed : List Listed
-  pub are_listed : AllZip (IsListedFor reach omits) posed.offers.items listed
+  pub are_listed : AllZip (IsListedFor reach (rules_of manifests) omits) posed.offers.items listed
   pub absent : List Listed
   pub are_absent : AreAbsent posed.wishes.items listed absent
   pub named : posed.names.items ≡ listed ++ absent

@@ -1,6 +1,7 @@
 -- What the contracts of this crate say: all of it that is trusted, in reading order.
 -- `AreDocumentsFor` of Documents is the claim of `documents_for`, and `IsAnswer` of Answers that of `resolved`.
 
+pub mod Rules  -- which rules of `overrides` count
 pub mod Wishes  -- what manifests ask for
 pub mod Documents  -- the documents that are needed
 pub mod Instance  -- the problem that manifests and documents pose

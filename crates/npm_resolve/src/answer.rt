@@ -25,10 +25,12 @@ pub enum Resolution<'v> {
     Undecided,
 }
 
-/// Which versions fit together, and what the manifests ask no registry for.
+/// Which versions fit together, what the manifests ask no registry for, and which rules are not read.
 #[derive(Drop)]
 pub struct Answer<'v> {
     pub resolution: Resolution<'v>,
     /// A folder, a repository, a URL, or an alias that npm refuses.
     pub left_out: Vec<Ask<'v>>,
+    /// Names that are asked for as they are written, since their rule in `overrides` is not read.
+    pub unread: Vec<&'v str>,
 }

@@ -3,10 +3,12 @@ ghost use Rattle.std.specs.Prelude.{◌≡◌, ◌++◌, IfErr, IfOk, List, OnOk
 ghost use Rattle.std.specs.Fn.{FnReturnsAt};
 ghost use Rattle.npm_candidates.specs.Asks.{AskValue};
 ghost use Rattle.npm_resolve.specs.Documents.{AreDocumentsFor, ArePeers, IsUnread};
+ghost use Rattle.npm_resolve.specs.Rules as Counting;
 ghost use Rattle.npm_resolve.specs.Private.Gathering.{AreAdded, AreBegun, IsAnswered};
 
 use crate::Result;
 use crate::requests::{Request, Requests};
+use crate::rules::rules_of;
 use crate::wishes::wishes_of;
 use npm_candidates::{Omits, Options, Reach};
 use npm_pick_reports::LoadError;
@@ -25,6 +27,8 @@ pub struct Document {
 /// Reads the documents of the names that manifests ask for, and of those that the versions of these documents ask for, as deep as they
 /// go, each once: peers or, by `Reach::Dependencies`, dependencies too. `load` returns the document of a package, if there is one. The
 /// first alias of a name decides which package it is.
+///
+/// `overrides` of the first manifest, which is the root, change what all of them ask for. Those of other manifests do not count.
 ///
 /// # Errors
 ///
@@ -61,6 +65,7 @@ pub fn documents_for<F: Fn(&str) -> Result<Option<Value>, LoadError>>(
             &mut documents,
             &mut requests,
             request,
+            manifests,
             options,
             reach,
             omits,
@@ -73,9 +78,10 @@ pub fn documents_for<F: Fn(&str) -> Result<Option<Value>, LoadError>>(
 
 /// The requests for what manifests ask for.
 fn first_requests(alloc: Global, manifests: &[Value], omits: Omits) -> Result<Requests>
-    ensures { IfOk result (AreBegun omits manifests.now) }
+    ensures { IfOk result (AreBegun (Counting.rules_of manifests.now) omits manifests.now) }
 {
-    let wishes = wishes_of(alloc, manifests, omits)?;
+    let rules = rules_of(alloc, manifests)?;
+    let wishes = wishes_of(alloc, manifests, &rules, omits)?;
     let mut requests = Requests::new(alloc);
     requests.add_all(alloc, &wishes.asks)?;
     Ok(requests)
@@ -87,13 +93,14 @@ fn add_document<F: Fn(&str) -> Result<Option<Value>, LoadError>>(
     documents: &mut Vec<Document>,
     requests: &mut Requests,
     request: Request,
+    manifests: &[Value],
     options: &Options<'_>,
     reach: Reach,
     omits: Omits,
     load: &F,
 ) -> Result<(), LoadError>
     requires { F.IsAlwaysCallable load.now }
-    ensures added { OnOk result (IsAnswered (FnReturnsAt F.Fn load.now) options.now reach omits (string_bytes request.name)
+    ensures added { OnOk result (IsAnswered (FnReturnsAt F.Fn load.now) options.now reach (Counting.rules_of manifests.now) omits (string_bytes request.name)
         (string_bytes request.package) documents.old.items documents.new.items requests.old requests.new) }
     ensures failed { IfErr result (IsUnread (FnReturnsAt F.Fn load.now)) }
 {
@@ -107,7 +114,9 @@ fn add_document<F: Fn(&str) -> Result<Option<Value>, LoadError>>(
         package: request.package,
         packument,
     };
-    match add_found(alloc, documents, requests, document, options, reach, omits) {
+    match add_found(
+        alloc, documents, requests, document, manifests, options, reach, omits,
+    ) {
         Ok(()) => Ok(()),
         Err(_) => Err(LoadError::Memory),
     }
@@ -119,14 +128,15 @@ fn add_found(
     documents: &mut Vec<Document>,
     requests: &mut Requests,
     document: Document,
+    manifests: &[Value],
     options: &Options<'_>,
     reach: Reach,
     omits: Omits,
 ) -> Result<()>
-    ensures { OnOk result ((peers : List AskValue) × ArePeers options.now reach omits document.packument peers
+    ensures { OnOk result ((peers : List AskValue) × ArePeers options.now reach (Counting.rules_of manifests.now) omits document.packument peers
         × AreAdded peers requests.old requests.new × (documents.new.items ≡ documents.old.items ++ document ∷ [])) }
 {
-    requests.add_peers(alloc, &document.packument, options, reach, omits)?;
+    requests.add_peers(alloc, &document.packument, manifests, options, reach, omits)?;
     match documents.push(document) {
         Ok(()) => Ok(()),
         Err(_) => Err(AllocError),

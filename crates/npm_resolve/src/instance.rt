@@ -1,6 +1,7 @@
 //! The problem that documents pose.
 ghost use Rattle.std.specs.Prelude.{IfOk};
 ghost use Rattle.std.specs.List.{AllZip};
+ghost use Rattle.npm_packages.specs.Rules.{rule_at};
 ghost use Rattle.npm_candidates.specs.Meanings.{MeaningValue, Means};
 ghost use Rattle.npm_resolve.specs.Instance.{AreAllowed, AreListed, AreRanges, IsAllowed, IsListedFor, IsMeaningFor, IsOffer, IsRangeFor};
 
@@ -9,6 +10,7 @@ use crate::documents::Document;
 use npm_candidates::{
     Candidate, Meaning, Omits, Options, Owner, Reach, asks_of, meaning_of, offered_of,
 };
+use npm_packages::Rules;
 use npm_texts::registry_spec;
 use serde_json::Value;
 use std::alloc::Global;
@@ -55,15 +57,16 @@ pub(crate) fn lists_of<'v>(
     alloc: Global,
     offers: &[Offer<'v>],
     reach: Reach,
+    rules: &Rules<'v>,
     omits: Omits,
 ) -> Result<Vec<Listed<'v>>>
-    ensures { IfOk result (λ listed. AllZip (IsListedFor reach omits) offers.now listed.items) }
+    ensures { IfOk result (λ listed. AllZip (IsListedFor reach (rule_at rules.now) omits) offers.now listed.items) }
 {
     let mut lists = Vec::with_capacity(alloc, offers.len())?;
     for offer in offers {
         lists.push(Listed {
             name: offer.name,
-            candidates: askers_of(alloc, &offer.candidates, reach, omits)?,
+            candidates: askers_of(alloc, &offer.candidates, reach, rules, omits)?,
         })?;
     }
     Ok(lists)
@@ -74,13 +77,15 @@ fn askers_of<'v>(
     alloc: Global,
     candidates: &[Candidate<'v>],
     reach: Reach,
+    rules: &Rules<'v>,
     omits: Omits,
 ) -> Result<Vec<Asker<'v>>>
-    ensures { IfOk result (λ askers. AreListed reach omits candidates.now askers.items) }
+    ensures { IfOk result (λ askers. AreListed reach (rule_at rules.now) omits candidates.now askers.items) }
 {
     let mut askers = Vec::with_capacity(alloc, candidates.len())?;
     for candidate in candidates {
-        let found = asks_of(alloc, candidate.manifest, Owner::Version(reach), omits)?;
+        let owner = Owner::Version(reach);
+        let found = asks_of(alloc, candidate.manifest, owner, rules, omits)?;
         askers.push(Asker { asks: found.asks })?;
     }
     Ok(askers)

@@ -14,6 +14,7 @@ mod instance;
 mod posed;
 mod requests;
 mod resolve;
+mod rules;
 mod wishes;
 
 pub use answer::{Answer, Chosen, Resolution};

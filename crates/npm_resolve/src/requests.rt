@@ -2,9 +2,11 @@
 ghost use Rattle.std.specs.Prelude.{◌≡◌, ℕ, List, OnOk, [], ◌∷◌, false, map};
 ghost use Rattle.npm_candidates.specs.Asks.{AskValue, ask_value};
 ghost use Rattle.npm_resolve.specs.Documents.{ArePeers};
+ghost use Rattle.npm_resolve.specs.Rules as Counting;
 ghost use Rattle.npm_resolve.specs.Private.Gathering.{AreAdded, IsNoted, is_seen};
 
 use crate::Result;
+use crate::rules::rules_of;
 use npm_candidates::{Omits, Options, Owner, Reach, asks_of, candidates_of};
 use npm_texts::registry_spec;
 use serde_json::Value;
@@ -37,20 +39,23 @@ impl Requests {
         }
     }
 
-    /// Adds what the candidates of a document ask for.
-    pub(crate) fn add_peers(
+    /// Adds what the candidates of a document ask for, by the rules of the root.
+    pub(crate) fn add_peers<'v>(
         &mut self,
         alloc: Global,
-        packument: &Value,
+        packument: &'v Value,
+        manifests: &'v [Value],
         options: &Options<'_>,
         reach: Reach,
         omits: Omits,
     ) -> Result<()>
-        ensures { OnOk result ((peers : List AskValue) × ArePeers options.now reach omits packument.now peers
+        ensures { OnOk result ((peers : List AskValue) × ArePeers options.now reach (Counting.rules_of manifests.now) omits packument.now peers
             × AreAdded peers self.old self.new) }
     {
+        let rules = rules_of(alloc, manifests)?;
         for candidate in &candidates_of(alloc, packument, options)? {
-            let found = asks_of(alloc, candidate.manifest, Owner::Version(reach), omits)?;
+            let owner = Owner::Version(reach);
+            let found = asks_of(alloc, candidate.manifest, owner, &rules, omits)?;
             self.add_all(alloc, &found.asks)?;
         }
         Ok(())

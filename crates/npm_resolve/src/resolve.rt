@@ -1,7 +1,9 @@
 //! The versions that fit together.
 ghost use Rattle.std.specs.Prelude.{◌≡◌, [], IfOk, IfSome, length};
+ghost use Rattle.version_solving.specs.Culprits.{AreCulprits};
 ghost use Rattle.version_solving.specs.Documents.{problem_of};
 ghost use Rattle.version_solving.specs.Solving.{NoneFits};
+ghost use Rattle.solving_reasons.specs.Named.{AreTooMany};
 ghost use Rattle.npm_resolve.specs.Answers.{IsAnswer, IsResolution};
 ghost use Rattle.npm_resolve.specs.Explanations.{AreReasons, IsConflict};
 
@@ -14,10 +16,11 @@ use crate::documents::Document;
 use crate::explained::all_explained;
 use crate::instance::{lists_of, offers_of, ranges_of};
 use crate::posed::Posed;
+use crate::rules::{rules_of, unread_among};
 use crate::wishes::wishes_of;
 use npm_candidates::{Asks, Omits, Options, Reach};
 use serde_json::Value;
-use solving_reasons::reasons;
+use solving_reasons::{named_demands, reasons};
 use std::alloc::Global;
 use version_solving::{
     Demand, Documents, Numbered, Outcome, blamed_asks, by_number, culprits, solve,
@@ -26,6 +29,9 @@ use version_solving::{
 /// Returns versions that fit together: of the names that manifests need, and of those that their versions need, one version each, so
 /// that all that is asked for is met. A version needs its peers and, by `Reach::Dependencies`, its `dependencies`. A name without a
 /// document has no versions.
+///
+/// `overrides` of the first manifest, which is the root, change what the manifests and the versions ask for. Those of other manifests
+/// do not count. A rule that is not read changes nothing, and is told in the answer.
 ///
 /// If no selection fits, it returns what the manifests ask for that cannot be met together, and why.
 ///
@@ -51,10 +57,12 @@ pub fn resolved<'v>(
 ) -> Result<Answer<'v>>
     ensures { IfOk result (IsAnswer manifests.now documents.now options.now reach omits) }
 {
-    let Asks { asks, left_out } = wishes_of(alloc, manifests, omits)?;
+    let rules = rules_of(alloc, manifests)?;
+    let Asks { asks, left_out } = wishes_of(alloc, manifests, &rules, omits)?;
     let offers = offers_of(alloc, documents, options)?;
-    let listed = lists_of(alloc, &offers, reach, omits)?;
+    let listed = lists_of(alloc, &offers, reach, &rules, omits)?;
     let names = with_absent(alloc, &asks, listed)?;
+    let unread = unread_among(alloc, &rules, &names)?;
     let Numbered {
         root,
         packages,
@@ -73,6 +81,7 @@ pub fn resolved<'v>(
     Ok(Answer {
         resolution,
         left_out,
+        unread,
     })
 }
 
@@ -98,12 +107,35 @@ fn conflict_of<'v>(alloc: Global, posed: &Posed<'v>, steps: u64) -> Result<Optio
     requires none { NoneFits (problem_of posed.now.root.items posed.now.documents) [] }
     ensures { IfOk result (λ found. IfSome found (IsConflict posed.now)) }
 {
-    match culprits(alloc, &posed.root, &posed.documents, steps)? {
+    match culprits_in(alloc, posed, steps)? {
         Some(demands) => Ok(Some(Conflict {
             culprits: blamed_asks(alloc, &posed.wishes, &posed.root, &demands)?,
             reasons: reasons_of(alloc, posed, &demands, steps)?,
         })),
         None => Ok(None),
+    }
+}
+
+/// The culprits of the root, which are sought among few of its demands.
+fn culprits_in(alloc: Global, posed: &Posed<'_>, steps: u64) -> Result<Option<Vec<Demand>>>
+    requires { NoneFits (problem_of posed.now.root.items posed.now.documents) [] }
+    ensures culprits { IfOk result (λ found. IfSome found (λ demands. AreCulprits (problem_of posed.now.root.items posed.now.documents) demands.items)) }
+{
+    let named = named_of(alloc, posed, steps)?;
+    culprits(alloc, &named, &posed.documents, steps)
+}
+
+/// Demands of the root that cannot be met together: those that reasons name, or all where the reasons take more steps than they may.
+///
+/// Parts of the root can be harder to solve than the whole, and `culprits` solves many parts of what it is given. Reasons mostly name few
+/// demands.
+fn named_of(alloc: Global, posed: &Posed<'_>, steps: u64) -> Result<Vec<Demand>>
+    requires { NoneFits (problem_of posed.now.root.items posed.now.documents) [] }
+    ensures { IfOk result (λ demands. AreTooMany (problem_of posed.now.root.items posed.now.documents) demands.items) }
+{
+    match reasons(alloc, &posed.root, &posed.documents, steps)? {
+        Some(lines) => named_demands(alloc, &posed.root, &lines),
+        None => Vec::from_slice(alloc, &posed.root),
     }
 }
 

@@ -1,8 +1,14 @@
--- What C passes: texts.
-use Rattle.std.specs.Prelude.{◌≡◌, ◌∷◌, ℕ, ℤ, List, [], Option, Some, None, IsUtf8, codes, false}
-use Rattle.npm_candidates.specs.declared.options.Options.{Options}
-use Rattle.npm_pick.specs.Times.{time_text}
+-- What C passes: texts, and marks beside them.
+use Rattle.std.specs.Prelude.{◌||◌, ℕ, List, Bool, Option, Some, None, IsUtf8, if◌then◌else◌, not}
+use Rattle.npm_candidates.specs.declared.options.Omits.{Omits}
+use Rattle.npm_candidates.specs.declared.owner.Reach.{Reach}
+use Rattle.npm_candidates.specs.declared.owner.Reach.TheVariants.{Dependencies, Peers}
+use Rattle.npm_resolve_c.specs.declared.asked.Marks.{Marks}
 use Rattle.npm_resolve_c.specs.declared.asked.Texts as declared
+use Rattle.npm_resolve_c.specs.declared.refusal.Refusal.{Refusal}
+use Rattle.npm_resolve_c.specs.declared.refusal.Refusal.TheVariants as Refusals
+
+-- ---- texts
 
 -- the texts of a call
 pub record Texts : Type 0 where
@@ -10,6 +16,8 @@ pub record Texts : Type 0 where
   pub documents : List ℕ
   pub default_tag : List ℕ
   pub before : List ℕ
+  pub node : List ℕ
+  pub lock : List ℕ
 
 abbrev pub texts_value : declared.Texts → Texts
 texts_value texts = record {
@@ -17,6 +25,8 @@ texts_value texts = record {
   documents = texts.documents.now;
   default_tag = texts.default_tag.now;
   before = texts.before.now;
+  node = texts.node.now;
+  lock = texts.lock.now;
 }
 
 -- all texts are UTF-8
@@ -25,21 +35,21 @@ pub record AreUtf8 (texts : Texts) : Type 0 where
   pub documents : IsUtf8 texts.documents
   pub default_tag : IsUtf8 texts.default_tag
   pub before : IsUtf8 texts.before
+  pub node : IsUtf8 texts.node
+  pub lock : IsUtf8 texts.lock
 
--- the tag that is preferred, which is `latest` if none is given
-abbrev pub tag_of : (text : List ℕ) → List ℕ
-tag_of [] = codes "latest"
-tag_of (byte ∷ text) = byte ∷ text
+-- ---- marks
 
--- the time of a text: `2024-03-01T12:00:00Z`; an empty text counts as absent
-abbrev pub IsTime : (text : List ℕ) → Option ℤ → Type 0
-IsTime text None = text ≡ []
-IsTime text (Some time) = time_text text ≡ Some time
+-- with `flat` the dependencies of versions count, and else only their peers
+abbrev pub reach_of : Marks → Reach
+reach_of marks = if marks.flat then Dependencies else Peers
 
--- the options that these texts say
-pub record AreOptions (texts : Texts) (options : Options) : Type 0 where
-  pub default_tag : options.default_tag.now ≡ tag_of texts.default_tag
-  pub before : IsTime texts.before options.before
-  pub any_node : options.node ≡ None
-  pub greatest_first : options.is_lowest ≡ false
-  pub no_lock_file : options.lock ≡ None
+abbrev pub leaves_out : Omits → Bool
+leaves_out omits = omits.dev || (omits.optional || omits.peer)
+
+-- A lock file as the answer needs `flat`, and all groups.
+abbrev pub missing_of : Marks → Option Refusal
+missing_of marks = if not marks.lock_file then None
+    else if not marks.flat then Some Refusals.NotFlat
+    else if leaves_out marks.omits then Some Refusals.Omits
+    else None

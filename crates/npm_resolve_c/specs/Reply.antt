@@ -1,24 +1,30 @@
 -- What a resolver answers to texts, or why there is no answer.
-use Rattle.std.specs.Prelude.{◌≡◌, ⊤, ℕ, List, [], ◌∷◌, None, Some, Result, Ok, Err, String, false, is_some, option_map, string_bytes, true}
+use Rattle.std.specs.Prelude.{◌≡◌, ⊤, ℕ, ℤ, Bool, List, [], ◌∷◌, None, Option, Some, Result, Ok, Err, Vec, false, is_some, map}
+use Rattle.std.specs.Prelude.{option_map, true}
 use Rattle.std.specs.declared.alloc.Global.{Global}
 use Rattle.serde_json.specs.Data.{Data}
 use Rattle.serde_json.specs.Find.{as_object, get}
 use Rattle.serde_json.specs.Read.{read}
 use Rattle.serde_json.specs.View.{view}
 use Rattle.serde_json.specs.declared.value.Value.{Value}
+use Rattle.node_semver.specs.Versions.{VersionValue}
 use Rattle.npm_packages.specs.declared.fault.Fault.{Fault}
 use Rattle.npm_pick_reports.specs.Loading.{Loads}
 use Rattle.npm_pick_reports.specs.declared.load_error.LoadError.TheVariants.{Memory}
 use Rattle.npm_pick_reports.specs.Manifest.{manifest_fault}
-use Rattle.npm_candidates.specs.declared.options.Omits.{Omits}
 use Rattle.npm_candidates.specs.declared.options.Options.{Options}
-use Rattle.npm_candidates.specs.declared.owner.Reach.TheVariants.{Peers}
-use Rattle.npm_resolve.specs.Answers.{IsAnswer}
+use Rattle.npm_resolve.specs.Answers.{IsAnswer, chosen_value}
 use Rattle.npm_resolve.specs.Documents.{AreDocumentsFor}
 use Rattle.npm_resolve.specs.declared.answer.Answer.{Answer}
+use Rattle.npm_resolve.specs.declared.answer.Resolution.{Resolution}
+use Rattle.npm_resolve.specs.declared.answer.Resolution.TheVariants as Resolutions
 use Rattle.npm_resolve.specs.declared.documents.Document.{Document}
+use Rattle.npm_resolve_reports.specs.Locks.{AreLockLines}
 use Rattle.npm_resolve_reports.specs.Objects.{json_text}
-use Rattle.npm_resolve_c.specs.Asked.{AreOptions, Texts}
+use Rattle.npm_resolve_c.specs.Asked.{Texts, missing_of, reach_of}
+use Rattle.npm_resolve_c.specs.LockFile.{IsLockRefused}
+use Rattle.npm_resolve_c.specs.Options.{AreOptions, IsTime, IsVersion}
+use Rattle.npm_resolve_c.specs.declared.asked.Marks.{Marks}
 use Rattle.npm_resolve_c.specs.declared.refusal.Refusal.{Refusal}
 use Rattle.npm_resolve_c.specs.declared.refusal.Refusal.TheVariants as Refusals
 
@@ -44,6 +50,10 @@ IsManifestRefused text Refusals.ManifestText = read text ≡ None
 IsManifestRefused text Refusals.Manifest = IsNoManifest text
 IsManifestRefused text Refusals.DocumentsText = ⊥
 IsManifestRefused text Refusals.Documents = ⊥
+IsManifestRefused text Refusals.LockText = ⊥
+IsManifestRefused text (Refusals.Lock fault) = ⊥
+IsManifestRefused text Refusals.NotFlat = ⊥
+IsManifestRefused text Refusals.Omits = ⊥
 
 -- ---- the documents
 
@@ -66,6 +76,10 @@ AreDocumentsRefused text Refusals.ManifestText = ⊥
 AreDocumentsRefused text Refusals.Manifest = ⊥
 AreDocumentsRefused text Refusals.DocumentsText = read text ≡ None
 AreDocumentsRefused text Refusals.Documents = AreNoDocuments text
+AreDocumentsRefused text Refusals.LockText = ⊥
+AreDocumentsRefused text (Refusals.Lock fault) = ⊥
+AreDocumentsRefused text Refusals.NotFlat = ⊥
+AreDocumentsRefused text Refusals.Omits = ⊥
 
 -- The document of a package is the member of its name. A package whose name no member has, has no document.
 abbrev pub Gives : (documents : Data) → Loads
@@ -74,26 +88,42 @@ Gives documents name (Err error) = error ≡ Memory
 
 -- ---- the answer
 
--- The text is the JSON of an answer, for the documents that are needed.
-pub record IsTextFor (manifest : Value) (documents : Data) (options : Options) (omits : Omits) (text : List ℕ) : Type 0 where
-  pub found : List Document
-  pub needed : AreDocumentsFor (Gives documents) (manifest ∷ []) options Peers omits found
-  pub answer : Answer
-  pub answered : IsAnswer (manifest ∷ []) found options Peers omits answer
-  pub text_is : text ≡ json_text found answer.resolution
+-- the text of the lock file for what is selected, or of the JSON object if nothing is
+abbrev pub IsFileText : List Value → List Document → Resolution → (text : List ℕ) → Type 0
+IsFileText manifests documents (Resolutions.Selected chosen) text =
+    AreLockLines manifests documents (map chosen_value chosen.items) text
+IsFileText manifests documents (Resolutions.NoSelection blamed) text = text ≡ json_text documents (Resolutions.NoSelection blamed)
+IsFileText manifests documents Resolutions.Undecided text = text ≡ json_text documents Resolutions.Undecided
 
--- what is answered to these texts, or why there is no answer
-pub data IsReply (texts : Texts) (omits : Omits) (reply : Result (List ℕ) Refusal) : Type 0 where
-  no_memory : reply ≡ Err Refusals.Memory → IsReply texts omits reply
-  no_option : ((options : Options) → ¬ AreOptions texts options) → reply ≡ Err Refusals.Option → IsReply texts omits reply
-  no_manifest : (refusal : Refusal) → IsManifestRefused texts.manifest refusal → reply ≡ Err refusal → IsReply texts omits reply
+-- the text of the JSON object, or of a lock file if one is asked for
+abbrev pub IsTextOf : (lock_file : Bool) → List Value → List Document → Resolution → (text : List ℕ) → Type 0
+IsTextOf false manifests documents resolution text = text ≡ json_text documents resolution
+IsTextOf true manifests documents resolution text = IsFileText manifests documents resolution text
+
+-- The text is that of an answer, for the documents that are needed.
+pub record IsTextFor (manifest : Value) (documents : Data) (options : Options) (marks : Marks) (text : List ℕ) : Type 0 where
+  pub found : List Document
+  pub needed : AreDocumentsFor (Gives documents) (manifest ∷ []) options (reach_of marks) marks.omits found
+  pub answer : Answer
+  pub answered : IsAnswer (manifest ∷ []) found options (reach_of marks) marks.omits answer
+  pub text_is : IsTextOf marks.lock_file (manifest ∷ []) found answer.resolution text
+
+-- what is answered to these texts and marks, or why there is no answer
+pub data IsReply (texts : Texts) (marks : Marks) (reply : Result (List ℕ) Refusal) : Type 0 where
+  no_memory : reply ≡ Err Refusals.Memory → IsReply texts marks reply
+  no_lock_file : (refusal : Refusal) → missing_of marks ≡ Some refusal → reply ≡ Err refusal → IsReply texts marks reply
+  no_time : ((time : Option ℤ) → ¬ IsTime texts.before time) → reply ≡ Err Refusals.Option → IsReply texts marks reply
+  no_version : ((version : Option VersionValue) → ¬ IsVersion texts.node version) → reply ≡ Err Refusals.Option
+      → IsReply texts marks reply
+  no_lock : (refusal : Refusal) → IsLockRefused texts.lock refusal → reply ≡ Err refusal → IsReply texts marks reply
+  no_manifest : (refusal : Refusal) → IsManifestRefused texts.manifest refusal → reply ≡ Err refusal → IsReply texts marks reply
   no_documents : (refusal : Refusal) → AreDocumentsRefused texts.documents refusal → reply ≡ Err refusal
-      → IsReply texts omits reply
-  answered : (options : Options) (manifest : Value) (documents : Data) (text : List ℕ) → AreOptions texts options
-      → IsManifest texts.manifest manifest → AreDocuments texts.documents documents
-      → IsTextFor manifest documents options omits text → reply ≡ Ok text → IsReply texts omits reply
+      → IsReply texts marks reply
+  answered : (options : Options) (manifest : Value) (documents : Data) (text : List ℕ) → missing_of marks ≡ None
+      → AreOptions texts marks options → IsManifest texts.manifest manifest → AreDocuments texts.documents documents
+      → IsTextFor manifest documents options marks text → reply ≡ Ok text → IsReply texts marks reply
 
 -- what a contract sees of it
-abbrev pub reply_value : Result (String Global) Refusal → Result (List ℕ) Refusal
-reply_value (Ok text) = Ok (string_bytes text)
+abbrev pub reply_value : Result (Vec ℕ Global) Refusal → Result (List ℕ) Refusal
+reply_value (Ok text) = Ok text.items
 reply_value (Err refusal) = Err refusal

@@ -1,11 +1,10 @@
-//! What C asks: texts.
-ghost use Rattle.std.specs.Prelude.{◌≡◌, IfErr, IfNone, IfOk, IfSome, IsUtf8, Option, ℤ};
-ghost use Rattle.npm_candidates.specs.declared.options.Options.{Options};
+//! What C asks: texts and marks.
+ghost use Rattle.std.specs.Prelude.{◌≡◌, IfNone, IfSome, IsUtf8};
 ghost use Rattle.npm_resolve_c.specs.Asked as Asking;
-ghost use Rattle.npm_resolve_c.specs.Asked.{AreOptions, AreUtf8, texts_value};
+ghost use Rattle.npm_resolve_c.specs.Asked.{AreUtf8, texts_value};
 
-use npm_pick::parse_time;
-use npm_resolve::Options;
+use crate::refusal::Refusal;
+use npm_resolve::{Omits, Reach};
 
 /// The texts of a call. An empty text of an option counts as an absent option.
 #[derive(Drop)]
@@ -14,11 +13,22 @@ pub(crate) struct Texts<'t> {
     pub(crate) documents: &'t str,
     pub(crate) default_tag: &'t str,
     pub(crate) before: &'t str,
+    pub(crate) node: &'t str,
+    /// A lock file.
+    pub(crate) lock: &'t str,
 }
 
-/// An option that cannot be read.
-#[derive(Drop)]
-pub(crate) struct Invalid;
+/// What a call asks beside its texts.
+#[derive(Clone, Copy, Drop)]
+pub(crate) struct Marks {
+    pub(crate) omits: Omits,
+    /// The dependencies of versions count.
+    pub(crate) flat: bool,
+    /// The lowest versions are preferred.
+    pub(crate) lowest: bool,
+    /// The answer is a lock file, if versions fit together.
+    pub(crate) lock_file: bool,
+}
 
 /// The texts, if all are UTF-8.
 pub(crate) fn texts_of<'t>(
@@ -26,12 +36,16 @@ pub(crate) fn texts_of<'t>(
     documents: &'t [u8],
     default_tag: &'t [u8],
     before: &'t [u8],
+    node: &'t [u8],
+    lock: &'t [u8],
 ) -> Option<Texts<'t>>
     ensures texts { IfSome result (λ texts. texts_value texts ≡ record {
       manifest = manifest.now;
       documents = documents.now;
       default_tag = default_tag.now;
       before = before.now;
+      node = node.now;
+      lock = lock.now;
     }) }
     ensures utf8 { IfSome result (λ texts. AreUtf8 (texts_value texts)) }
     ensures not_utf8 { IfNone result (¬ AreUtf8 (record {
@@ -39,6 +53,8 @@ pub(crate) fn texts_of<'t>(
       documents = documents.now;
       default_tag = default_tag.now;
       before = before.now;
+      node = node.now;
+      lock = lock.now;
     })) }
 {
     Some(Texts {
@@ -46,6 +62,8 @@ pub(crate) fn texts_of<'t>(
         documents: text_of(documents)?,
         default_tag: text_of(default_tag)?,
         before: text_of(before)?,
+        node: text_of(node)?,
+        lock: text_of(lock)?,
     })
 }
 
@@ -60,37 +78,29 @@ fn text_of(bytes: &[u8]) -> Option<&str>
     }
 }
 
-/// The options of these texts.
-pub(crate) fn options_of<'t>(texts: &Texts<'t>) -> Result<Options<'t>, Invalid>
-    ensures read { IfOk result (AreOptions (texts_value texts.now)) }
-    ensures invalid { IfErr result (λ _. (options : Options) → ¬ AreOptions (texts_value texts.now) options) }
+/// What counts of a version.
+pub(crate) fn reach_of(marks: Marks) -> Reach
+    ensures { result ≡ Asking.reach_of marks }
 {
-    Ok(Options {
-        default_tag: tag_of(texts.default_tag),
-        before: time_of(texts.before)?,
-        node: None,
-        is_lowest: false,
-        lock: None,
-    })
+    if marks.flat {
+        Reach::Dependencies
+    } else {
+        Reach::Peers
+    }
 }
 
-/// The tag that is preferred: `latest` for the empty text.
-fn tag_of(text: &str) -> &str
-    ensures { result.now ≡ Asking.tag_of text.now }
+/// What a lock file needs and is not asked: the dependencies of versions count, and no group is left out.
+pub(crate) fn missing_of(marks: Marks) -> Option<Refusal>
+    ensures { result ≡ Asking.missing_of marks }
 {
-    if text.is_empty() { "latest" } else { text }
-}
-
-/// The time of a text, if it is not empty.
-fn time_of(text: &str) -> Result<Option<i128>, Invalid>
-    ensures read { IfOk result (Asking.IsTime text.now) }
-    ensures invalid { IfErr result (λ _. (time : Option ℤ) → ¬ Asking.IsTime text.now time) }
-{
-    if text.is_empty() {
-        return Ok(None);
+    if !marks.lock_file {
+        return None;
     }
-    match parse_time(text) {
-        Some(time) => Ok(Some(time)),
-        None => Err(Invalid),
+    if !marks.flat {
+        return Some(Refusal::NotFlat);
     }
+    if marks.omits.dev || marks.omits.optional || marks.omits.peer {
+        return Some(Refusal::Omits);
+    }
+    None
 }

@@ -1,41 +1,48 @@
 //! What a resolver answers.
-ghost use Rattle.std.specs.Prelude.{IfErr, IfOk, string_bytes};
+ghost use Rattle.std.specs.Prelude.{◌≡◌, IfErr, IfOk};
 ghost use Rattle.serde_json.specs.View.{view};
+ghost use Rattle.npm_resolve_reports.specs.Objects.{json_text};
 ghost use Rattle.npm_resolve_c.specs.Asked.{texts_value};
-ghost use Rattle.npm_resolve_c.specs.Reply.{IsManifest, IsManifestRefused, IsReply, IsTextFor, reply_value};
+ghost use Rattle.npm_resolve_c.specs.Reply.{IsFileText, IsManifest, IsManifestRefused, IsReply, IsTextFor, IsTextOf, reply_value};
 
-use crate::asked::{Texts, options_of};
+use crate::asked::{Marks, Texts, missing_of, reach_of};
 use crate::documents::{document_of, documents_of};
+use crate::lock_file::{file_of, lock_in};
+use crate::options::{tag_of, time_of, version_of};
 use crate::refusal::Refusal;
 use npm_pick_reports::checked_manifest;
-use npm_resolve::{Omits, Options, Reach, documents_for, resolved};
-use npm_resolve_reports::resolution_text;
+use npm_resolve::{Document, Options, Resolution, documents_for, resolved};
+use npm_resolve_reports::{lock_lines, resolution_text};
 use serde_json::Value;
 use std::alloc::{AllocError, Global};
 use std::slice;
 
-/// The JSON of what a resolver answers to these texts, or why there is no answer.
+/// The text of what a resolver answers to these texts and marks, or why there is no answer.
 pub(crate) fn reply_to(
     alloc: Global,
     texts: &Texts<'_>,
-    omits: Omits,
+    marks: Marks,
     steps: u64,
-) -> Result<String, Refusal>
-    ensures { IsReply (texts_value texts.now) omits (reply_value result) }
+) -> Result<Vec<u8>, Refusal>
+    ensures { IsReply (texts_value texts.now) marks (reply_value result) }
 {
-    let options = match options_of(texts) {
-        Ok(options) => options,
-        Err(_) => return Err(Refusal::Option),
+    if let Some(refusal) = missing_of(marks) {
+        return Err(refusal);
+    }
+    let before = time_of(texts.before)?;
+    let node = version_of(texts.node)?;
+    let file = file_of(alloc, texts.lock)?;
+    let lock = lock_in(alloc, &file)?;
+    let manifest = manifest_of(alloc, texts.manifest)?;
+    let documents = documents_of(alloc, texts.documents)?;
+    let options = Options {
+        default_tag: tag_of(texts.default_tag),
+        before,
+        node: node.as_ref(),
+        is_lowest: marks.lowest,
+        lock,
     };
-    let manifest = match manifest_of(alloc, texts.manifest) {
-        Ok(manifest) => manifest,
-        Err(refusal) => return Err(refusal),
-    };
-    let documents = match documents_of(alloc, texts.documents) {
-        Ok(documents) => documents,
-        Err(refusal) => return Err(refusal),
-    };
-    match answer_text(alloc, &manifest, &documents, &options, omits, steps) {
+    match answer_text(alloc, &manifest, &documents, &options, marks, steps) {
         Ok(text) => Ok(text),
         Err(_) => Err(Refusal::Memory),
     }
@@ -56,31 +63,75 @@ fn manifest_of(alloc: Global, text: &str) -> Result<Value, Refusal>
     }
 }
 
-/// The JSON of what a resolver answers for a manifest and documents.
+/// The text of what a resolver answers for a manifest and documents.
 fn answer_text(
     alloc: Global,
     manifest: &Value,
     documents: &Value,
     options: &Options<'_>,
-    omits: Omits,
+    marks: Marks,
     steps: u64,
-) -> Result<String, AllocError>
-    ensures { IfOk result (λ text. IsTextFor manifest.now (view documents.now) options.now omits (string_bytes text)) }
+) -> Result<Vec<u8>, AllocError>
+    ensures { IfOk result (λ text. IsTextFor manifest.now (view documents.now) options.now marks text.items) }
 {
     let manifests = slice::from_ref(manifest);
+    let reach = reach_of(marks);
     let load = |name: &str| document_of(documents, name);
-    let found = match documents_for(alloc, manifests, options, Reach::Peers, omits, load) {
+    let found = match documents_for(alloc, manifests, options, reach, marks.omits, load) {
         Ok(found) => found,
         Err(_) => return Err(AllocError),
     };
-    let answer = resolved(
+    let answer = resolved(alloc, manifests, &found, options, reach, marks.omits, steps)?;
+    text_of(
         alloc,
         manifests,
         &found,
-        options,
-        Reach::Peers,
-        omits,
-        steps,
-    )?;
-    resolution_text(alloc, &found, &answer.resolution)
+        &answer.resolution,
+        marks.lock_file,
+    )
+}
+
+/// The text of a resolution: of the JSON object, or of a lock file if one is asked for.
+fn text_of<'v>(
+    alloc: Global,
+    manifests: &'v [Value],
+    documents: &'v [Document],
+    resolution: &Resolution<'v>,
+    lock_file: bool,
+) -> Result<Vec<u8>, AllocError>
+    ensures { IfOk result (λ text. IsTextOf lock_file manifests.now documents.now resolution.now text.items) }
+{
+    if lock_file {
+        file_text(alloc, manifests, documents, resolution)
+    } else {
+        object_text(alloc, documents, resolution)
+    }
+}
+
+/// The text of the lock file for what is selected, or of the JSON object if nothing is.
+fn file_text<'v>(
+    alloc: Global,
+    manifests: &'v [Value],
+    documents: &'v [Document],
+    resolution: &Resolution<'v>,
+) -> Result<Vec<u8>, AllocError>
+    ensures { IfOk result (λ text. IsFileText manifests.now documents.now resolution.now text.items) }
+{
+    match resolution {
+        Resolution::Selected(chosen) => lock_lines(alloc, manifests, documents, chosen),
+        Resolution::NoSelection(_) | Resolution::Undecided => {
+            object_text(alloc, documents, resolution)
+        }
+    }
+}
+
+/// The text of the JSON object of a resolution.
+fn object_text(
+    alloc: Global,
+    documents: &[Document],
+    resolution: &Resolution<'_>,
+) -> Result<Vec<u8>, AllocError>
+    ensures { IfOk result (λ text. text.items ≡ json_text documents.now resolution.now) }
+{
+    Ok(resolution_text(alloc, documents, resolution)?.into_bytes())
 }

@@ -7,12 +7,12 @@ use crate::refusal::Refusal;
 use crate::status::{OK, status_of};
 
 /// Writes the text of an answer and its length, or returns the status of why there is none.
-pub(crate) fn tell(reply: Result<String, Refusal>, room: &mut [u8], length: &mut usize) -> u32
+pub(crate) fn tell(reply: Result<Vec<u8>, Refusal>, room: &mut [u8], length: &mut usize) -> u32
     ensures { IsTold (reply_value reply) result room.old room.new length.old length.new }
 {
     match reply {
         Ok(text) => {
-            *length = put(text.as_bytes(), room);
+            *length = put(text.as_slice(), room);
             OK
         }
         Err(refusal) => status_of(refusal),

@@ -17,7 +17,8 @@ without any one of them the others can.
 
 Options, of which the value may also be in the same word, as in --steps=1000:
   --manifest FILE    A package.json, of which dependencies, devDependencies, optionalDependencies and peerDependencies
-                     count. It may be given more than once. If FILE is -, standard input is read.
+                     count. It may be given more than once. If FILE is -, standard input is read. overrides of the first
+                     one count too: a rule for all versions of a name, as {\"a\": \"1.0.0\"}. Others are not read.
                      Example: npm_resolve --manifest package.json --packuments mirror
   --packuments FOLDER
                      A folder with the documents of packages, as a registry serves them: NAME.json or NAME/package.json,
@@ -61,5 +62,6 @@ Options, of which the value may also be in the same word, as in --steps=1000:
 
 The exit status is 0 if versions fit together, 1 if none do, 3 if the steps were used up before either was known, and 2
 if nothing was asked: an argument is wrong, or a file is not read. A line on standard error says why, and names each
-dependency that asks no registry, as a folder or a repository: it is left out.
+dependency that asks no registry, as a folder or a repository: it is left out. It also names each package whose rule in
+overrides is not read.
 ";

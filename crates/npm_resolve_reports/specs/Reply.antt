@@ -7,6 +7,7 @@ use Rattle.npm_pick_reports.specs.Loading.{IsLoadFailure}
 use Rattle.npm_pick_reports.specs.declared.run_error.RunError.{RunError}
 use Rattle.npm_resolve.specs.Answers.{IsAnswer, chosen_value}
 use Rattle.npm_resolve.specs.Documents.{AreDocumentsFor}
+use Rattle.npm_resolve.specs.ReasonValues.{text}
 use Rattle.npm_resolve.specs.declared.answer.Answer.{Answer}
 use Rattle.npm_resolve.specs.declared.answer.Resolution.{Resolution}
 use Rattle.npm_resolve.specs.declared.answer.Resolution.TheVariants as Resolutions
@@ -55,7 +56,7 @@ pub record IsReply (Gives : Loads) (question : Question) (format : Format) (repl
   pub answer : Answer
   pub answered : IsAnswer question.manifests.now documents question.options question.reach question.omits answer
   pub lines : AreLines format question.manifests.now documents answer.resolution reply.lines
-  pub notes : reply.notes ≡ Notes.note_lines (map ask_value answer.left_out.items)
+  pub notes : reply.notes ≡ Notes.all_notes (map ask_value answer.left_out.items) (map text answer.unread.items)
   pub ending : reply.ending ≡ ending_of answer.resolution
 
 -- the document of a package was not read, or an allocation failed

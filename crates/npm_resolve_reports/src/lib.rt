@@ -1,7 +1,7 @@
 //! What a resolver says: the versions of packages that fit together, or what manifests ask for that cannot be met together.
 //!
-//! [`run`] writes the lines of the reply to a [`Question`], in a [`Format`], and returns how the program ends. [`resolution_text`] is for
-//! other languages: it returns the JSON object of a resolution.
+//! [`run`] writes the lines of the reply to a [`Question`], in a [`Format`], and returns how the program ends. For other languages
+//! [`resolution_text`] returns the JSON object of a resolution, and [`lock_lines`] a lock file.
 #![tactic(auto)]
 
 mod format;
@@ -15,6 +15,7 @@ mod sentence;
 mod text;
 
 pub use format::Format;
+pub use lock::lock_lines;
 pub use npm_pick_reports::{LoadError, RunError};
 pub use object_text::resolution_text;
 pub use reply::{Done, Ending, Question, run};

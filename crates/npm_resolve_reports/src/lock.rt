@@ -12,8 +12,21 @@ use npm_resolve::{Chosen, Document};
 use serde_json::Value;
 use std::alloc::Global;
 
-/// Returns the lock file for the first manifest and the versions that are selected.
-pub(crate) fn lock_lines<'v>(
+/// Returns the text of the lock file of version 3 for the first manifest and the versions that are selected. If there is no manifest, it
+/// is empty.
+///
+/// # Errors
+///
+/// An allocation failed.
+///
+/// # Memory
+///
+/// Allocates the lock file, and its text.
+///
+/// # Examples
+///
+/// For a manifest that asks for `a` by `^1`, and `a` in version 1.0.0, `packages` has `""` and `node_modules/a`.
+pub fn lock_lines<'v>(
     alloc: Global,
     manifests: &'v [Value],
     documents: &'v [Document],

@@ -8,7 +8,7 @@ ghost use Rattle.npm_resolve_reports.specs.Reply.{AreFileLines, AreLines, IsFail
 use crate::format::Format;
 use crate::json::json_line;
 use crate::lock::lock_lines;
-use crate::notes::note_lines;
+use crate::notes::all_notes;
 use crate::text::text_lines;
 use npm_pick_reports::{LoadError, RunError};
 use npm_resolve::{Document, Omits, Options, Reach, Resolution, documents_for, resolved};
@@ -120,7 +120,7 @@ fn reply_of<F: Fn(&str) -> Result<Option<Value>, LoadError>>(
         lines: lines_of(alloc, manifests, &documents, &answer.resolution, format)?,
         done: Done {
             ending: ending_of(&answer.resolution),
-            notes: note_lines(alloc, &answer.left_out)?,
+            notes: all_notes(alloc, &answer.left_out, &answer.unread)?,
         },
     })
 }

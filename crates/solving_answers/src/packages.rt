@@ -2,11 +2,12 @@
 //!
 //! A problem is a JSON array of four: the manifest of a root, an object with the document of each package, a list of the
 //! groups that are left out, and an object of options, which may be absent: `{"flat": true, "lowest": true, "lock": FILE, "node":
-//! "20.0.0"}` with a lock file. The answer is `selected` and the versions `name@version` in the order in which they are chosen; `none` and
+//! "20.0.0", "tag": "next", "before": "2024-03-01T12:00:00.000Z"}` with a lock file. The answer is `selected` and the versions `name@version` in the order in which they are chosen; `none` and
 //! the culprits `name:spec`; or `undecided`.
 use crate::items::items_of;
 use node_semver::VersionRef;
 use npm_packages::{Lock, lock_of};
+use npm_pick::parse_time;
 use npm_pick_reports::LoadError;
 use npm_resolve::{Ask, Chosen, Omits, Options, Reach, Resolution, documents_for, resolved};
 use serde_json::Value;
@@ -25,8 +26,8 @@ pub(crate) fn answer_of(alloc: Global, problem: &Value) -> anyhow::Result<String
     let given = problem.get(3);
     let node = node_in(given);
     let options = Options {
-        default_tag: "latest",
-        before: None,
+        default_tag: text_in(given, "tag").unwrap_or("latest"),
+        before: time_in(given),
         node: node.as_ref(),
         is_lowest: is_given(given, "lowest"),
         lock: lock_in(alloc, given),
@@ -90,9 +91,18 @@ fn is_given(options: Option<&Value>, option: &str) -> bool {
     }
 }
 
+fn text_in<'v>(options: Option<&'v Value>, option: &str) -> Option<&'v str> {
+    options?.get(option)?.as_str()
+}
+
+/// The time of the options.
+fn time_in(options: Option<&Value>) -> Option<i128> {
+    parse_time(text_in(options, "before")?)
+}
+
 /// The version of Node of the options.
 fn node_in<'v>(options: Option<&'v Value>) -> Option<VersionRef<'v>> {
-    match VersionRef::parse(options?.get("node")?.as_str()?) {
+    match VersionRef::parse(text_in(options, "node")?) {
         Ok(node) => Some(node),
         Err(_) => None,
     }

@@ -2,3 +2,4 @@
 
 pub mod Wishes  -- what demands have in common, and which candidates and selections have it
 pub mod Reasons  -- lines each of which is true of the documents, or follows from lines above it
+pub mod Named  -- the demands of the root that lines name

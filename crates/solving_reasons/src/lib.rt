@@ -7,6 +7,7 @@
 mod check;
 mod demands;
 mod known;
+mod named;
 mod needed;
 mod path;
 mod reason;
@@ -14,6 +15,7 @@ mod refute;
 mod terms;
 
 pub use check::is_proof;
+pub use named::named_demands;
 pub use reason::{Reason, Source, Term, Wish};
 pub use refute::reasons;
 pub use terms::{is_of, makes, name_of};

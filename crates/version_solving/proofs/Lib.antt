@@ -7,3 +7,5 @@ pub mod Examples
 pub mod Missed
 mod Places
 mod Grown
+mod TurnedProblems
+mod TurnedDocuments

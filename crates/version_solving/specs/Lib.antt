@@ -5,6 +5,7 @@ pub mod Solving  -- demands, candidates, selections, and which one of them is th
 pub mod Documents  -- the problem that documents and the demands of a root pose
 pub mod Outcomes  -- what an outcome says
 pub mod Culprits  -- demands that cannot be met together
+pub mod Fitting  -- which candidate outside the range of a demand would fit
 -- ---- problems whose names and ranges are texts
 pub mod Naming  -- which demands and packages stand for asks
 -- ---- not part of any public contract: what private functions compute

@@ -31,7 +31,7 @@ pub fn blamed_asks<'v>(
 }
 
 /// The first place of a demand that is one of them.
-fn place_of(demands: &[Demand], wanted: Demand) -> usize
+pub(crate) fn place_of(demands: &[Demand], wanted: Demand) -> usize
     requires { Contains demands.now wanted }
     ensures inside { result < length demands.now }
     ensures there { slice_get demands.now result ≡ Some wanted }

@@ -365,6 +365,11 @@ def resolve_runs():
     many = {"dependencies": {f"n{at}": "^1" for at in numbers}}
     files = {"package.json": many, **{f"mirror/n{at}.json": three for at in numbers}}
     yield PickRun(words, files, [f"n{at}@1.2.0" for at in numbers])
+    rules = {f"n{at}": "2.0.0" for at in numbers}
+    yield PickRun(words, {**files, "package.json": {**many, "overrides": rules}}, [f"n{at}@2.0.0" for at in numbers])
+    rules = {f"n{at}@1": "2.0.0" for at in numbers}
+    unread = [f"npm_resolve: overrides are not read: n{at}" for at in numbers]
+    yield PickRun(words, {**files, "package.json": {**many, "overrides": rules}}, [f"n{at}@1.2.0" for at in numbers], unread)
     locked = {"lock.json": lock_of({}, {f"node_modules/n{at}": {"version": "1.0.0"} for at in numbers})}
     yield PickRun([*words, "--lock", "lock.json"], {**files, **locked}, [f"n{at}@1.0.0" for at in numbers])
     yield PickRun([*words, "--lowest"], files, [f"n{at}@1.0.0" for at in numbers])

@@ -27,19 +27,47 @@
     "\"2.0.0\":{}}},\"none\":{\"versions\":{}},\"seven\":7,\"\\u0001\":{\"versions\":{\"1.0.0\":{}}}}"
 
 #define ASKS(text) "{\"dependencies\":{" text "}}"
+#define OVERRIDDEN(text) "{\"dependencies\":{\"react-hot\":\"*\"},\"overrides\":{" text "}}"
 #define PACKAGE(name, version) "{\"name\":\"" name "\",\"package\":\"" name "\",\"version\":\"" version "\"}"
 #define SELECTED(packages) "{\"outcome\":\"selected\",\"packages\":[" packages "]}"
 #define CULPRIT(document, name, spec)                                                                                  \
     "{\"document\":" document ",\"name\":\"" name "\",\"needed\":true,\"spec\":\"" spec "\"}"
 #define CULPRITS(culprits) "\"culprits\":[" culprits "]"
 
+/* Versions with dependencies, an engine and a deprecated version. */
+#define TREE                                                                                                           \
+    "{\"a\":{\"dist-tags\":{\"latest\":\"1.1.0\"},\"versions\":{\"1.0.0\":{\"dependencies\":{\"b\":\"^1\"}},\"1.1.0\":{"    \
+    "\"dependencies\":{\"b\":\"^1\"},\"engines\":{\"node\":\">=20\"}}}},\"b\":{\"versions\":{\"1.0.0\":{},\"1.1.0\":{},"          \
+    "\"1.2.0\":{\"deprecated\":\"old\"}}},\"c\":{\"versions\":{\"1.0.0\":{\"dependencies\":{\"b\":\"2\"}}}}}"
+
+#define LOCK(packages) "{\"lockfileVersion\":3,\"packages\":{" packages "}}"
+#define LOCKED(name, version) "\"node_modules/" name "\":{\"version\":\"" version "\"}"
+
 #define TEXT(text) { text, sizeof text - 1 }
 #define NO_TEXT { NULL, 0 }
 #define NO_OPTIONS NPM_RESOLVE_NO_OPTIONS
-#define TAG(text) { TEXT(text), NO_TEXT, NPM_RESOLVE_STEPS, false, false, false }
-#define BEFORE(text) { NO_TEXT, TEXT(text), NPM_RESOLVE_STEPS, false, false, false }
-#define STEPS(steps) { NO_TEXT, NO_TEXT, steps, false, false, false }
-#define OMIT(dev, optional, peer) { NO_TEXT, NO_TEXT, NPM_RESOLVE_STEPS, dev, optional, peer }
+#define STEPPED(count) .steps = count
+#define ALL_STEPS STEPPED(NPM_RESOLVE_STEPS)
+#define TAG(text) { .default_tag = TEXT(text), ALL_STEPS }
+#define BEFORE(text) { .before = TEXT(text), ALL_STEPS }
+#define STEPS(count) { STEPPED(count) }
+#define OMIT(dev, optional, peer) { ALL_STEPS, .omit_dev = dev, .omit_optional = optional, .omit_peer = peer }
+#define NODE(text) { .node = TEXT(text), ALL_STEPS }
+#define BY_LOCK(text) { .lock = TEXT(text), ALL_STEPS }
+#define FLAT { ALL_STEPS, .flat = true }
+#define LOWEST { ALL_STEPS, .lowest = true }
+#define FLAT_LOWEST { ALL_STEPS, .flat = true, .lowest = true }
+#define FLAT_BY_LOCK(text) { .lock = TEXT(text), ALL_STEPS, .flat = true }
+#define LOWEST_BY_LOCK(text) { .lock = TEXT(text), ALL_STEPS, .lowest = true }
+#define FLAT_NODE(text) { .node = TEXT(text), ALL_STEPS, .flat = true }
+#define FLAT_OMIT_PEER { ALL_STEPS, .omit_peer = true, .flat = true }
+#define FLAT_STEPS(count) { STEPPED(count), .flat = true }
+#define AS_LOCK { ALL_STEPS, .flat = true, .lock_file = true }
+#define AS_LOCK_BY_LOCK(text) { .lock = TEXT(text), ALL_STEPS, .flat = true, .lock_file = true }
+#define AS_LOCK_STEPS(count) { STEPPED(count), .flat = true, .lock_file = true }
+#define AS_LOCK_NOT_FLAT { ALL_STEPS, .lock_file = true }
+#define AS_LOCK_OMIT(dev, optional, peer)                                                                              \
+    { ALL_STEPS, .omit_dev = dev, .omit_optional = optional, .omit_peer = peer, .flat = true, .lock_file = true }
 
 struct row {
     npm_resolve_text manifest, documents;
@@ -56,6 +84,11 @@ struct row {
     "{\"devDependencies\":{\"react\":\"17\"},\"optionalDependencies\":{\"react\":\"18\"},\"dependencies\":{"           \
     "\"react\":\"9\"}}"
 
+#define A_LOCK                                                                                                         \
+    "{\n  \"lockfileVersion\": 3,\n  \"packages\": {\n    \"\": {\n      \"dependencies\": {\n        \"a\": \"*\"\n      }\n" \
+    "    },\n    \"node_modules/a\": {\n      \"dependencies\": {\n        \"b\": \"^1\"\n      },\n      \"version\": \"1.0.0\"\n" \
+    "    },\n    \"node_modules/b\": {\n      \"version\": \"1.1.0\"\n    }\n  },\n  \"requires\": true\n}\n"
+
 static const struct row ROWS[] = {
     {TEXT(ASKS("\"react\":\"^18\",\"react-hot\":\"*\"")), TEXT(DOCUMENTS), NO_OPTIONS, NPM_RESOLVE_OK,
      SELECTED(PACKAGE("react", "18.2.0") "," PACKAGE("react-hot", "5.0.0"))},
@@ -69,6 +102,12 @@ static const struct row ROWS[] = {
      SELECTED(PACKAGE("react", "17.0.2"))},
     {TEXT(ASKS("\"old\":\"npm:react@17\"")), TEXT(DOCUMENTS), NO_OPTIONS, NPM_RESOLVE_OK,
      SELECTED("{\"name\":\"old\",\"package\":\"react\",\"version\":\"17.0.2\"}")},
+    {TEXT(OVERRIDDEN("\"react\":\"18.2.0\"")), TEXT(DOCUMENTS), NO_OPTIONS, NPM_RESOLVE_OK,
+     SELECTED(PACKAGE("react-hot", "4.0.0") "," PACKAGE("react", "18.2.0"))},
+    {TEXT(OVERRIDDEN("\"react-hot\":\"5\"")), TEXT(DOCUMENTS), NO_OPTIONS, NPM_RESOLVE_OK,
+     SELECTED(PACKAGE("react-hot", "5.0.0") "," PACKAGE("react", "18.2.0"))},
+    {TEXT(OVERRIDDEN("\"react-hot\":{\"react\":\"18.2.0\"}")), TEXT(DOCUMENTS), NO_OPTIONS, NPM_RESOLVE_OK,
+     SELECTED(PACKAGE("react-hot", "4.0.0") "," PACKAGE("react", "17.0.2"))},
     {TEXT(ASKS("\"react\":\"file:react\"")), TEXT(DOCUMENTS), NO_OPTIONS, NPM_RESOLVE_OK, SELECTED("")},
     {TEXT(GROUPS), TEXT(DOCUMENTS), OMIT(true, true, true), NPM_RESOLVE_OK, SELECTED("")},
     {TEXT(GROUPS), TEXT(DOCUMENTS), OMIT(true, false, true), NPM_RESOLVE_OK, SELECTED(PACKAGE("react-hot", "4.0.0"))},
@@ -98,6 +137,50 @@ static const struct row ROWS[] = {
     {TEXT("{}"), TEXT("{}"), TAG("\xff"), NPM_RESOLVE_NOT_UTF8, ""},
     {TEXT("{}"), TEXT("{}"), BEFORE("\xff"), NPM_RESOLVE_NOT_UTF8, ""},
     {TEXT("{}"), TEXT("{}"), BEFORE("yesterday"), NPM_RESOLVE_INVALID_OPTION, ""},
+    {TEXT(ASKS("\"a\":\"*\"")), TEXT(TREE), NO_OPTIONS, NPM_RESOLVE_OK, SELECTED(PACKAGE("a", "1.1.0"))},
+    {TEXT(ASKS("\"a\":\"*\"")), TEXT(TREE), FLAT, NPM_RESOLVE_OK, SELECTED(PACKAGE("a", "1.1.0") "," PACKAGE("b", "1.1.0"))},
+    {TEXT(ASKS("\"c\":\"*\"")), TEXT(TREE), NO_OPTIONS, NPM_RESOLVE_OK, SELECTED(PACKAGE("c", "1.0.0"))},
+    {TEXT(ASKS("\"c\":\"*\"")), TEXT(TREE), FLAT, NPM_RESOLVE_OK, CULPRITS(CULPRIT("true", "c", "*"))},
+    {TEXT(ASKS("\"a\":\"*\"")), TEXT(TREE), LOWEST, NPM_RESOLVE_OK, SELECTED(PACKAGE("a", "1.0.0"))},
+    {TEXT(ASKS("\"a\":\"*\"")), TEXT(TREE), FLAT_LOWEST, NPM_RESOLVE_OK,
+     SELECTED(PACKAGE("a", "1.0.0") "," PACKAGE("b", "1.0.0"))},
+    {TEXT(ASKS("\"a\":\"*\"")), TEXT(TREE), NODE("18.20.0"), NPM_RESOLVE_OK, SELECTED(PACKAGE("a", "1.0.0"))},
+    {TEXT(ASKS("\"a\":\"*\"")), TEXT(TREE), NODE("v20.1.0"), NPM_RESOLVE_OK, SELECTED(PACKAGE("a", "1.1.0"))},
+    {TEXT(ASKS("\"a\":\"*\"")), TEXT(TREE), FLAT_NODE("18.20.0"), NPM_RESOLVE_OK,
+     SELECTED(PACKAGE("a", "1.0.0") "," PACKAGE("b", "1.1.0"))},
+    {TEXT(ASKS("\"a\":\"*\"")), TEXT(TREE), BY_LOCK(LOCK(LOCKED("a", "1.0.0"))), NPM_RESOLVE_OK, SELECTED(PACKAGE("a", "1.0.0"))},
+    {TEXT(ASKS("\"a\":\"*\"")), TEXT(TREE), BY_LOCK(LOCK("")), NPM_RESOLVE_OK, SELECTED(PACKAGE("a", "1.1.0"))},
+    {TEXT(ASKS("\"a\":\"*\"")), TEXT(TREE), FLAT_BY_LOCK(LOCK(LOCKED("b", "1.2.0"))), NPM_RESOLVE_OK,
+     SELECTED(PACKAGE("a", "1.1.0") "," PACKAGE("b", "1.2.0"))},
+    {TEXT(ASKS("\"b\":\"*\"")), TEXT(TREE), LOWEST_BY_LOCK(LOCK(LOCKED("b", "1.1.0"))), NPM_RESOLVE_OK,
+     SELECTED(PACKAGE("b", "1.1.0"))},
+    {TEXT("{\"peerDependencies\":{\"a\":\"*\"}}"), TEXT(TREE), FLAT_OMIT_PEER, NPM_RESOLVE_OK, SELECTED("")},
+    {TEXT(ASKS("\"a\":\"*\"")), TEXT(TREE), FLAT_STEPS(0), NPM_RESOLVE_OK, "{\"outcome\":\"undecided\"}"},
+    {TEXT(ASKS("\"a\":\"*\"")), TEXT(TREE), AS_LOCK_BY_LOCK(LOCK(LOCKED("a", "1.0.0"))), NPM_RESOLVE_OK, A_LOCK},
+    {TEXT(ASKS("\"a\":\"*\"")), TEXT(TREE), AS_LOCK_STEPS(0), NPM_RESOLVE_OK, "{\"outcome\":\"undecided\"}"},
+    {TEXT(ASKS("\"c\":\"*\"")), TEXT(TREE), AS_LOCK, NPM_RESOLVE_OK, CULPRITS(CULPRIT("true", "c", "*"))},
+    {TEXT("{}"), TEXT("{}"), AS_LOCK, NPM_RESOLVE_OK,
+     "{\n  \"lockfileVersion\": 3,\n  \"packages\": {\n    \"\": {}\n  },\n  \"requires\": true\n}\n"},
+    {TEXT("{}"), TEXT("{}"), AS_LOCK_NOT_FLAT, NPM_RESOLVE_NOT_FLAT, ""},
+    {TEXT("{}"), TEXT("{}"), AS_LOCK_OMIT(true, false, false), NPM_RESOLVE_OMITS, ""},
+    {TEXT("{}"), TEXT("{}"), AS_LOCK_OMIT(false, true, false), NPM_RESOLVE_OMITS, ""},
+    {TEXT("{}"), TEXT("{}"), AS_LOCK_OMIT(false, false, true), NPM_RESOLVE_OMITS, ""},
+    {TEXT("{}"), TEXT("{}"), NODE("\xff"), NPM_RESOLVE_NOT_UTF8, ""},
+    {TEXT("{}"), TEXT("{}"), BY_LOCK("\xff"), NPM_RESOLVE_NOT_UTF8, ""},
+    {TEXT("{}"), TEXT("{}"), NODE("20"), NPM_RESOLVE_INVALID_OPTION, ""},
+    {TEXT("{}"), TEXT("{}"), NODE(">=20"), NPM_RESOLVE_INVALID_OPTION, ""},
+    {TEXT("{}"), TEXT("{}"), BY_LOCK("{"), NPM_RESOLVE_LOCK_NO_JSON, ""},
+    {TEXT("{}"), TEXT("{}"), BY_LOCK(" "), NPM_RESOLVE_LOCK_NO_JSON, ""},
+    {TEXT("{}"), TEXT("{}"), BY_LOCK("{}"), NPM_RESOLVE_LOCK_VERSION, ""},
+    {TEXT("{}"), TEXT("{}"), BY_LOCK("{\"lockfileVersion\":1,\"packages\":{}}"), NPM_RESOLVE_LOCK_VERSION, ""},
+    {TEXT("{}"), TEXT("{}"), BY_LOCK("{\"lockfileVersion\":2}"), NPM_RESOLVE_LOCK_PACKAGES, ""},
+    {TEXT("{}"), TEXT("{}"), BY_LOCK(LOCK("\"a//b\":{}")), NPM_RESOLVE_LOCK_FOLDER, ""},
+    {TEXT("{}"), TEXT("{}"), BY_LOCK(LOCK("\"\":{\"workspaces\":7}")), NPM_RESOLVE_LOCK_WORKSPACES, ""},
+    {TEXT("{}"), TEXT("{}"), BY_LOCK(LOCK("\"a\":7")), NPM_RESOLVE_LOCK_PACKAGE, ""},
+    {TEXT("{}"), TEXT("{}"), BY_LOCK(LOCK("\"a\":{\"link\":true,\"resolved\":\"b\"}")), NPM_RESOLVE_LOCK_LINK, ""},
+    {TEXT("{}"), TEXT("{}"), BY_LOCK(LOCK("\"a\":{\"version\":7}")), NPM_RESOLVE_LOCK_PACKAGE_VERSION, ""},
+    {TEXT("{}"), TEXT("{}"), BY_LOCK(LOCK("\"a\":{\"dependencies\":[]}")), NPM_RESOLVE_LOCK_DEPENDENCIES, ""},
+    {TEXT("{}"), TEXT("{}"), BY_LOCK(LOCK("\"a\":{\"dependencies\":{\"b\":7}}")), NPM_RESOLVE_LOCK_SPEC, ""},
 };
 
 enum { COUNT = sizeof ROWS / sizeof *ROWS };

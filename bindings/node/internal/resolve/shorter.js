@@ -3,8 +3,13 @@
 'use strict';
 
 const OF_DOCUMENT = ['dist-tags', 'time'];
-const OF_MANIFEST = ['engines', 'dependencies', 'devDependencies', 'optionalDependencies', 'peerDependencies',
-    'peerDependenciesMeta'];
+const GROUPS = ['dependencies', 'devDependencies', 'optionalDependencies', 'peerDependencies'];
+const OF_MANIFEST = ['engines', 'peerDependenciesMeta', ...GROUPS];
+// What only a lock file has of a version.
+const OF_INSTALLED = ['bin', 'cpu', 'deprecated', 'dist', 'hasInstallScript', 'license', 'os', 'scripts'];
+const OF_DIST = ['integrity', 'tarball'];
+const OF_LOCK = ['lockfileVersion', 'packages'];
+const OF_PACKAGE = ['link', 'resolved', 'version', 'workspaces', ...GROUPS];
 
 // An object that JSON writes with its own members.
 const isPlain = (value) => value !== null && typeof value === 'object' && !Array.isArray(value)
@@ -27,21 +32,49 @@ function shorterManifest(manifest) {
     return { ...some(manifest, OF_MANIFEST), ...deprecated };
 }
 
-// The versions of a document, or of what a policy says of it.
-const versionsOf = (value) =>
-    (Object.hasOwn(value, 'versions') ? { versions: changed(value.versions, shorterManifest) } : {});
+// The same with what a lock file has of it.
+function installedManifest(manifest) {
+    if (!isPlain(manifest)) {
+        return manifest;
+    }
+    const { dist, ...others } = some(manifest, [...OF_MANIFEST, ...OF_INSTALLED]);
+    return { ...others, dist: isPlain(dist) ? some(dist, OF_DIST) : undefined };
+}
 
-function shorterDocument(document) {
+// The versions of a document, or of what a policy says of it.
+const versionsOf = (value, change) => (Object.hasOwn(value, 'versions') ? { versions: changed(value.versions, change) } : {});
+
+function shorterDocument(document, change) {
     if (!isPlain(document)) {
         return document;
     }
     const { policyRestrictions: policy } = document;
-    return { ...some(document, OF_DOCUMENT), ...versionsOf(document), policyRestrictions: isPlain(policy) ? versionsOf(policy) : {} };
+    return {
+        ...some(document, OF_DOCUMENT),
+        ...versionsOf(document, change),
+        policyRestrictions: isPlain(policy) ? versionsOf(policy, shorterManifest) : {},
+    };
 }
 
 // The JSON of a value; `null` for what JSON cannot write, as a function.
 const textOf = (value) => JSON.stringify(value) ?? 'null';
 
-const documentsText = (documents) => textOf(changed(documents, shorterDocument));
+// The JSON of documents; with all that a lock file has of a version, if one is asked for.
+const documentsText = (documents, isForLock) =>
+    textOf(changed(documents, (document) => shorterDocument(document, isForLock ? installedManifest : shorterManifest)));
 
-module.exports = { documentsText, textOf };
+const shorterPackage = (entry) => (isPlain(entry) ? some(entry, OF_PACKAGE) : entry);
+
+// The JSON of a lock file that is an object, or its text as it is.
+function lockText(lock) {
+    if (typeof lock === 'string') {
+        return lock;
+    }
+    if (!isPlain(lock)) {
+        return textOf(lock);
+    }
+    const { packages, ...others } = some(lock, OF_LOCK);
+    return textOf({ ...others, packages: changed(packages, shorterPackage) });
+}
+
+module.exports = { documentsText, lockText, textOf };

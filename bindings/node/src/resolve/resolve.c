@@ -4,8 +4,11 @@
 
 #include <npm_resolve.h>
 
-/* The texts that a call is passed, in this order, then the steps, and then three marks. */
-enum { MANIFEST, DOCUMENTS, DEFAULT_TAG, BEFORE, TEXTS, STEPS = TEXTS, DEV, OPTIONAL, PEER, ARGUMENTS };
+/* The texts that a call is passed, in this order, then the steps, and then six marks. */
+enum {
+    MANIFEST, DOCUMENTS, DEFAULT_TAG, BEFORE, NODE, LOCK, TEXTS, STEPS = TEXTS, DEV, OPTIONAL, PEER, FLAT, LOWEST, LOCK_FILE,
+    ARGUMENTS
+};
 
 /* How long most answers are at most: those of some 15,000 packages. */
 #define MOST ((size_t)1 << 20)
@@ -43,10 +46,16 @@ static napi_value answer_of(napi_env env, const struct text *texts, const npm_re
     return length > size ? answer_of(env, texts, options, length) : result;
 }
 
+static npm_resolve_text text_at(const struct text *text) {
+    return (npm_resolve_text){text->bytes, text->length};
+}
+
 static bool get_options(napi_env env, const napi_value *arguments, const struct text *texts, npm_resolve_options *options) {
     int64_t steps = 0;
-    options->default_tag = (npm_resolve_text){texts[DEFAULT_TAG].bytes, texts[DEFAULT_TAG].length};
-    options->before = (npm_resolve_text){texts[BEFORE].bytes, texts[BEFORE].length};
+    options->default_tag = text_at(&texts[DEFAULT_TAG]);
+    options->before = text_at(&texts[BEFORE]);
+    options->node = text_at(&texts[NODE]);
+    options->lock = text_at(&texts[LOCK]);
     if (napi_get_value_int64(env, arguments[STEPS], &steps) != napi_ok || steps < 0) {
         wrong_type(env, "the steps are no number");
         return false;
@@ -55,11 +64,14 @@ static bool get_options(napi_env env, const napi_value *arguments, const struct 
     napi_get_value_bool(env, arguments[DEV], &options->omit_dev);
     napi_get_value_bool(env, arguments[OPTIONAL], &options->omit_optional);
     napi_get_value_bool(env, arguments[PEER], &options->omit_peer);
+    napi_get_value_bool(env, arguments[FLAT], &options->flat);
+    napi_get_value_bool(env, arguments[LOWEST], &options->lowest);
+    napi_get_value_bool(env, arguments[LOCK_FILE], &options->lock_file);
     return true;
 }
 
-/* resolve(manifest, documents, defaultTag, before, steps, omitDev, omitOptional, omitPeer): the answer in JSON; or the status of
- * npm_resolve.h for which there is none. */
+/* resolve(manifest, documents, defaultTag, before, node, lock, steps, omitDev, omitOptional, omitPeer, flat, lowest, lockFile): the
+ * text of the answer; or the status of npm_resolve.h for which there is none. */
 static napi_value resolve(napi_env env, napi_callback_info info) {
     napi_value arguments[ARGUMENTS], result = NULL;
     size_t count = ARGUMENTS;

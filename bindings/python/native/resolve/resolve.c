@@ -63,33 +63,40 @@ static PyObject *answer_of(const struct asked *asked, size_t size)
 }
 
 PyDoc_STRVAR(resolve_doc,
-"resolve($module, manifest, documents, default_tag, before, steps, omit_dev,\n"
-"        omit_optional, omit_peer, /)\n"
+"resolve($module, manifest, documents, default_tag, before, node, lock, steps,\n"
+"        omit_dev, omit_optional, omit_peer, flat, lowest, lock_file, /)\n"
 "--\n"
 "\n"
 "The answer for a manifest and documents in JSON, which is JSON too; or the\n"
 "status for which there is none.");
 
+/* How many texts a call has, and how many marks. */
+enum { TEXTS = 6, MARKS = 6 };
+
 static PyObject *resolve(PyObject *module, PyObject *arguments)
 {
-    const char *texts[4];
-    Py_ssize_t lengths[4];
+    const char *texts[TEXTS];
+    Py_ssize_t lengths[TEXTS];
     unsigned long long steps;
-    int omits[3], place;
+    int marks[MARKS], place;
     struct asked asked = {{NULL, 0}, {NULL, 0}, NPM_RESOLVE_NO_OPTIONS};
-    npm_resolve_text *given[4] = {&asked.manifest, &asked.documents, &asked.options.default_tag, &asked.options.before};
+    npm_resolve_options *options = &asked.options;
+    npm_resolve_text *given[TEXTS] = {&asked.manifest, &asked.documents, &options->default_tag, &options->before,
+                                      &options->node, &options->lock};
+    bool *marked[MARKS] = {&options->omit_dev, &options->omit_optional, &options->omit_peer, &options->flat,
+                           &options->lowest, &options->lock_file};
     (void)module;
-    if (!PyArg_ParseTuple(arguments, "s#s#s#s#Kppp:resolve", &texts[0], &lengths[0], &texts[1], &lengths[1], &texts[2],
-                          &lengths[2], &texts[3], &lengths[3], &steps, &omits[0], &omits[1], &omits[2]))
+    if (!PyArg_ParseTuple(arguments, "s#s#s#s#s#s#Kpppppp:resolve", &texts[0], &lengths[0], &texts[1], &lengths[1],
+                          &texts[2], &lengths[2], &texts[3], &lengths[3], &texts[4], &lengths[4], &texts[5], &lengths[5],
+                          &steps, &marks[0], &marks[1], &marks[2], &marks[3], &marks[4], &marks[5]))
         return NULL;
-    for (place = 0; place < 4; place++) {
+    for (place = 0; place < TEXTS; place++) {
         given[place]->bytes = texts[place];
         given[place]->length = (size_t)lengths[place];
     }
-    asked.options.steps = steps;
-    asked.options.omit_dev = omits[0] != 0;
-    asked.options.omit_optional = omits[1] != 0;
-    asked.options.omit_peer = omits[2] != 0;
+    options->steps = steps;
+    for (place = 0; place < MARKS; place++)
+        *marked[place] = marks[place] != 0;
     return answer_of(&asked, MOST);
 }
 

@@ -14,12 +14,14 @@ True
 from ._error import BumpError, BumpFault, FaultKind, SemverError
 from ._native import Range, Version, satisfies
 from ._picking import PickCode, Picked, PickError, PickFault, pick
-from ._resolving import Chosen, Culprit, Group, NoSelection, Reason, Resolution, Selected, Undecided, Wish, resolve
+from ._resolving import (
+    Chosen, Culprit, Group, LockFile, LockResolution, NoSelection, Reason, Resolution, Selected, Undecided, Wish, resolve,
+)  # fmt: skip
 from ._types import Bump, Cut, CutKind, Interval, ReleaseType
 
 __all__ = [
-    "Bump", "BumpError", "BumpFault", "Chosen", "Culprit", "Cut", "CutKind", "FaultKind", "Group", "Interval", "NoSelection",
-    "PickCode", "PickError", "PickFault", "Picked", "Range", "Reason", "ReleaseType", "Resolution", "Selected", "SemverError",
-    "Undecided", "Version", "Wish", "pick", "resolve", "satisfies",
+    "Bump", "BumpError", "BumpFault", "Chosen", "Culprit", "Cut", "CutKind", "FaultKind", "Group", "Interval", "LockFile",
+    "LockResolution", "NoSelection", "PickCode", "PickError", "PickFault", "Picked", "Range", "Reason", "ReleaseType",
+    "Resolution", "Selected", "SemverError", "Undecided", "Version", "Wish", "pick", "resolve", "satisfies",
 ]  # fmt: skip
 __version__ = "1.0.0"

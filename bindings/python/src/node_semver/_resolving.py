@@ -8,6 +8,7 @@ import typing
 from typing import Any, Literal
 
 from ._picking import _text, _time
+from ._shorter import Given, documents_json, lock_json, manifest_json
 
 #: Groups of dependencies.
 Group = Literal["dev", "optional", "peer"]
@@ -15,17 +16,24 @@ _GROUPS: tuple[Group, ...] = typing.get_args(Group)
 
 _REFUSED = {
     2: "a text is not UTF-8",
-    3: "before must be a time",
+    3: "before must be a time, and node a version",
     4: "the manifest is no JSON, or it is nested too deep",
     5: "the manifest is no object, or its version or a dependency is no string",
     6: "the documents are no JSON, or they are nested too deep",
     7: "the documents are no object",
+    8: "the lock file is no JSON, or it is nested too deep",
+    9: "the lock file: `lockfileVersion` is not 2 or 3",
+    10: "the lock file: `packages` is no object",
+    11: "the lock file: npm does not write the folder of a package so, or it has more than 4096 bytes",
+    12: "the lock file: `workspaces` of the root is no list",
+    13: "the lock file: a member of `packages` is no object",
+    14: "the lock file: `resolved` of a link names no package of the file",
+    15: "the lock file: `version` of a package is no string",
+    16: "the lock file: the dependencies of a package are no object",
+    17: "the lock file: a dependency of a package is no string",
+    18: "lockfile takes flat: without it dependencies of versions are not selected",
+    19: "lockfile takes no omit: a lock file has all groups",
 }
-
-# What is read of the manifest of a root or of a version, and of a document beside its versions.
-_OF_ROOT = ("version", "dependencies", "devDependencies", "optionalDependencies", "peerDependencies", "peerDependenciesMeta")
-_OF_VERSION = ("engines", *_OF_ROOT[1:])
-_OF_DOCUMENT = ("dist-tags", "time")
 
 
 class Chosen(typing.TypedDict):
@@ -80,6 +88,13 @@ class Selected(typing.TypedDict):
     packages: list[Chosen]
 
 
+class LockFile(typing.TypedDict):
+    """Versions that fit together, as the text of a package-lock.json."""
+
+    outcome: Literal["selected"]
+    lockfile: str
+
+
 class NoSelection(typing.TypedDict):
     """No versions fit together, and why. The culprits are None if it takes more steps to find them, and so are the reasons."""
 
@@ -97,50 +112,8 @@ class Undecided(typing.TypedDict):
 #: What `resolve` returns. A dict may have more members than these.
 Resolution = Selected | NoSelection | Undecided
 
-_Given = collections.abc.Mapping[str, Any] | str | bytes
-
-
-def _some(value: Any, names: collections.abc.Iterable[str]) -> Any:
-    """The members of these names."""
-    if not isinstance(value, collections.abc.Mapping):
-        return value
-    members = {name: value[name] for name in names if name in value}
-    return {name: dict(it) if isinstance(it, collections.abc.Mapping) else it for name, it in members.items()}
-
-
-def _manifest(manifest: Any) -> Any:
-    """What is read of the manifest of a version. The reason why it is deprecated is not."""
-    if not isinstance(manifest, collections.abc.Mapping):
-        return manifest
-    deprecated = manifest.get("deprecated")
-    return {**_some(manifest, _OF_VERSION), "deprecated": bool(deprecated) if isinstance(deprecated, str) else deprecated}
-
-
-def _versions(value: collections.abc.Mapping[str, Any]) -> dict[str, Any]:
-    """The versions of a document, or of what a policy says of it."""
-    versions = value.get("versions")
-    if isinstance(versions, collections.abc.Mapping):
-        versions = {key: _manifest(manifest) for key, manifest in versions.items()}
-    return {"versions": versions}
-
-
-def _document(document: Any) -> Any:
-    """What is read of a document."""
-    if not isinstance(document, collections.abc.Mapping):
-        return document
-    policy = document.get("policyRestrictions")
-    restrictions = _versions(policy) if isinstance(policy, collections.abc.Mapping) else None
-    return {**_some(document, _OF_DOCUMENT), **_versions(document), "policyRestrictions": restrictions}
-
-
-def _json(given: _Given, name: str, change: typing.Callable[[collections.abc.Mapping[str, Any]], Any]) -> str | bytes:
-    """The JSON of a dict of which these are the members that are read, or the JSON that was given."""
-    if isinstance(given, collections.abc.Mapping):
-        return json.dumps(change(given))
-    if isinstance(given, (str, bytes)):
-        return given
-    raise TypeError(f"{name} must be a dict, a str or bytes")
-
+#: What `resolve` returns for `lockfile=True`.
+LockResolution = LockFile | NoSelection | Undecided
 
 def _omits(omit: Group | collections.abc.Iterable[Group]) -> list[bool]:
     groups = [omit] if isinstance(omit, str) else list(omit)
@@ -157,23 +130,88 @@ def _steps(steps: int) -> int:
     return steps
 
 
+def _mark(mark: bool, name: str) -> bool:
+    if not isinstance(mark, bool):
+        raise TypeError(f"{name} must be True or False")
+    return mark
+
+
+@typing.overload
 def resolve(
-    manifest: _Given,
-    documents: _Given,
+    manifest: Given,
+    documents: Given,
+    *,
+    default_tag: str = ...,
+    before: datetime.datetime | str | None = ...,
+    node: str | None = ...,
+    lock: Given | None = ...,
+    omit: Group | collections.abc.Iterable[Group] = ...,
+    flat: bool = ...,
+    lowest: bool = ...,
+    lockfile: Literal[False] = ...,
+    steps: int = ...,
+) -> Resolution: ...
+
+
+@typing.overload
+def resolve(
+    manifest: Given,
+    documents: Given,
+    *,
+    default_tag: str = ...,
+    before: datetime.datetime | str | None = ...,
+    node: str | None = ...,
+    lock: Given | None = ...,
+    omit: Group | collections.abc.Iterable[Group] = ...,
+    flat: bool = ...,
+    lowest: bool = ...,
+    lockfile: Literal[True],
+    steps: int = ...,
+) -> LockResolution: ...
+
+
+@typing.overload
+def resolve(
+    manifest: Given,
+    documents: Given,
+    *,
+    default_tag: str = ...,
+    before: datetime.datetime | str | None = ...,
+    node: str | None = ...,
+    lock: Given | None = ...,
+    omit: Group | collections.abc.Iterable[Group] = ...,
+    flat: bool = ...,
+    lowest: bool = ...,
+    lockfile: bool = ...,
+    steps: int = ...,
+) -> Resolution | LockResolution: ...
+
+
+def resolve(
+    manifest: Given,
+    documents: Given,
     *,
     default_tag: str = "latest",
     before: datetime.datetime | str | None = None,
+    node: str | None = None,
+    lock: Given | None = None,
     omit: Group | collections.abc.Iterable[Group] = (),
+    flat: bool = False,
+    lowest: bool = False,
+    lockfile: bool = False,
     steps: int = 10_000_000,
-) -> Resolution:
+) -> Resolution | LockResolution:
     """Versions of packages that fit together, or what cannot be installed together.
 
     The manifest is a package.json, and the documents are a dict from the name of a package to its document, as a registry serves
     it; or each is its JSON. One version is selected of each package that the manifest asks for, and of the peers of the versions
     that are selected: the best with which a selection that fits exists. A name without a document has no versions.
 
-    `before` leaves out what was published later, and `omit` the groups `dev`, `optional` and `peer`. The search stops after so
-    many `steps`. Raises `ValueError` if the manifest, the documents or an option cannot be read.
+    `before` leaves out what was published later, and `omit` the groups `dev`, `optional` and `peer`. `node` is the version of Node,
+    for `engines`; without it any is fine. With `flat` the dependencies of selected versions count too, with `lowest` the lowest
+    versions are preferred, and a version that the package-lock.json `lock` has in `node_modules/NAME` comes first. With `lockfile`,
+    which takes `flat` and no `omit`, the answer is a package-lock.json if versions fit together. The search stops after so many
+    `steps`. Raises `ValueError` if the manifest, the documents or an option cannot be read.
 
     >>> documents = {
     ...     'hot': {'versions': {'4.0.0': {'peerDependencies': {'react': '^17'}}}},
@@ -185,13 +223,18 @@ def resolve(
     >>> answer = resolve({'dependencies': {'hot': '*', 'react': '18'}}, documents)
     >>> answer['outcome'], [one['name'] for one in answer['culprits']]
     ('none', ['hot', 'react'])
+    >>> answer = resolve({'dependencies': {'hot': '*'}}, documents, flat=True, lockfile=True)
+    >>> '"node_modules/react"' in answer['lockfile']
+    True
     """
     from . import _resolve
 
-    of_root = _json(manifest, "a manifest", lambda given: _some(given, _OF_ROOT))
-    of_packages = _json(documents, "documents", lambda given: {name: _document(it) for name, it in given.items()})
-    texts = (_text(default_tag, "default_tag"), _text(_time(before), "before"))
-    answer = _resolve.resolve(of_root, of_packages, *texts, _steps(steps), *_omits(omit))
+    marks = [_mark(flat, "flat"), _mark(lowest, "lowest"), _mark(lockfile, "lockfile")]
+    given = (manifest_json(manifest, lockfile), documents_json(documents, lockfile))
+    texts = (_text(default_tag, "default_tag"), _text(_time(before), "before"), _text(node, "node"))
+    answer = _resolve.resolve(*given, *texts, lock_json(lock), _steps(steps), *_omits(omit), *marks)
     if isinstance(answer, int):
         raise ValueError(_REFUSED[answer])
+    if answer.startswith("{\n"):
+        return LockFile(outcome="selected", lockfile=answer)
     return typing.cast(Resolution, json.loads(answer))

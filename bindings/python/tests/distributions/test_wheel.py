@@ -14,7 +14,8 @@ INFO = f"denimscree_semver-{VERSION}.dist-info"
 FILES = [
     "node_semver/__init__.py", "node_semver/_error.py", "node_semver/_native.abi3.so", "node_semver/_native.pyi",
     "node_semver/_pick.abi3.so", "node_semver/_pick.pyi", "node_semver/_picking.py", "node_semver/_resolve.abi3.so",
-    "node_semver/_resolve.pyi", "node_semver/_resolving.py", "node_semver/_types.py", "node_semver/py.typed",
+    "node_semver/_resolve.pyi", "node_semver/_resolving.py", "node_semver/_shorter.py", "node_semver/_types.py",
+    "node_semver/py.typed",
     f"{INFO}/LICENSE", f"{INFO}/METADATA", f"{INFO}/RECORD", f"{INFO}/WHEEL", f"{INFO}/top_level.txt",
 ]  # fmt: skip
 METADATA = [

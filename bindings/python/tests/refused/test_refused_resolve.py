@@ -7,7 +7,7 @@ It runs from the build that NODE_SEMVER_REFUSE=1 makes.
 import ctypes
 import json
 import unittest
-from typing import Union
+from typing import Any, List, Union
 
 from node_semver import _resolve
 
@@ -21,8 +21,12 @@ DOCUMENTS = json.dumps({
 })  # fmt: skip
 
 
-def resolve(manifest: str, documents: str = DOCUMENTS) -> Union[str, int]:
-    return _resolve.resolve(manifest, documents, "latest", "2024-01-01T00:00:00Z", 1000, True, False, False)
+LOCK = '{"lockfileVersion": 3, "packages": {"node_modules/react": {"version": "17.0.2"}}}'
+
+
+def resolve(manifest: str, documents: str = DOCUMENTS, lock: str = "", lock_file: bool = False) -> Union[str, int]:
+    texts = (manifest, documents, "latest", "2024-01-01T00:00:00Z", "20.0.0", lock)
+    return _resolve.resolve(*texts, 1000, not lock_file, False, False, True, False, lock_file)
 
 
 def asks(dependencies: str) -> str:
@@ -30,7 +34,7 @@ def asks(dependencies: str) -> str:
 
 
 class Refused(unittest.TestCase):
-    def count_of(self, *words: str) -> int:
+    def count_of(self, *words: Any) -> int:
         """How many allocations of a call were refused."""
         expected, kept, place = resolve(*words), NATIVE.blocks_kept(), 0
         while True:
@@ -49,11 +53,13 @@ class Refused(unittest.TestCase):
             place += 1
 
     def test_each_allocation(self) -> None:
-        calls = [
+        calls: List[List[Any]] = [
             [asks('"hot": "*", "react": "^18"')], [asks('"hot": "^4", "react": "^18"')], [asks('"gone": "*"')],
             [asks('"gone": "file:a"')], ["{}", "7"], ["7"], ["{}", "[1, 2"],
+            [asks('"hot": "*"'), DOCUMENTS, LOCK], [asks('"hot": "*"'), DOCUMENTS, LOCK, True], ["{}", DOCUMENTS, "[1, 2"],
+            ["{}", DOCUMENTS, '{"lockfileVersion": 3, "packages": {"": 7}}'],
         ]  # fmt: skip
-        self.assertGreater(sum(self.count_of(*words) for words in calls), 200)
+        self.assertGreater(sum(self.count_of(*words) for words in calls), 400)
 
 
 if __name__ == "__main__":

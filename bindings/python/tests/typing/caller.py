@@ -6,7 +6,7 @@ import functools
 from typing import List, Optional, Tuple, Union
 
 from node_semver import Bump, BumpError, BumpFault, Cut, CutKind, FaultKind, Interval, Range, ReleaseType, SemverError
-from node_semver import PickCode, Picked, PickError, PickFault, Resolution, Version, pick, resolve, satisfies
+from node_semver import LockResolution, PickCode, Picked, PickError, PickFault, Resolution, Version, pick, resolve, satisfies
 
 version: Version = Version("1.2.3-rc.4")
 strict: Version = Version("1.2.3-rc.4", strict=True)
@@ -79,3 +79,5 @@ if answer["outcome"] == "selected":
     names: List[str] = [f"{one['name']}@{one['version']}" for one in answer["packages"]]
 elif answer["outcome"] == "none":
     specs: List[str] = [one["spec"] for one in answer["culprits"] or []]
+locked: LockResolution = resolve("{}", {}, flat=True, lowest=True, node="v20.1.0", lock={"lockfileVersion": 3}, lockfile=True)
+lock: str = locked["lockfile"] if locked["outcome"] == "selected" else ""

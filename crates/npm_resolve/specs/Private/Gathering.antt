@@ -2,7 +2,7 @@
 use Rattle.std.specs.Prelude.{◌≡◌, ◌⊎◌, ◌++◌, ℕ, Bool, List, [], ◌∷◌, None, Ok, Some, bytes_eq, false, if◌then◌else◌, string_bytes, true}
 use Rattle.std.specs.BTreeSet.{contains_text}
 use Rattle.std.specs.List.{All, AllZip, Contains}
-use Rattle.npm_candidates.specs.Asks.{AskValue, is_registered}
+use Rattle.npm_candidates.specs.Asks.{AskValue, RulesValue, is_registered}
 use Rattle.npm_candidates.specs.declared.options.Omits.{Omits}
 use Rattle.npm_candidates.specs.declared.options.Options.{Options}
 use Rattle.npm_candidates.specs.declared.owner.Reach.{Reach}
@@ -43,25 +43,25 @@ pub data IsNoted (name of_package : List ℕ) (old new : Requests) : Type 0 wher
       → IsNoted name of_package old new
 
 -- What the manifests ask for waits to be read.
-pub record AreBegun (omits : Omits) (manifests : List Value) (requests : Requests) : Type 0 where
+pub record AreBegun (rules : RulesValue) (omits : Omits) (manifests : List Value) (requests : Requests) : Type 0 where
   pub wishes : List AskValue
   pub left_out : List AskValue
-  pub of_root : AreWishes omits manifests wishes left_out
+  pub of_root : AreWishes rules omits manifests wishes left_out
   pub start : Requests
   pub empty : start.queue.items ≡ []
   pub unseen : (name : List ℕ) → is_seen start name ≡ false
   pub added : AreAdded wishes start requests
 
 -- The package of a request has no document, or one, whose candidates ask for more.
-pub data IsAnswered (Gives : Loads) (options : Options) (reach : Reach) (omits : Omits) (name of_package : List ℕ) (documents new_documents : List Document)
+pub data IsAnswered (Gives : Loads) (options : Options) (reach : Reach) (rules : RulesValue) (omits : Omits) (name of_package : List ℕ) (documents new_documents : List Document)
     (old new : Requests)
     : Type 0 where
   absent : Gives of_package (Ok None) → new_documents ≡ documents → new ≡ old
-      → IsAnswered Gives options reach omits name of_package documents new_documents old new
+      → IsAnswered Gives options reach rules omits name of_package documents new_documents old new
   found : (document : Document) (peers : List AskValue) → string_bytes document.name ≡ name
       → string_bytes document.package ≡ of_package → Gives of_package (Ok (Some document.packument))
-      → new_documents ≡ documents ++ (document ∷ []) → ArePeers options reach omits document.packument peers → AreAdded peers old new
-      → IsAnswered Gives options reach omits name of_package documents new_documents old new
+      → new_documents ≡ documents ++ (document ∷ []) → ArePeers options reach rules omits document.packument peers → AreAdded peers old new
+      → IsAnswered Gives options reach rules omits name of_package documents new_documents old new
 
 -- What is asked for was seen. What waits was asked for, and so was each document; and a name that was seen waits, or is read.
 pub record AreHeld (Gives : Loads) (asked : List AskValue) (documents : List Document) (requests : Requests) : Type 0 where
@@ -72,9 +72,9 @@ pub record AreHeld (Gives : Loads) (asked : List AskValue) (documents : List Doc
       → IsWaiting requests.queue.items name ⊎ IsRead Gives asked documents name
 
 -- The same of what the manifests and the candidates of the documents so far ask for.
-pub record AreGathered (Gives : Loads) (options : Options) (reach : Reach) (omits : Omits) (wishes : List AskValue) (documents : List Document)
+pub record AreGathered (Gives : Loads) (options : Options) (reach : Reach) (rules : RulesValue) (omits : Omits) (wishes : List AskValue) (documents : List Document)
     (requests : Requests)
     : Type 0 where
   pub peers : List (List AskValue)
-  pub of_documents : AllZip (ArePeersOf options reach omits) documents peers
+  pub of_documents : AllZip (ArePeersOf options reach rules omits) documents peers
   pub held : AreHeld Gives (all_asked wishes peers) documents requests

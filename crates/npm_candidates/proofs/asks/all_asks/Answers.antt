@@ -1,11 +1,12 @@
 -- What is asked of a name comes before what is asked of those that are left.
-use Rattle.std.proofs.Common.{◌≡◌, ◌∙◌, ◌++◌, List, [], map, not, ap, append_assoc, append-nil, option_map, refl, sym}
-use Rattle.std.specs.List.{flat_map}
+use Rattle.std.proofs.Common.{◌≡◌, ◌∙◌, [], not, ap, append_assoc, append-nil, refl, sym}
 use Rattle.std.specs.Option.{option_map_or}
 use Rattle.serde_json.specs.View.{view}
 use Rattle.npm_packages.specs.Lemmas.NameLists.{all_asked, are_names, names_of}
+use Rattle.npm_packages.specs.Overrides.{changed_by}
 use Rattle.npm_packages.specs.PackageValue.{asked_value}
-use Rattle.npm_candidates.specs.Asks.{AskValue, ask_value, asks_by, asks_on, is_root}
+use Rattle.npm_packages.specs.Rules.{rule_at}
+use Rattle.npm_candidates.specs.Asks.{asks_by, asks_on, is_root}
 use Rattle.npm_candidates.proofs.asks.all_asks.Goals as goal
 
 pub loop-name-init : goal.loop-name-init
@@ -21,9 +22,12 @@ pub loop-name-preserved : goal.loop-name-preserved
 loop-name-preserved c =
     let asked = rw c.in-Some.ensures.steps at c.loop-name.invariant.asked in
     let found = rw c.in-Some.ensures.steps at c.loop-name.invariant.found in
-    let here : asks_on (view c.args.manifest.now) c.args.owner c.args.omits c.in-Some.name.now.now
-    ≡ asks_by c.args.owner c.args.omits c.in-Some.name.now.now (asked_value c.in-Some.asked.now) =
-    ap (λ o. option_map_or (asks_by c.args.owner c.args.omits c.in-Some.name.now.now) o []) asked.0 in
+    let rules = rule_at c.args.rules.now in
+    let name = c.in-Some.name.now.now in
+    let here : asks_on (view c.args.manifest.now) c.args.owner rules c.args.omits name
+    ≡ asks_by c.args.owner c.args.omits name (asked_value c.overridden-changed.result) =
+    ap (λ o. option_map_or (λ one. asks_by c.args.owner c.args.omits name (changed_by (rules name) [] one)) o []) asked.0
+    ∙ ap (asks_by c.args.owner c.args.omits name) (sym c.overridden-changed.ensures) in
     record {
       asked = asked.1;
       found = rw (c.in_ok-add_ask.ensures, append_assoc) (rw here at found);

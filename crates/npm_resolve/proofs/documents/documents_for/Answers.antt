@@ -3,6 +3,7 @@ use Rattle.std.proofs.Common.{◌≡◌, ◌∙◌, [], refl}
 use Rattle.std.specs.Fn.{FnReturnsAt}
 use Rattle.npm_resolve.proofs.Gathering.{all_read, begins, gathered_more, nothing_left}
 use Rattle.npm_resolve.specs.Documents.{all_asked}
+use Rattle.npm_resolve.specs.Rules.{rules_of}
 use Rattle.npm_resolve.proofs.documents.documents_for.Goals as goal
 
 pub loop-init : goal.loop-init
@@ -12,7 +13,7 @@ loop-init g c =
       begun.left_out,
       begun.of_root,
       rw c.new-documents.ensures.items (begins (FnReturnsAt g.F.Fn c.args.load)
-          c.args.options.now c.args.reach c.args.omits begun.wishes begun.start c.in-Ok.requests begun.empty begun.unseen begun.added),
+          c.args.options.now c.args.reach (rules_of c.args.manifests.now) c.args.omits begun.wishes begun.start c.in-Ok.requests begun.empty begun.unseen begun.added),
     )
 
 pub loop-preserved : goal.loop-preserved
@@ -21,7 +22,7 @@ loop-preserved g c =
       held.0,
       held.1,
       held.2,
-      gathered_more (FnReturnsAt g.F.Fn c.args.load) c.args.options.now c.args.reach c.args.omits held.0
+      gathered_more (FnReturnsAt g.F.Fn c.args.load) c.args.options.now c.args.reach (rules_of c.args.manifests.now) c.args.omits held.0
           c.loop.documents.items c.loop.requests _ _ c.in-Some.request (rw c.in-Some.is at c.pop_front.ensures.items) refl held.3 _
           c.in_ok-add_document.ensures.added,
     )

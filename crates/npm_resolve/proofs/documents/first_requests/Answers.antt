@@ -7,7 +7,7 @@ pub returns : goal.returns
 returns c = record {
   wishes = map ask_value c.in_ok-wishes.wishes.asks.items;
   left_out = map ask_value c.in_ok-wishes.wishes.left_out.items;
-  of_root = c.in_ok-wishes.ensures;
+  of_root = rw c.in_ok-rules.ensures at c.in_ok-wishes.ensures;
   start = c.new-requests.result;
   empty = c.new-requests.ensures.queue;
   unseen = c.new-requests.ensures.seen;

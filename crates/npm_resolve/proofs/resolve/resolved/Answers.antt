@@ -1,16 +1,19 @@
 -- The problem is the one that the manifest and the documents pose.
-use Rattle.std.proofs.Common.{◌≡◌, length, map, refl}
+use Rattle.std.proofs.Common.{◌≡◌, length, map, refl, subst}
 use Rattle.version_solving.specs.Naming.{IsDemandOf}
-use Rattle.npm_candidates.specs.Asks.{ask_value}
+use Rattle.version_solving.specs.declared.ask.Listed.{Listed}
+use Rattle.npm_candidates.specs.Asks.{RulesValue, ask_value}
 use Rattle.npm_resolve.proofs.Zips.{zip_length}
+use Rattle.npm_resolve.specs.ReasonValues.{text}
+use Rattle.npm_resolve.specs.Rules.{unread_among}
 use Rattle.npm_resolve.proofs.resolve.resolved.Goals as goal
 
 pub resolution_of-requires : goal.resolution_of-requires
 resolution_of-requires c =
-    let lengths : length c.deref-3.result.now ≡ length c.in_ok-root.field-0.root.items =
-    zip_length (IsDemandOf c.deref-4.result.now c.in_ok-root.field-0.ranges.items) c.deref-3.result.now
+    let lengths : length c.deref-4.result.now ≡ length c.in_ok-root.field-0.root.items =
+    zip_length (IsDemandOf c.deref-5.result.now c.in_ok-root.field-0.ranges.items) c.deref-4.result.now
     c.in_ok-root.field-0.root.items c.in_ok-root.ensures.root_demands in
-    rw c.deref-3.ensures.value at lengths
+    rw c.deref-4.ensures.value at lengths
 
 pub returns : goal.returns
 returns c = record {
@@ -24,17 +27,20 @@ returns c = record {
   };
   posing = record {
     left_out = map ask_value c.in_ok-asks.field-0.left_out.items;
-    asked = c.in_ok-asks.ensures;
+    asked = rw c.in_ok-rules.ensures at c.in_ok-asks.ensures;
     offered = c.in_ok-offers.ensures;
     listed = c.in_ok-listed.listed.items;
-    are_listed = rw c.deref.ensures.value at c.in_ok-listed.ensures;
+    are_listed = rw (c.deref.ensures.value, c.in_ok-rules.ensures) at c.in_ok-listed.ensures;
     absent = c.in_ok-names.ensures.0;
     are_absent = rw c.deref-2.ensures.value at c.in_ok-names.ensures.1;
     named = c.in_ok-names.ensures.2;
-    demanded = rw (c.deref-3.ensures.value, c.deref-4.ensures.value) at c.in_ok-root.ensures.root_demands;
-    packages = rw c.deref-4.ensures.value at c.in_ok-root.ensures.packages;
-    allowed = rw (c.deref-5.ensures.value, c.deref-6.ensures.value) at c.in_ok-ranges.ensures;
+    demanded = rw (c.deref-4.ensures.value, c.deref-5.ensures.value) at c.in_ok-root.ensures.root_demands;
+    packages = rw c.deref-5.ensures.value at c.in_ok-root.ensures.packages;
+    allowed = rw (c.deref-6.ensures.value, c.deref-7.ensures.value) at c.in_ok-ranges.ensures;
   };
   resolution = c.in_ok-resolution.ensures;
   left_out = refl;
+  unread = subst (λ (rules : RulesValue). map text c.in_ok-unread.unread.items
+      ≡ unread_among rules (map (λ (one : Listed). one.name.now) c.in_ok-names.names.items))
+      c.in_ok-rules.ensures (rw c.deref-3.ensures.value at c.in_ok-unread.ensures);
 }

@@ -8,12 +8,12 @@ use Rattle.npm_resolve_c.proofs.reply.answer_text.Goals as goal
 
 pub returns : goal.returns
 returns c =
-    let needed = rw c.from_ref-manifests.ensures.value at c.in-Ok.ensures.documents in
-    IfOk-weaker c.resolution_text.result _ _ (λ text is. record {
+    let needed = rw (c.from_ref-manifests.ensures.value, c.reach_of-reach.ensures) at c.in-Ok.ensures.documents in
+    IfOk-weaker c.text_of.result _ _ (λ text is. record {
       found = c.in-Ok.found.items;
       needed = documents_kept (Gives (view c.args.documents.now)) needed
           (λ name loaded says. subst (λ (n : List ℕ). Gives (view c.args.documents.now) n loaded) says.shows (search rules));
       answer = c.in_ok-answer.answer;
-      answered = rw (c.from_ref-manifests.ensures.value, c.deref.ensures.value) at c.in_ok-answer.ensures;
-      text_is = rw c.deref-2.ensures.value at is;
-    }) c.resolution_text.ensures
+      answered = rw (c.from_ref-manifests.ensures.value, c.deref.ensures.value, c.reach_of-reach.ensures) at c.in_ok-answer.ensures;
+      text_is = rw (c.from_ref-manifests.ensures.value, c.deref-2.ensures.value) at is;
+    }) c.text_of.ensures

@@ -8,6 +8,6 @@ returns-clause-reply g c = record {
   answer = c.in_ok-answer.answer;
   answered = rw c.deref.ensures.value at c.in_ok-answer.ensures;
   lines = rw c.deref-2.ensures.value at c.in_ok-lines_of.ensures;
-  notes = rw c.deref-3.ensures.value at c.in_ok-note_lines.ensures;
+  notes = rw (c.deref-3.ensures.value, c.deref-4.ensures.value) at c.in_ok-all_notes.ensures;
   ending = c.ending_of.ensures;
 }

@@ -6,6 +6,7 @@ use Rattle.npm_candidates.specs.Asks.{AskValue, ask_value}
 use Rattle.npm_resolve.proofs.Gathering.{none_added, peers_more}
 use Rattle.npm_resolve.proofs.Zips.{item_more}
 use Rattle.npm_resolve.specs.Documents.{IsPeer}
+use Rattle.npm_resolve.specs.Rules.{rules_of}
 use Rattle.npm_resolve.proofs.requests.Requests.add_peers.Goals as goal
 
 pub loop-candidate-init : goal.loop-candidate-init
@@ -16,8 +17,8 @@ loop-candidate-preserved c =
     let held = c.loop-candidate.invariant in
     let asks = map ask_value c.in_ok-found.found.asks.items in (
       held.0 ++ asks ∷ [],
-      item_more (IsPeer c.args.reach c.args.omits) c.deref-candidate-items.result.now held.0 c.loop-candidate.candidate-index c.candidate-item.result asks
-          c.loop-candidate-test.true c.candidate-item.is held.1 (map ask_value c.in_ok-found.found.left_out.items, c.in_ok-found.ensures),
+      item_more (IsPeer c.args.reach (rules_of c.args.manifests.now) c.args.omits) c.deref-candidate-items.result.now held.0 c.loop-candidate.candidate-index c.candidate-item.result asks
+          c.loop-candidate-test.true c.candidate-item.is held.1 (map ask_value c.in_ok-found.found.left_out.items, rw c.in_ok-rules.ensures at c.in_ok-found.ensures),
       peers_more held.0 asks _ _ _ held.2 (rw c.deref.ensures.value at c.in_ok-add_all.ensures),
     )
 

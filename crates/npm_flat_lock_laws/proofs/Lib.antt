@@ -1,4 +1,0 @@
-mod Members
-mod Folders
-mod Edges
-mod Ranges

@@ -1,0 +1,30 @@
+pub mod PickExamples
+mod Sorted
+mod Tested
+mod Listing
+mod Ranking
+mod Defaults
+mod Known
+mod ByDefault
+mod ByRank
+mod ByKey
+mod Agreeing
+mod Zips
+mod Choosing
+mod Places
+mod WishPosing
+mod Answering
+mod Lists
+mod Types
+mod Numbers
+mod Posing
+mod Selections
+mod Members
+mod Folders
+mod Edges
+mod Versions
+mod Ranges
+mod Releases
+mod Installing
+mod Whole
+pub mod LockExamples

@@ -1,0 +1,10 @@
+// Notes in the file LOADED which native parts of the package a process has loaded.
+'use strict';
+
+process.on('exit', () => {
+    for (const name of ['node_semver', 'npm_pick']) {
+        if (Object.keys(require.cache).some((file) => file.endsWith(`semver/build/Release/${name}.node`))) {
+            require('node:fs').appendFileSync(process.env.LOADED, `${name}\n`);
+        }
+    }
+});

@@ -71,7 +71,7 @@ THROUGH = {
     "Lock::find": "npm_lock::check",
     "npm_packages::asked_of": "npm_lock::check",
     "npm_packages::rules_of": "npm_lock::check",
-    "npm_packages::rules_in": "npm_resolve::resolved",
+    "npm_packages::rules_in": "npm_lock::check",
     "npm_packages::place_text": "npm_lock::check_any",
     "Mismatch::to_json": "npm_lock::mismatches_of",
     "Problem::to_json": "npm_lock::check",

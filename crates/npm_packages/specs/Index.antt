@@ -39,7 +39,7 @@ pub record ArePlacesOf (packages : Data) (places : Places) : Type 0 where
 abbrev pub IsFront : (path front : List ℕ) → Type 0
 IsFront path front = (front ≡ []) ⊎ (path ≡ front) ⊎ ((rest : List ℕ) × (path ≡ front ++ (47 ∷ rest)))
 
--- the same without the path itself
+-- the beginning of a path before a `/`, or the empty path, but not the path itself
 abbrev pub IsOver : (path front : List ℕ) → Type 0
 IsOver path front = IsFront path front × (length front < length path)
 

@@ -60,7 +60,7 @@ pub record AreLockAsks (lock : Data) (asks : List AskValue) : Type 0 where
   pub of_lock : AreLockEdges lock edges
   pub are : AreEdgesAsks edges asks
 
--- the same if there is a lock file
+-- the dependencies of all packages of the lock file, or none if there is no lock file
 abbrev pub AreLocksAsks : (lock : Option Data) → List AskValue → Type 0
 AreLocksAsks None asks = asks ≡ []
 AreLocksAsks (Some lock) asks = AreLockAsks lock asks

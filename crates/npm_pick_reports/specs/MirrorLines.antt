@@ -20,7 +20,7 @@ lines_of front texts = flat_map (λ text. line_of front text) texts
 abbrev pub list_text : (kept : List (List ℕ)) → List ℕ
 list_text kept = compact_text (array (items_of (map string kept)))
 
--- the same, and a newline
+-- the JSON list of the versions, and a newline
 abbrev pub json_line : (kept : List (List ℕ)) → List ℕ
 json_line kept = list_text kept ++ (10 ∷ [])
 

@@ -17,6 +17,6 @@ abbrev pub picked_text : Format → PickedValue → List ℕ
 picked_text Text picked = shown picked.key
 picked_text Json picked = compact_text (picked_data picked)
 
--- the same, and a newline byte
+-- the text of the version, and a newline byte
 abbrev pub picked_line : Format → PickedValue → List ℕ
 picked_line format picked = picked_text format picked ++ (10 ∷ [])

@@ -77,6 +77,6 @@ abbrev pub IsStrictFaultOf : List ℕ → SemverError → Type 0
 IsStrictFaultOf text e =
     (kind : Kind) × (offset : ℕ) × IsStrictFault text kind offset × IsRefusalAt text kind offset e
 
--- the same of a fault that has no copy of the text
+-- a fault without a copy of the text is the strict fault of this text
 abbrev pub IsStrictVersionFault : List ℕ → VersionFault → Type 0
 IsStrictVersionFault text f = IsStrictFault text (fault_kind_of f.kind) f.offset

@@ -21,7 +21,7 @@ abbrev pub is_empty : List ℕ → Bool
 is_empty [] = true
 is_empty (b ∷ rest) = false
 
--- the same list with a character before its first text
+-- the list, with a character put before its first text
 abbrev pub before_first : ℕ → List (List ℕ) → List (List ℕ)
 before_first b [] = (b ∷ []) ∷ []
 before_first b (text ∷ texts) = (b ∷ text) ∷ texts
@@ -92,7 +92,7 @@ ending_with before last =
     if (last == 61) && not (is_mark before) then Comparison else
     NoOperator
 
--- the same for a text after two characters
+-- how a chunk ends, of which these two characters and then the text are the rest
 unfoldable pub ending_after : ℕ → ℕ → List ℕ → Ending
 ending_after before last [] = ending_with before last
 ending_after before last (b ∷ rest) = ending_after last b rest

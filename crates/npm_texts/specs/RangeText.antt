@@ -30,12 +30,12 @@ abbrev pub past_letter : (letter : ℕ) → List ℕ → Option (List ℕ)
 past_letter letter [] = None
 past_letter letter (b ∷ text) = if to_ascii_lowercase b == letter then Some text else None
 
--- the same if it is any one
+-- the text after its first byte, if that is any one but a line end
 abbrev pub past_any : List ℕ → Option (List ℕ)
 past_any [] = None
 past_any (b ∷ text) = if is_any b then Some text else None
 
--- the same for several letters, one after the other
+-- the text after these letters, one after the other, each small or capital
 abbrev pub past_letters : (letters : List ℕ) → List ℕ → Option (List ℕ)
 past_letters [] text = Some text
 past_letters (letter ∷ letters) text = option_and_then (past_letters letters) (past_letter letter text)

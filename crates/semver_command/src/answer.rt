@@ -57,7 +57,7 @@ pub fn npm_options(options: Options) -> NpmOptions
     }
 }
 
-/// The same without an increment.
+/// Writes the output of a request without an increment.
 fn listed<R: Read, W: Write>(
     alloc: Global,
     asked: &Asked<'_>,
@@ -108,7 +108,7 @@ fn write_kept<W: Write>(
     }
 }
 
-/// The same with an increment.
+/// Writes the output of a request with an increment.
 fn raised<R: Read, W: Write>(
     alloc: Global,
     asked: &Asked<'_>,

@@ -133,7 +133,7 @@ fn answer_range<'b, W: Write>(
     }
 }
 
-/// The same after the range line was parsed: `range` is `None` if the line is no range.
+/// Answers the pairs of a range line that was parsed: `range` is `None` if the line is no range.
 // `inline(never)`: it is one call for each range line, and the loop over versions has a stack of its own.
 #[inline(never)]
 fn answer_versions<'b, W: Write>(

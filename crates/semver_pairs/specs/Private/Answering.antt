@@ -47,7 +47,7 @@ pub record AnswersPast (bytes rest : List ℕ) (contents contents_new : Option (
     pub answers : AnswersUpTo bytes rest added
     pub moves : Moves contents contents_new waiting added left
 
--- The same for some rest and some output left.
+-- For some rest and some output left, the output for the pairs before the rest was added.
 pub record AnswersSome (bytes : List ℕ) (contents contents_new : Option (List ℕ)) (waiting : List ℕ) : Type 0 where
   pub rest : List ℕ
   pub left : List ℕ
@@ -60,7 +60,7 @@ pub record AnswersRange (range version bytes rest : List ℕ) (contents contents
   pub answers : AnswersFrom range version bytes rest added
   pub moves : Moves contents contents_new waiting added left
 
--- The same for some rest and some output left.
+-- For some rest and some output left, the output from a range line on was added.
 pub record AnswersRangeSome (range version bytes : List ℕ) (contents contents_new : Option (List ℕ))
     (waiting : List ℕ) : Type 0 where
   pub rest : List ℕ
@@ -74,7 +74,7 @@ pub record AnswersOne (range version : List ℕ) (contents contents_new : Option
   pub answer : IsAnswerLine (strip_carriage_return range) version line
   pub moves : Moves contents contents_new waiting line left
 
--- The same for some output left.
+-- For some output left, the output for one pair was added.
 pub record AnswersOneSome (range version : List ℕ) (contents contents_new : Option (List ℕ))
     (waiting : List ℕ) : Type 0 where
   pub left : List ℕ
@@ -86,7 +86,7 @@ pub record AnswersAll (bytes : List ℕ) (contents contents_new : Option (List �
   pub answers : AreAnswers (pairs_read true bytes) added
   pub moves : Moves contents contents_new waiting added left
 
--- The same for some output left.
+-- For some output left, the output for all pairs was added.
 pub record AnswersAllSome (bytes : List ℕ) (contents contents_new : Option (List ℕ)) (waiting : List ℕ) : Type 0 where
   pub left : List ℕ
   pub all : AnswersAll bytes contents contents_new waiting left
@@ -98,7 +98,7 @@ ErrorTells Write Failed = Failed
 ErrorTells Memory Failed = ¬ Failed
 ErrorTells Endless Failed = ⊥
 
--- The same of a result. A value says that the gauge has not failed.
+-- A result tells whether the writer's gauge has failed. A value says that it has not.
 abbrev pub TellsFailure : {T : Type 0} → Result T RunError → (Failed : Type 0) → Type 0
 TellsFailure (Ok x) Failed = ¬ Failed
 TellsFailure (Err e) Failed = ErrorTells e Failed

@@ -5,7 +5,7 @@ use Rattle.std.proofs.Common.{refl, subst, sym, ◌∙◌, append-nil, arith, le
 use Rattle.std.specs.Io.KnownBytes.{Appends, Consumes, Keeps}
 use Rattle.std.proofs.KnownBytes.{Consumes-kept, Consumes-nil, Consumes-trans}
 use Rattle.std.specs.Str.Lines.{strip_carriage_return}
-use Rattle.semver_versions.specs.ErrorLocation.{newline}
+use Rattle.semver_texts.specs.Characters.{newline}
 use Rattle.semver_pairs.specs.declared.open_pair.OpenPair.{OpenPair}
 use Rattle.semver_pairs.specs.Output.{AreAnswers, Exchanges, IsOutput, IsOutputBeforeEnd, IsOutputPrefix}
 use Rattle.semver_pairs.specs.Pairs.{Pair, lone, pairs_read}

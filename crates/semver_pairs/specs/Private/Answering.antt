@@ -9,7 +9,7 @@ use Rattle.semver_pairs.specs.Output.{AreAnswers}
 use Rattle.semver_pairs.specs.Pairs.{pairs_read}
 use Rattle.semver_sets.specs.Meaning.{TextAdmits}
 use Rattle.semver_texts.specs.Version.{VersionValue}
-use Rattle.semver_versions.specs.ErrorLocation.{newline}
+use Rattle.semver_texts.specs.Characters.{newline}
 
 -- the range line is a good one, and exactly the versions that its text admits are admitted
 abbrev pub IsReadRange : (line : List ℕ) → (Admits : VersionValue → Type 0) → Type 0

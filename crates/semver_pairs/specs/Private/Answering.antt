@@ -47,8 +47,8 @@ pub record AnswersPast (bytes rest : List ℕ) (contents contents_new : Option (
     pub answers : AnswersUpTo bytes rest added
     pub moves : Moves contents contents_new waiting added left
 
--- For some rest and some output left, the output for the pairs before the rest was added.
-pub record AnswersSome (bytes : List ℕ) (contents contents_new : Option (List ℕ)) (waiting : List ℕ) : Type 0 where
+-- The output for the pairs before some rest was added, and the first part of what waits was written.
+pub record AnswersInPart (bytes : List ℕ) (contents contents_new : Option (List ℕ)) (waiting : List ℕ) : Type 0 where
   pub rest : List ℕ
   pub left : List ℕ
   pub past : AnswersPast bytes rest contents contents_new waiting left
@@ -60,8 +60,8 @@ pub record AnswersRange (range version bytes rest : List ℕ) (contents contents
   pub answers : AnswersFrom range version bytes rest added
   pub moves : Moves contents contents_new waiting added left
 
--- For some rest and some output left, the output from a range line on was added.
-pub record AnswersRangeSome (range version bytes : List ℕ) (contents contents_new : Option (List ℕ))
+-- The output from a range line on, up to some rest, was added, and the first part of what waits was written.
+pub record AnswersRangeInPart (range version bytes : List ℕ) (contents contents_new : Option (List ℕ))
     (waiting : List ℕ) : Type 0 where
   pub rest : List ℕ
   pub left : List ℕ
@@ -74,8 +74,8 @@ pub record AnswersOne (range version : List ℕ) (contents contents_new : Option
   pub answer : IsAnswerLine (strip_carriage_return range) version line
   pub moves : Moves contents contents_new waiting line left
 
--- For some output left, the output for one pair was added.
-pub record AnswersOneSome (range version : List ℕ) (contents contents_new : Option (List ℕ))
+-- The output for one pair was added, and the first part of what waits was written.
+pub record AnswersOneInPart (range version : List ℕ) (contents contents_new : Option (List ℕ))
     (waiting : List ℕ) : Type 0 where
   pub left : List ℕ
   pub one : AnswersOne range version contents contents_new waiting left
@@ -86,8 +86,8 @@ pub record AnswersAll (bytes : List ℕ) (contents contents_new : Option (List �
   pub answers : AreAnswers (pairs_read true bytes) added
   pub moves : Moves contents contents_new waiting added left
 
--- For some output left, the output for all pairs was added.
-pub record AnswersAllSome (bytes : List ℕ) (contents contents_new : Option (List ℕ)) (waiting : List ℕ) : Type 0 where
+-- The output for all pairs was added, and the first part of what waits was written.
+pub record AnswersAllInPart (bytes : List ℕ) (contents contents_new : Option (List ℕ)) (waiting : List ℕ) : Type 0 where
   pub left : List ℕ
   pub all : AnswersAll bytes contents contents_new waiting left
 

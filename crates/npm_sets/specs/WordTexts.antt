@@ -93,7 +93,7 @@ ending_with before last =
     if (last == equal_sign) && not (is_mark before) then Comparison else
     NoOperator
 
--- how a chunk ends, of which these two characters and then the text are the rest
+-- how a chunk ends that has these two characters and then the text at its end
 unfoldable pub ending_after : ℕ → ℕ → List ℕ → Ending
 ending_after before last [] = ending_with before last
 ending_after before last (b ∷ rest) = ending_after last b rest

@@ -61,7 +61,7 @@ IsNotBelow (Some best) v = ¬ (version_cmp v best ≡ Less)
 abbrev pub IsTried : (VersionValue → Type 0) → Option VersionValue → VersionValue → Type 0
 IsTried Wanted best v = Wanted v → IsNotBelow best v
 
--- each candidate of the cut that is wanted is not less than the best so far
+-- each wanted candidate of the cut is not less than the best so far
 abbrev pub IsCutTried : Bool → (VersionValue → Type 0) → Option VersionValue → Cut VersionValue → Type 0
 IsCutTried included Wanted best cut = AllByRecursion (IsTried Wanted best) (candidates_at included cut)
 

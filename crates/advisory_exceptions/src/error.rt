@@ -16,9 +16,9 @@ pub enum ExceptionFault {
     ExceptionKey(usize, String),
     /// The exception at this place has no `id`, or one that is no string or is empty.
     Id(usize),
-    /// The same of its `package`.
+    /// The exception at this place has no `package`, or one that is no string or is empty.
     Package(usize),
-    /// The same of its `reason`.
+    /// The exception at this place has no `reason`, or one that is no string or is empty.
     Reason(usize),
     /// `until` of the exception at this place is no day.
     Until(usize),

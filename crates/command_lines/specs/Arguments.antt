@@ -2,6 +2,7 @@
 use Rattle.std.specs.Prelude.{◌==◌, ℕ, List, [], ◌∷◌, Bool, if◌then◌else◌, length, nat_lt, Option, Some, None, option_map}
 use Rattle.std.specs.List.{after_first, before_first, position_or_len}
 use denote.Ref.{Bor}
+use Rattle.command_lines.specs.Characters.{equal_sign}
 use Rattle.command_lines.specs.declared.argument.Argument.{Argument}
 
 -- an argument: a word, and its value if it has one
@@ -16,7 +17,7 @@ pub record Parts : Type 0 where
 
 -- the parts of a word that has a `=`: `a` and `b=c` of `a=b=c`
 abbrev pub is_equals : (byte : ℕ) → Bool
-is_equals byte = byte == 61
+is_equals byte = byte == equal_sign
 
 abbrev pub parts_of : (word : List ℕ) → Option Parts
 parts_of word = if nat_lt (position_or_len is_equals word) (length word)

@@ -1,11 +1,12 @@
 -- The JSON value of an input, and why there is none.
-use Rattle.std.specs.Prelude.{◌≡◌, ◌≢◌, ◌⊎◌, ℕ, List, [], ◌∷◌, Bool, true, false, IsSome, IsUtf8, Option, None, Some}
+use Rattle.std.specs.Prelude.{◌≡◌, ◌≢◌, ◌⊎◌, ℕ, List, [], Bool, true, false, IsSome, IsUtf8, Option, None, Some}
 use Rattle.std.specs.Prelude.{nat_eq}
 use Rattle.std.specs.List.{starts_with}
 use Rattle.std.specs.Io.KnownBytes.{Consumes, IsAtEnd}
 use Rattle.std.specs.declared.io.ErrorKind.TheVariants.{OutOfMemory}
 use Rattle.serde_json.specs.Data.{Data}
 use Rattle.serde_json.specs.Read.{read}
+use Rattle.command_lines.specs.Characters.{byte_order_mark}
 use Rattle.command_lines.specs.WatchedValue.{WatchedValue}
 use Rattle.command_lines.specs.declared.input_error.InputError.{InputError}
 use Rattle.command_lines.specs.declared.input_error.InputError.TheVariants.{ByteOrderMark, Memory, NoFile, NoJson}
@@ -15,9 +16,9 @@ use Rattle.command_lines.specs.declared.input_error.InputError.TheVariants.{NoUt
 abbrev pub IsTextOf : (bytes : List ℕ) → (value : Data) → Type 0
 IsTextOf bytes value = IsUtf8 bytes × (read bytes ≡ Some value)
 
--- the byte order mark in UTF-8, with which npm lets a file begin
+-- the bytes begin with a byte order mark, with which npm lets a file begin
 abbrev pub has_mark : (bytes : List ℕ) → Bool
-has_mark bytes = starts_with nat_eq bytes (239 ∷ 187 ∷ 191 ∷ [])
+has_mark bytes = starts_with nat_eq bytes byte_order_mark
 
 -- all that the reader had left was read, no call of it failed, and the bytes are such
 pub record IsWholeInput {R : Type 0} (remaining : R → Option (List ℕ)) (old new : WatchedValue R)

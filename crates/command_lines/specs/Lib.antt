@@ -1,5 +1,6 @@
 -- What the contracts of command_lines say, in reading order.
 
+pub mod Characters  -- characters by name
 pub mod Shown  -- texts as a terminal gets them
 pub mod Arguments  -- the arguments that words are
 pub mod Given  -- what arguments say of options

@@ -1,5 +1,5 @@
 -- An annotation of GitHub: "Workflow commands for GitHub Actions", "Setting an error message".
-use Rattle.std.specs.Prelude.{ℕ, List, [], ◌∷◌, ◌++◌, codes, decimal}
+use Rattle.std.specs.Prelude.{ℕ, List, ◌++◌, codes, decimal}
 use Rattle.std.specs.List.{flat_map}
 use Rattle.findings.specs.Escapes.{data_byte, property_byte}
 use Rattle.findings.specs.Findings.{FindingValue, command_word}
@@ -8,4 +8,4 @@ use Rattle.findings.specs.Findings.{FindingValue, command_word}
 abbrev pub annotation : FindingValue → List ℕ
 annotation finding = codes "::" ++ (command_word finding.level ++ (codes " file=" ++ (flat_map property_byte finding.file
     ++ (codes ",line=" ++ (decimal finding.line ++ (codes ",col=" ++ (decimal finding.column
-    ++ (codes "::" ++ (flat_map data_byte finding.message ++ (10 ∷ []))))))))))
+    ++ (codes "::" ++ (flat_map data_byte finding.message ++ codes "\n")))))))))

@@ -1,6 +1,8 @@
 -- No text of a page or of a report is read as markup.
 use Rattle.std.specs.Prelude.{◌≡◌, ◌<◌, ◌||◌, ◌==◌, ℕ, List, [], ◌∷◌, ◌++◌, Bool, true, false, codes, filter, nat_lt}
 use Rattle.std.specs.List.{AllByRecursion, flat_map, list_any}
+use Rattle.findings.specs.Characters as Characters
+use Rattle.findings.specs.Characters.{greater_sign, less_sign, space, tilde}
 use Rattle.findings.specs.PageEscapes.{escaped, other_byte}
 use Rattle.findings.specs.Pieces.{PieceValue, markup, number, text, written}
 
@@ -8,11 +10,11 @@ use Rattle.findings.specs.Pieces.{PieceValue, markup, number, text, written}
 
 -- `<`, `>`, `"` and `'`, of which markup is made
 abbrev pub is_mark : (byte : ℕ) → Bool
-is_mark byte = byte == 60 || byte == 62 || byte == 34 || byte == 39
+is_mark byte = byte == less_sign || byte == greater_sign || byte == Characters.quotation_mark || byte == Characters.apostrophe
 
 -- a mark, or `&`, which begins a reference
 abbrev pub is_special : (byte : ℕ) → Bool
-is_special byte = is_mark byte || byte == 38
+is_special byte = is_mark byte || byte == Characters.ampersand
 
 -- Character data, and the text that is read from it: `<b> &` from `&lt;b&gt; &amp;`. In it a `&` stands only where it begins one of
 -- these references, and no mark stands in it.
@@ -20,11 +22,11 @@ pub data IsReadAs : (escapes : List ℕ) → (read : List ℕ) → Type 0 where
   at_end : IsReadAs [] []
   itself : (byte : ℕ) (rest read : List ℕ) → is_special byte ≡ false → IsReadAs rest read
       → IsReadAs (byte ∷ rest) (byte ∷ read)
-  ampersand : (rest read : List ℕ) → IsReadAs rest read → IsReadAs (codes "&amp;" ++ rest) (38 ∷ read)
-  less : (rest read : List ℕ) → IsReadAs rest read → IsReadAs (codes "&lt;" ++ rest) (60 ∷ read)
-  greater : (rest read : List ℕ) → IsReadAs rest read → IsReadAs (codes "&gt;" ++ rest) (62 ∷ read)
-  quotation_mark : (rest read : List ℕ) → IsReadAs rest read → IsReadAs (codes "&quot;" ++ rest) (34 ∷ read)
-  apostrophe : (rest read : List ℕ) → IsReadAs rest read → IsReadAs (codes "&#39;" ++ rest) (39 ∷ read)
+  ampersand : (rest read : List ℕ) → IsReadAs rest read → IsReadAs (codes "&amp;" ++ rest) (Characters.ampersand ∷ read)
+  less : (rest read : List ℕ) → IsReadAs rest read → IsReadAs (codes "&lt;" ++ rest) (less_sign ∷ read)
+  greater : (rest read : List ℕ) → IsReadAs rest read → IsReadAs (codes "&gt;" ++ rest) (greater_sign ∷ read)
+  quotation_mark : (rest read : List ℕ) → IsReadAs rest read → IsReadAs (codes "&quot;" ++ rest) (Characters.quotation_mark ∷ read)
+  apostrophe : (rest read : List ℕ) → IsReadAs rest read → IsReadAs (codes "&#39;" ++ rest) (Characters.apostrophe ∷ read)
 
 -- the law: what is read is the text, with each byte that is no printable ASCII by its number
 abbrev pub IsReadAsItself : (any : List ℕ) → Type 0
@@ -34,7 +36,7 @@ IsReadAsItself any = IsReadAs (escaped any) (flat_map other_byte any)
 
 -- a control character, or a byte that is no ASCII
 abbrev pub is_unprintable : (byte : ℕ) → Bool
-is_unprintable byte = nat_lt byte 32 || nat_lt 126 byte
+is_unprintable byte = nat_lt byte space || nat_lt tilde byte
 
 -- the law: of a text of bytes, printable ASCII alone is written, which XML 1.0 allows
 abbrev pub IsPrintable : (any : List ℕ) → Type 0

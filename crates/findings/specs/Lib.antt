@@ -2,6 +2,7 @@
 
 pub mod Findings  -- what a checker finds
 pub mod Drafts  -- findings about members of a JSON text
+pub mod Characters  -- characters by name
 pub mod Escapes  -- texts with the escapes of workflow commands, of JSON and of URIs
 pub mod Github  -- an annotation of GitHub
 pub mod Sarif  -- a SARIF log

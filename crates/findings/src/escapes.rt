@@ -152,19 +152,12 @@ fn push_uri_byte(out: &mut Vec<u8>, byte: u8) -> Result<(), AllocError>
 fn is_plain(byte: u8) -> bool
     ensures { result ≡ Escapes.is_plain byte }
 {
-    is_letter_or_digit(byte)
+    byte.is_ascii_alphanumeric()
         || byte == b'-'
         || byte == b'.'
         || byte == b'_'
         || byte == b'~'
         || byte == b'/'
-}
-
-/// Whether a byte is a letter or a digit of ASCII.
-fn is_letter_or_digit(byte: u8) -> bool
-    ensures { result ≡ Escapes.is_letter_or_digit byte }
-{
-    (48 <= byte && byte <= 57) || (65 <= byte && byte <= 90) || (97 <= byte && byte <= 122)
 }
 
 /// The hexadecimal digit of a number.

@@ -1,6 +1,7 @@
 -- Places in a JSON text: lines and columns as editors count them, the name of a member at an offset, and an item of a list.
 use Rattle.std.specs.Prelude.{◌≡◌, ◌≢◌, ◌⊎◌, ◌||◌, ◌==◌, ◌+◌, ◌≤◌, ℕ, List, [], ◌∷◌, ◌++◌, Bool, false, true, Option, Some}
 use Rattle.std.specs.Prelude.{All, count_by, length, nat_le, nat_lt, slice_get, take, drop}
+use Rattle.json.specs.Ascii.{carriage_return, comma, line_feed, open_bracket, quote, space, tab}
 use Rattle.json.specs.Token as Tokens
 use Rattle.json.specs.Lex.{tokens}
 use Rattle.json_places.specs.Steps.{StepValue, last_step, steps_seen, to_item, to_member}
@@ -19,9 +20,9 @@ pub record IsPlaceAfter (before : List ℕ) (line column : ℕ) : Type 0 where
   pub lines : List ℕ
   pub last : List ℕ
   pub split : before ≡ lines ++ last
-  pub whole : (lines ≡ []) ⊎ ((front : List ℕ) × (lines ≡ front ++ (10 ∷ [])))
-  pub unbroken : All (λ byte. byte ≢ 10) last
-  pub counted_lines : line ≡ count_by (λ byte. byte == 10) before + 1
+  pub whole : (lines ≡ []) ⊎ ((front : List ℕ) × (lines ≡ front ++ (line_feed ∷ [])))
+  pub unbroken : All (λ byte. byte ≢ line_feed) last
+  pub counted_lines : line ≡ count_by (λ byte. byte == line_feed) before + 1
   pub counted_characters : column ≡ count_by begins_character last + 1
 
 -- the place is in the text, and its line and column are those after the text before it
@@ -34,7 +35,7 @@ pub record IsPlace (text : List ℕ) (place : Place) : Type 0 where
 -- The name of a member begins at this offset: there is a quotation mark, and the text from there on reads as this name and a
 -- colon. `tokens` are those of JSON (RFC 8259): a name counts without its escapes, so `"\u0061"` is the name `a`.
 pub record IsNameAt (text : List ℕ) (offset : ℕ) (name : List ℕ) : Type 0 where
-  pub quoted : slice_get text offset ≡ Some 34
+  pub quoted : slice_get text offset ≡ Some quote
   pub rest : List Tokens.Token
   pub reads : tokens (drop offset text) ≡ Tokens.key name ∷ rest
 
@@ -42,11 +43,11 @@ pub record IsNameAt (text : List ℕ) (offset : ℕ) (name : List ℕ) : Type 0 
 
 -- JSON's white space: a blank, a tab, a newline and a carriage return
 abbrev pub is_white_space : (byte : ℕ) → Bool
-is_white_space byte = (byte == 32) || (byte == 9) || (byte == 10) || (byte == 13)
+is_white_space byte = (byte == space) || (byte == tab) || (byte == line_feed) || (byte == carriage_return)
 
 -- the byte is `[` or a comma
 abbrev pub is_mark : (byte : ℕ) → Bool
-is_mark byte = (byte == 91) || (byte == 44)
+is_mark byte = (byte == open_bracket) || (byte == comma)
 
 -- before this offset stand `[` or a comma, and white space after it or none
 pub data IsAfterMark (text : List ℕ) : (offset : ℕ) → Type 0 where

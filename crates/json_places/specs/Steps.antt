@@ -13,7 +13,7 @@ abbrev pub step_value : Step → StepValue
 step_value (Member name) = to_member name.now
 step_value (Item position) = to_item position
 
--- the same of the steps of a path
+-- what a contract sees of the steps of a path
 abbrev pub steps_seen : List Step → List StepValue
 steps_seen steps = map step_value steps
 

@@ -7,6 +7,7 @@ pub use Rattle.semver_versions.specs.VersionFault.{IsVersionFault, fault_kind_of
 pub use Rattle.semver_versions.specs.ErrorParts.{error_kind_of, span_len, span_offset}
 pub use Rattle.semver_versions.specs.ErrorText.{kind_text}
 pub use Rattle.semver_versions.specs.ErrorEquality.{error_value}
-pub use Rattle.semver_versions.specs.ErrorLocation.{newline, is_newline, lines_before, column_at}
+pub use Rattle.semver_texts.specs.Characters.{newline}
+pub use Rattle.semver_versions.specs.ErrorLocation.{is_newline, lines_before, column_at}
 pub use Rattle.semver_versions.specs.Json.{IsVersionAnswer, PassesOn, json_error_text}
 pub use Rattle.semver_versions.specs.declared.json.JsonError.TheVariants.{NotAString}

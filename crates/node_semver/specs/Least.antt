@@ -55,7 +55,7 @@ pub record HasBuildOf (Has : Ends VersionValue → VersionValue → Type 0) (set
   pub first : IsFirstWith Has sets v set
   pub build : v.build ≡ build_at set.lower
 
--- the same of the first set that admits it
+-- the version has the build of the lower end of the first set that admits it
 abbrev pub HasBuildOfFirst : List (Ends VersionValue) → VersionValue → Type 0
 HasBuildOfFirst = HasBuildOf SetAdmits
 

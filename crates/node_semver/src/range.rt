@@ -263,7 +263,7 @@ fn unread_error(alloc: Global, text: &str, unread: Unread) -> SemverError
     error_of(alloc, text, unread)
 }
 
-// The same, out of line. `inline(never)`: few texts are refused.
+// The error for a text that is not read, out of line. `inline(never)`: few texts are refused.
 #[inline(never)]
 fn error_of(alloc: Global, text: &str, unread: Unread) -> SemverError
     requires { unread ≡ Refused → IsRefused text.now }

@@ -38,6 +38,6 @@ code_of_difference (Some bump) = code_of_bump bump
 abbrev pub version_hash : VersionValue → ℕ
 version_hash v = folding.finish (fold folding.write folding.initial (version_writes v))
 
--- the same of a range, which feeds a hasher its sets, by their cuts
+-- the hash by std's `FoldHasher`, with its fixed seed, of the sets that a range feeds a hasher, by their cuts
 abbrev pub range_hash : List (Ends VersionValue) → ℕ
 range_hash sets = folding.finish (fold folding.write folding.initial (range_writes sets))

@@ -13,8 +13,8 @@ use Rattle.std.specs.contracts.impls.GlobalAllocator.TheImpl.{ghosts}
 abbrev pub borrows : (R : RattleType) → Ptr → ℕ → R.Denot → Fml
 borrows R p a x = fsep (fex Share (λ s. flft (a ∷ []) s)) (lent_at R p x (a ∷ []))
 
--- the same of a handle that may be empty: its pointer is null where it is, and may be compared with null where it is
--- not
+-- a borrowed handle that may be empty. If it is empty, its pointer is null; if not, its pointer may be compared with
+-- null
 abbrev pub borrows_held : (R : RattleType) → Ptr → ℕ → Option R.Denot → Fml
 borrows_held R p a None = fex (p ≡ null_ptr) (λ _. ftrue)
 borrows_held R p a (Some x) = fex (Testable p) (λ _. borrows R p a x)

@@ -26,7 +26,7 @@ pub data IsAnswered (Admits : VersionValue → Type 0) (text : List ℕ) (status
   refused : (kind : Kind) (offset : ℕ) → IsFault text kind offset → IsFaultReported kind offset status fault
       → IsAnswered Admits text status answer fault
 
--- the same with a range that admits
+-- the text was parsed as a version: whether a range of these sets admits it, or the fault of the text
 abbrev pub IsVersionReported : List (Ends VersionValue) → List ℕ → ℕ → Bool → Fault → Type 0
 IsVersionReported sets text status answer fault = IsAnswered (RangeAdmits sets) text status answer fault
 

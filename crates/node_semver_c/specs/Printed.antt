@@ -8,6 +8,6 @@ pub record IsPut (text old new : List ℕ) (count : ℕ) : Type 0 where
   pub fits : length text ≤ length old → new ≡ text ++ drop (length text) old
   pub kept : length old < length text → new ≡ old
 
--- the same, or an allocation failed: the count is 0 and all bytes stay
+-- the text was put, or an allocation failed: then the count is 0 and all bytes stay
 abbrev pub IsPrinted : (text old new : List ℕ) → ℕ → Type 0
 IsPrinted text old new count = IsPut text old new count ⊎ ((count ≡ 0) × (new ≡ old))

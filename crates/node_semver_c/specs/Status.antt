@@ -53,7 +53,8 @@ IsRefusalReported refusal = IsFaultReported refusal.kind refusal.offset
 abbrev pub IsKept : {X : Type 0} → X → ℕ → Option X → Type 0
 IsKept x status held = ((status ≡ OK) × (held ≡ Some x)) ⊎ ((status ≡ OUT_OF_MEMORY) × (held ≡ None))
 
--- the same of a value that may be none
+-- the value is in the handle; or there is none, and the handle is empty; or an allocation failed, and the handle is
+-- empty
 abbrev pub IsKeptAnswer : {X : Type 0} → Option X → ℕ → Option X → Type 0
 IsKeptAnswer None status held = (status ≡ NONE) × (held ≡ None)
 IsKeptAnswer (Some x) status held = IsKept x status held

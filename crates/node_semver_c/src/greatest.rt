@@ -39,7 +39,7 @@ pub extern "C" fn node_semver_min_satisfying(
     place_of_best(versions, range.get(), place, false)
 }
 
-/// `WithPrereleases::max_satisfying`: the same of the versions that the range contains, prereleases too.
+/// `WithPrereleases::max_satisfying`: the greatest of the versions that the range contains, prereleases too.
 #[unsafe(no_mangle)]
 pub extern "C" fn node_semver_max_satisfying_with_prereleases(
     versions: &[VersionRef],
@@ -87,7 +87,7 @@ fn place_of_best<A: Admits>(
     }
 }
 
-// The same version with its place. Inlined, as its caller is.
+// The greatest version that is admitted, or the least, with its place. Inlined, as its caller is.
 #[inline(always)]
 fn best_of<'a, A: Admits>(
     versions: &'a [VersionRef],

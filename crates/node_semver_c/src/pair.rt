@@ -83,7 +83,7 @@ pub extern "C" fn node_semver_satisfies_strict(
     }
 }
 
-/// The same with prereleases included: whether the range contains the version.
+/// Writes whether the range contains the version that the text writes strictly: prereleases are included.
 #[unsafe(no_mangle)]
 pub extern "C" fn node_semver_contains_strict(
     range: &RangeRef,

@@ -15,7 +15,7 @@ pub(crate) fn title(alloc: Global, file: &Value, name: &str, version: &str) -> A
     }
 }
 
-/// The same of a name that lives no longer than this call.
+/// The title for a name that lives no longer than this call.
 fn title_of_copy<'f>(
     alloc: Global,
     file: &'f Value,
@@ -26,7 +26,7 @@ fn title_of_copy<'f>(
     Ok(title_of(alloc, file, name.as_str(), version))
 }
 
-/// The same of a package that lives no longer than this call.
+/// The title for a package that lives no longer than this call.
 fn title_of<'f>(alloc: Global, file: &'f Value, name: &str, version: &str) -> Option<&'f str> {
     let one = Installed {
         folder: "",
@@ -58,7 +58,7 @@ pub(crate) fn folder(alloc: Global, list: &Value, text: &str) -> Answer {
     }
 }
 
-/// The same, of advisories that live no longer than this call.
+/// The folder of the first package that is hit by advisories that live no longer than this call.
 fn folder_of<'v>(alloc: Global, text: &str, installed: &[Installed<'v>]) -> Option<&'v str> {
     match &Value::from_str(alloc, text) {
         Ok(file) => folder_in(alloc, file, installed),

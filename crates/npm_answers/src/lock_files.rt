@@ -14,7 +14,7 @@ pub(crate) enum Name {
     Convert,
     /// Of the manifest in the folder of the text.
     Mismatches,
-    /// The same.
+    /// Of the manifest in the folder of the text.
     Put,
     /// Of an object that has the manifest of each folder.
     PutAndCheck,

@@ -51,7 +51,7 @@ pub(crate) fn named(name: &str) -> Option<(Name, usize)> {
 pub(crate) fn answer(alloc: Global, name: Name, arguments: &Arguments) -> Answer {
     let (value, text) = (arguments.value(0), arguments.text(0));
     match name {
-        Name::AskedOf => asked(alloc, value, text == "installed"),
+        Name::AskedOf => asked_names(alloc, value, text == "installed"),
         Name::IsOptionalPeer => answer::truth(is_optional_peer(value, text)),
         Name::AcceptedOf => answer::text_if_any(alloc, accepted_of(value, text)),
         Name::HasTextVersion => answer::truth(has_text_version(value)),
@@ -69,7 +69,7 @@ pub(crate) fn answer(alloc: Global, name: Name, arguments: &Arguments) -> Answer
     }
 }
 
-fn asked(alloc: Global, package: &Value, is_installed: bool) -> Answer {
+fn asked_names(alloc: Global, package: &Value, is_installed: bool) -> Answer {
     match &asked_of(alloc, package, is_installed) {
         Ok(names) => answer::list(text_of_names(alloc, names)),
         Err(_) => Answer::OutOfMemory,

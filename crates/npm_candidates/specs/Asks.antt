@@ -46,8 +46,9 @@ counts owner omits asked = if asked.is_peer then not omits.peer
 abbrev pub asks_by : Owner → Omits → (name : List ℕ) → AskedValue → List AskValue
 asks_by owner omits name asked = if counts owner omits asked then ask_of owner name asked ∷ [] else []
 
--- The same of a name that a manifest depends on. If the root has a rule for the name, the spec of the rule counts in place of the one that
--- is written, as `changed_by` says of a package in the folder of the root, which is `[]`. A rule that is not read changes nothing.
+-- What is asked of a name that a manifest depends on, if it counts. If the root has a rule for the name, the spec of the rule counts in
+-- place of the one that is written, as `changed_by` says of a package in the folder of the root, which is `[]`. A rule that is not read
+-- changes nothing.
 abbrev pub asks_on : (manifest : Data) → Owner → RulesValue → Omits → (name : List ℕ) → List AskValue
 asks_on manifest owner rules omits name = option_map_or (λ asked. asks_by owner omits name (changed_by (rules name) [] asked))
     (asked_of manifest (not (is_root owner)) name) []

@@ -14,7 +14,7 @@ use Rattle.npm_candidates.specs.declared.options.Options.{Options}
 abbrev pub locked_at : (packages : Data) → (name : List ℕ) → Option (List ℕ)
 locked_at packages name = option_and_then version_of (get (place_in [] name) packages)
 
--- the same of the lock file of the options, if there is one
+-- the version that the lock file of the options has for a name, if there is a lock file
 abbrev pub locked_of : Options → (name : List ℕ) → Option (List ℕ)
 locked_of options name = option_and_then (λ lock. locked_at (packages_data lock) name) options.lock
 

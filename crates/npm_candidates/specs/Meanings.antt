@@ -49,7 +49,7 @@ pub data IsMeaningByText (packument : Data) (before : Option ℤ) (text : List �
   refused : IsNoVersion text → IsNoRange of_dependencies text → is_tag text ≡ false
       → IsMeaningByText packument before text nothing
 
--- The same of any text. A location and an alias, as `1.0.0 || a.tgz` and `npm:a@1`, allow nothing.
+-- What any text means. A location and an alias, as `1.0.0 || a.tgz` and `npm:a@1`, allow nothing.
 pub data IsMeaning (packument : Data) (before : Option ℤ) (text : List ℕ) : MeaningValue → Type 0 where
   by_text : (meaning : MeaningValue) → is_plain (filled text) ≡ true → IsMeaningByText packument before (filled text) meaning
       → IsMeaning packument before text meaning

@@ -39,13 +39,13 @@ problem_with root found name folder = option_map
     (λ kind. record { kind = kind; dependency = dependency_of [] root name (asked_folder folder) found })
     (kind_of root found name folder)
 
--- the same beside these packages, of which the one in the folder `""` is the root
+-- the problem with a workspace beside these packages, of which the one in the folder `""` is the root
 abbrev pub problem_among : (packages : Data) → (name folder : List ℕ) → Option ProblemValue
 problem_among packages name folder = option_and_then
     (λ root. problem_with root (package_at packages (place_in [] name)) name folder)
     (get [] packages)
 
--- the same beside a lock file
+-- the problem with a workspace beside a lock file
 abbrev pub workspace_problem : (lock : Data) → (name folder : List ℕ) → Option ProblemValue
 workspace_problem lock name folder = option_and_then (λ members. problem_among (object members) name folder)
     (option_and_then as_object (get (codes "packages") lock))

@@ -57,7 +57,7 @@ mismatch_value mismatch = record {
   locked = option_map string_bytes mismatch.locked;
 }
 
--- the same spec, or none at all
+-- both are the same spec, or both are absent
 abbrev pub is_same : (spec locked : Option (List ℕ)) → Bool
 is_same None None = true
 is_same None (Some locked) = false

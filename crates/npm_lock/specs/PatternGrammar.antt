@@ -9,6 +9,7 @@
 -- patterns, as `!w` and `{v,w}`, is not read.
 use Rattle.std.specs.Prelude.{◌≡◌, ◌≢◌, ◌==◌, ◌||◌, ℕ, Bool, false, List, [], ◌∷◌, bytes_eq, codes, length}
 use Rattle.std.specs.List.{AllByRecursion, list_any}
+use Rattle.std.specs.Path.{dot}
 use Rattle.npm_packages.specs.Folders.{below_up}
 pub use Rattle.npm_packages.specs.Folders.{parts_of}
 
@@ -44,7 +45,7 @@ pub record IsLiteral (pattern : List (List ℕ)) : Type 0 where
 -- a part that does not begin with a dot
 abbrev pub IsShown : (part : List ℕ) → Type 0
 IsShown [] = Unit {0}
-IsShown (b ∷ part) = b ≢ 46
+IsShown (b ∷ part) = b ≢ dot
 
 -- The path matches the pattern, whose last part may be a star: `packages/a` matches `packages/*`, and `packages/a/b` and
 -- `packages` match `packages/**`. With nothing after its `/`, `packages/` matches neither.

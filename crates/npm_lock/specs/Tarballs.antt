@@ -11,11 +11,12 @@
 -- A registry writes the name before `/-/`, in the path of a URL: `https://r/@s/a/-/a-1.0.0.tgz` is `@s/a` of version 1.0.0. The file is
 -- what the whole address ends with. Any other address says no name, and its file has to be one of the name that the package is
 -- installed under: `https://r/a-1.0.0.tgz` of `@s/a`.
-use Rattle.std.specs.Prelude.{◌==◌, ℕ, List, [], ◌∷◌, ◌++◌, Bool, if◌then◌else◌, Option, Some, None, codes, nat_eq}
+use Rattle.std.specs.Prelude.{◌==◌, ℕ, List, [], ◌∷◌, ◌++◌, if◌then◌else◌, Option, Some, None, codes, nat_eq}
 use Rattle.std.specs.Prelude.{option_and_then, option_map, reverse, unwrap_or}
 use Rattle.std.specs.List.{after_first, before_first, ends_with, starts_with}
 use Rattle.std.specs.Option.{option_or}
-use Rattle.std.specs.Path.{rsplit_once}
+use Rattle.std.specs.Path.{rsplit_once, slash}
+use Rattle.npm_texts.specs.SpecGrammar.{is_slash}
 use Rattle.npm_texts.specs.Texts.{rest_after, without_end}
 use Rattle.npm_lock.specs.declared.tarball.Name.{Name}
 use Rattle.npm_lock.specs.declared.tarball.Tarball.{Tarball}
@@ -24,17 +25,21 @@ use Rattle.npm_lock.specs.declared.tarball.Tarball.{Tarball}
 
 -- what comes before the last `/` of a path, and what comes after it. Nothing comes before it if there is none.
 abbrev pub parts_at_slash : (path : List ℕ) → List ℕ × List ℕ
-parts_at_slash path = unwrap_or (rsplit_once 47 path) ([], path)
+parts_at_slash path = unwrap_or (rsplit_once slash path) ([], path)
 
 -- the name of a package: `@s` and `a` of `@s/a`. What comes before the `/` is a scope if it begins with `@`.
 pub record NameValue : Type 0 where
   pub scope : List ℕ
   pub project : List ℕ
 
+-- before the number of a byte in a URL: `%2f` is `/`
+abbrev pub percent_sign : ℕ
+percent_sign = 37
+
 -- the two parts of `@s%2fa`
 abbrev pub escaped_parts : (part : List ℕ) → Option (List ℕ × List ℕ)
 escaped_parts part = option_and_then (λ parts. option_map (λ project. (parts.0, project))
-    (option_or (rest_after (codes "2f") parts.1) (rest_after (codes "2F") parts.1))) (rsplit_once 37 part)
+    (option_or (rest_after (codes "2f") parts.1) (rest_after (codes "2F") parts.1))) (rsplit_once percent_sign part)
 
 -- what comes before the last `/` or `%2f` of a path, and what comes after it
 abbrev pub parts_at_end : (path : List ℕ) → List ℕ × List ℕ
@@ -67,9 +72,6 @@ with_name name stem = option_map (λ version. record { name = name; version = ve
 
 -- ---- addresses
 
-abbrev pub is_slash : ℕ → Bool
-is_slash b = b == 47
-
 -- the text without slashes at its start
 abbrev pub after_slashes : List ℕ → List ℕ
 after_slashes [] = []
@@ -83,9 +85,17 @@ before_slashes text = reverse (after_slashes (reverse text))
 abbrev pub file_of : (address : List ℕ) → List ℕ
 file_of address = (parts_at_slash (before_slashes address)).1
 
+-- before the query of a URL
+abbrev pub question_mark : ℕ
+question_mark = 63
+
+-- before the fragment of a URL
+abbrev pub number_sign : ℕ
+number_sign = 35
+
 -- what comes before the `?` or the `#` of a URL
 abbrev pub before_query : (url : List ℕ) → List ℕ
-before_query url = before_first (λ b. b == 63) (before_first (λ b. b == 35) url)
+before_query url = before_first (λ b. b == question_mark) (before_first (λ b. b == number_sign) url)
 
 -- the path of a URL, without the `/` that it begins with: `a/b` of `https://r/a/b?c#d`
 abbrev pub url_path : (address : List ℕ) → Option (List ℕ)

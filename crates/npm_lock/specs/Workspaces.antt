@@ -2,6 +2,7 @@
 use Rattle.std.specs.Prelude.{◌≡◌, ◌≢◌, ◌==◌, ◌⊎◌, ℕ, List, [], ◌∷◌, if◌then◌else◌}
 use Rattle.std.specs.Prelude.{IsSomeAnd, Option, Some, None, codes, option_and_then, option_map}
 use Rattle.std.specs.Option.{option_map_or, option_or}
+use Rattle.std.specs.Path.{slash}
 use Rattle.serde_json.specs.Data.{Data, Items, item, no_items}
 use Rattle.serde_json.specs.Find.{as_array, as_str, get}
 use Rattle.npm_packages.specs.Folders.{IsInstalled}
@@ -19,7 +20,7 @@ patterns_of root = option_and_then
 -- a text without each `/` at its start
 abbrev pub without_slashes : List ℕ → List ℕ
 without_slashes [] = []
-without_slashes (b ∷ text) = if b == 47 then without_slashes text else b ∷ text
+without_slashes (b ∷ text) = if b == slash then without_slashes text else b ∷ text
 
 -- the pattern of a text, which may begin with `./` or `/`: `w` of `./w`, of `/w` and of `.//w`
 abbrev pub pattern_of : (text : List ℕ) → List ℕ

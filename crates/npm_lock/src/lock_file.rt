@@ -14,7 +14,7 @@ ghost use Rattle.npm_packages.specs.PackageValue.{packages_data};
 ghost use Rattle.npm_packages.specs.Rules.{AreRules};
 
 use crate::Result;
-use crate::outcome::{add_judgement, engine_problem, judgement_of};
+use crate::outcome::{Asker, add_judgement, engine_problem, judgement_of};
 use crate::problem::Problems;
 use crate::workspace::asker_patterns;
 use node_semver::Version;
@@ -109,18 +109,15 @@ fn add_problems<'v>(
     let outermost = outermost_of(asker.folder);
     let patterns = asker_patterns(lock.alloc, asker)?;
     let all = asked_of(lock.alloc, asker.member, is_installed)?;
+    let asking = Asker {
+        package: asker,
+        patterns: &patterns,
+        outermost,
+        is_installed,
+    };
     for (name, asked) in all.iter() {
         let changed = overridden(rules, asker.folder, *name, *asked);
-        let judgement = judgement_of(
-            lock,
-            asker,
-            index,
-            &patterns,
-            outermost,
-            is_installed,
-            *name,
-            changed,
-        )?;
+        let judgement = judgement_of(lock, index, &asking, *name, changed)?;
         add_judgement(problems, lock.alloc, asker, *name, changed, judgement)?;
     }
     Ok(())

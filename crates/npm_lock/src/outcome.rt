@@ -32,34 +32,44 @@ pub(crate) enum Judgement<'v> {
     Unknown(Reason, Package<'v>),
 }
 
+/// A package whose dependencies are judged, and what is found out about it once for all of them.
+#[derive(Clone, Copy)]
+pub(crate) struct Asker<'a, 'v> {
+    pub package: Package<'v>,
+    pub patterns: &'a Patterns<'v>,
+    /// The last folder in which names are looked up from that of the package.
+    pub outermost: &'a str,
+    pub is_installed: bool,
+}
+
 /// Returns the judgement of a dependency of a package.
 pub(crate) fn judgement_of<'v>(
     lock: Lock<'v>,
-    asker: Package<'v>,
     index: &Index<'v>,
-    patterns: &Patterns<'v>,
-    outermost: &str,
-    is_installed: bool,
+    asker: &Asker<'_, 'v>,
     name: &'v str,
     asked: Asked<'v>,
 ) -> Result<Judgement<'v>>
     requires index { IsIndexOf (packages_data lock) index.now }
-    requires patterns { ArePatternsOf asker.folder.now (view asker.member.now) patterns.now }
-    requires outermost { IsOutermostFrom asker.folder.now outermost.now }
-    ensures { IfOk result (λ judgement. IsOutcome (packages_data lock.entry) asker.entry.folder.now
-        (view asker.entry.member.now) is_installed name.now (asked_value asked.entry) (judgement_value judgement)) }
+    requires patterns { ArePatternsOf asker.now.package.folder.now (view asker.now.package.member.now)
+        asker.now.patterns.now }
+    requires outermost { IsOutermostFrom asker.now.package.folder.now asker.now.outermost.now }
+    ensures { IfOk result (λ judgement. IsOutcome (packages_data lock.entry) asker.now.package.folder.now
+        (view asker.now.package.member.now) asker.now.is_installed name.now (asked_value asked.entry)
+        (judgement_value judgement)) }
 {
-    let Some((found, is_own)) = lock.find(index, asker.folder, outermost, name) else {
+    let package = asker.package;
+    let Some((found, is_own)) = lock.find(index, package.folder, asker.outermost, name) else {
         return Ok(if asked.is_needed {
             Judgement::Wrong(Kind::Missing, None)
         } else {
             Judgement::Fine
         });
     };
-    if is_local_peer(asked, is_installed, is_own) {
+    if is_local_peer(asked, asker.is_installed, is_own) {
         return Ok(Judgement::Wrong(Kind::PeerLocal, Some(found)));
     }
-    match verdict_on(lock, asker, patterns, name, asked, found)? {
+    match verdict_on(lock, package, asker.patterns, name, asked, found)? {
         Verdict::Valid => Ok(Judgement::Fine),
         Verdict::Unchecked(reason) => Ok(Judgement::Unknown(reason, found)),
         Verdict::Invalid => Ok(Judgement::Wrong(Kind::Invalid, Some(found))),

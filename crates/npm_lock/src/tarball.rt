@@ -2,6 +2,7 @@
 ghost use Rattle.std.specs.Prelude.{◌≡◌, ◌==◌, ◌<◌, IfOk, option_map, string_bytes};
 ghost use Rattle.std.specs.List.{after_first, before_first};
 ghost use Rattle.std.specs.Path.{rsplit_once};
+ghost use Rattle.npm_texts.specs.SpecGrammar.{is_slash};
 ghost use Rattle.npm_lock.specs.Tarballs as Tarballs;
 ghost use Rattle.npm_lock.specs.Tarballs.{name_value, tarball_value};
 
@@ -96,7 +97,7 @@ fn before(text: &str, character: char) -> &str
 
 /// What comes after the first `/`: `a/b` of `r/a/b`. Nothing comes after it if there is none.
 fn after_first_slash(text: &str) -> &str
-    ensures { result.now ≡ after_first Tarballs.is_slash text.now }
+    ensures { result.now ≡ after_first is_slash text.now }
 {
     match text.split_once('/') {
         Some((_, path)) => path,

@@ -1,7 +1,9 @@
 -- Folders of packages, as the keys of `packages` in a lock file write them: npm's "package-lock.json", "packages".
 use Rattle.std.specs.Prelude.{◌≡◌, ◌≢◌, ◌⊎◌, ◌||◌, ◌&&◌, ◌==◌, ◌<◌, ℕ, List, [], ◌∷◌, ◌++◌, Bool, false, true, IsTrue}
 use Rattle.std.specs.Prelude.{bytes_eq, codes, if◌then◌else◌, length, nat_eq, nat_le, not, slice_index}
+use Rattle.std.specs.Char.Escape.{backslash}
 use Rattle.std.specs.List.{ends_with, list_all, list_any, slice_split, starts_with}
+use Rattle.std.specs.Path.{slash}
 use Rattle.std.specs.Str.Iter.{HasSubslice}
 
 -- a path inside a folder: `node_modules/a` is in the root, `b/node_modules/a` in `b`
@@ -21,7 +23,7 @@ is_up folder = bytes_eq folder (codes "..") || ends_with nat_eq folder (codes "/
 pub record IsAbove (folder above : List ℕ) : Type 0 where
   pub inside : is_up folder ≡ false
   pub name : List ℕ
-  pub one_part : (i : ℕ) → i < length name → slice_index name i ≢ 47
+  pub one_part : (i : ℕ) → i < length name → slice_index name i ≢ slash
   pub whole : (folder ≡ above ++ (codes "/" ++ name)) ⊎ ((above ≡ []) × (folder ≢ []) × (folder ≡ name))
 
 -- a folder that no folder is above: the root, and a folder that leads up from it
@@ -41,12 +43,12 @@ IsInstalled folder = IsTrue (starts_with nat_eq folder (codes "node_modules/"))
 
 -- the parts of a path: `node_modules` and `a` of `node_modules/a`. The empty path has one part, which is empty.
 abbrev pub parts_of : (path : List ℕ) → List (List ℕ)
-parts_of path = slice_split (λ b. b == 47) path
+parts_of path = slice_split (λ b. b == slash) path
 
 -- A part that leads one folder down: it is not empty, not `.` or `..`, and has no `\`, for which npm writes `/`.
 abbrev pub is_step : (part : List ℕ) → Bool
 is_step part = not (length part == 0) && not (bytes_eq part (codes ".")) && not (bytes_eq part (codes ".."))
-    && not (list_any (λ b. b == 92) part)
+    && not (list_any (λ b. b == backslash) part)
 
 -- the parts without each `..` at their start
 abbrev pub below_up : (parts : List (List ℕ)) → List (List ℕ)

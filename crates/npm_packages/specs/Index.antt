@@ -4,6 +4,7 @@ use Rattle.std.specs.BTreeMap.{BTreeMap, get_by}
 use Rattle.std.specs.Cmp.Lexicographic.{slice_cmp}
 use Rattle.std.specs.Option.{IfSome}
 use Rattle.std.specs.Ordering.{nat_cmp, ordering_then}
+use Rattle.std.specs.Path.{slash}
 use Rattle.serde_json.specs.Data.{Data}
 use denote.Ref.{Bor}
 use Rattle.npm_packages.specs.LastParts.{IsPlain}
@@ -37,9 +38,9 @@ pub record ArePlacesOf (packages : Data) (places : Places) : Type 0 where
 
 -- a path, or its beginning before a `/`, or the empty path: `a/b`, `a` and the root for `a/b`
 abbrev pub IsFront : (path front : List ℕ) → Type 0
-IsFront path front = (front ≡ []) ⊎ (path ≡ front) ⊎ ((rest : List ℕ) × (path ≡ front ++ (47 ∷ rest)))
+IsFront path front = (front ≡ []) ⊎ (path ≡ front) ⊎ ((rest : List ℕ) × (path ≡ front ++ (slash ∷ rest)))
 
--- the same without the path itself
+-- the beginning of a path before a `/`, or the empty path, but not the path itself
 abbrev pub IsOver : (path front : List ℕ) → Type 0
 IsOver path front = IsFront path front × (length front < length path)
 

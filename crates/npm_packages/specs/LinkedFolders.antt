@@ -26,7 +26,7 @@ pub record IsLinked (packages : Data) (folder : List ℕ) : Type 0 where
   pub there : get place packages ≡ Some link
   pub leads : IsLinkTo packages link folder
 
--- the same of a lock file, which may have no `packages`
+-- a member of `packages` of the lock file is a link to this folder
 pub record IsLinkedIn (lock : Data) (folder : List ℕ) : Type 0 where
   pub packages : Data
   pub there : get (codes "packages") lock ≡ Some packages

@@ -176,7 +176,7 @@ pub fn overridden<'v>(rules: &Rules<'v>, folder: &str, name: &'v str, asked: Ask
     }
 }
 
-/// The same, by the rule for the name.
+/// Returns the dependency as the rule for its name changes it.
 fn changed_by<'v>(rule: Rule<'v>, folder: &str, asked: Asked<'v>) -> Asked<'v>
     ensures { asked_value result ≡ Overrides.changed_by (Some (rule_value rule.entry)) folder.now
         (asked_value asked.entry) }

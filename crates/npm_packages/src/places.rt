@@ -36,8 +36,9 @@ pub(crate) fn nearest<'v>(
     nearest_beside(places, above, name, path, last)
 }
 
-/// The same if the last folder that is not after the path is beside it. Of the folders that begin with what both share, the
-/// first one is at or above the path, or else what is nearest above that folder is nearest above the path too.
+/// The package of a name in the nearest folder that is this path or above it, if the last folder that is not after the path
+/// is beside it. Of the folders that begin with what both share, the first one is at or above the path, or else what is nearest
+/// above that folder is nearest above the path too.
 fn nearest_beside<'v>(
     places: &Places<'v>,
     above: &Places<'v>,

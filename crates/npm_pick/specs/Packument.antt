@@ -14,7 +14,7 @@ abbrev pub releases_among : Members → List Release
 releases_among no_members = []
 releases_among (member key manifest others) = record { key = key; manifest = manifest } ∷ releases_among others
 
--- the same of a list of versions that may be absent
+-- all members of a list of versions, or none if the list is absent
 abbrev pub releases_in : (listed : Option Members) → List Release
 releases_in listed = option_map_or releases_among listed []
 

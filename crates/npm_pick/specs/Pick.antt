@@ -149,7 +149,7 @@ pub data IsPickedByText (packument : Data) (options : Options) (wanted : List �
   refused : IsNoVersion wanted → IsNoRange of_dependencies wanted → is_tag wanted ≡ false
       → IsPickedByText packument options wanted (Err Errors.Wanted)
 
--- The same of any text. A location and an alias, as `1.0.0 || a.tgz` and `npm:a@1`, are refused.
+-- What is picked for any text. A location and an alias, as `1.0.0 || a.tgz` and `npm:a@1`, are refused.
 pub data IsPickedFor (packument : Data) (options : Options) (wanted : List ℕ) : Result PickedValue PickError → Type 0
   where
     by_text : (answer : Result PickedValue PickError) → is_plain wanted ≡ true
@@ -173,7 +173,7 @@ PicksOther packument options wanted (Ok picked) =
     IsPickedFor packument options wanted (Ok picked) × (picked.is_avoided ≡ false)
 PicksOther packument options wanted (Err error) = IsPickedFor packument options wanted (Err error)
 
--- the same version, which replaces a version to avoid
+-- the picked version, with the mark that it replaces a version to avoid
 abbrev pub outside : (is_major : Bool) → Result PickedValue PickError → Result PickedValue PickError
 outside is_major (Ok picked) = Ok (record {
   key = picked.key;

@@ -31,7 +31,7 @@ IsAvoided (Some avoided) v = Admits of_avoided avoided v
 abbrev pub IsEngineFor : VersionValue → Data → Type 0
 IsEngineFor v asked = is_true asked ≡ true → (text : List ℕ) × (as_str asked ≡ Some text) × Admits of_engines text v
 
--- the same if the version is known, and if there is such a range
+-- the version of the engine is unknown, or there is no range, or the range admits it
 abbrev pub Fits : Option VersionValue → Option Data → Type 0
 Fits None asked = Unit {0}
 Fits (Some v) asked = IfSome asked (IsEngineFor v)

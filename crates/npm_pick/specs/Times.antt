@@ -26,11 +26,11 @@ abbrev pub is_at_most : (before : Option ℤ) → (time : ℤ) → Bool
 is_at_most None time = true
 is_at_most (Some before) time = int_le time before
 
--- The same of a text. A text that is no time is not in time, even without `before`.
+-- The time of a text is not after the other. A text that is no time is not in time, even without `before`.
 abbrev pub is_text_in_time : (before : Option ℤ) → (text : List ℕ) → Bool
 is_text_in_time before text = option_map_or (is_at_most before) (time_text text) false
 
--- The same of the member for a version. A member that JavaScript counts as false is in time.
+-- The time that a member for a version writes is not after the other. A member that JavaScript counts as false is in time.
 abbrev pub is_in_time : (before : Option ℤ) → (time : Data) → Bool
 is_in_time before time = not (is_true time) || option_map_or (is_text_in_time before) (as_str time) false
 

@@ -45,7 +45,7 @@ fn wanted_range(alloc: Global, text: &str) -> Result<Option<Range>>
     plain_range(alloc, filled(text))
 }
 
-/// The same of a text that is not empty. A location and an alias are no range.
+/// The range of a text that is not empty, or `None` if it is none. A location and an alias are no range.
 fn plain_range(alloc: Global, text: &str) -> Result<Option<Range>>
     ensures { IfOk result (λ range. (v : VersionValue) → IsSatisfied range v ↔ IsInText text.now v) }
 {

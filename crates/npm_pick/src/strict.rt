@@ -70,7 +70,7 @@ fn caret_of(alloc: Global, key: &str) -> Result<String, AllocError>
     Ok(text)
 }
 
-/// The same version, which replaces a version to avoid.
+/// The picked version, with the mark that it replaces a version to avoid.
 fn outside<'v>(picked: Picked<'v>, is_major: bool) -> Picked<'v>
     ensures { Ok (picked_value result) ≡ Picks.outside is_major (Ok (picked_value picked.entry)) }
 {

@@ -38,7 +38,7 @@ use task::{Task, task_of};
 fn main(rt: HostRuntime) -> ExitCode {
     let words = words_of(rt.alloc(), &rt);
     let outcome = match &words {
-        Ok(words) => answered(&rt, words),
+        Ok(words) => outcome_of(&rt, words),
         Err(error) => Err(ProgramError::Words(error)),
     };
     let (outcome, said) = match outcome {
@@ -71,7 +71,7 @@ fn say(rt: &HostRuntime, done: &Done) -> io::Result<()> {
 }
 
 /// Does the task of the arguments. Returns how the program ends, or `None` if only a text about it was shown.
-fn answered<'a>(rt: &HostRuntime, words: &'a [String]) -> Result<Option<Done>, ProgramError<'a>> {
+fn outcome_of<'a>(rt: &HostRuntime, words: &'a [String]) -> Result<Option<Done>, ProgramError<'a>> {
     let asked = read_arguments(words)?;
     if let Some(shown) = asked.shown {
         show(rt, shown)?;
@@ -79,7 +79,7 @@ fn answered<'a>(rt: &HostRuntime, words: &'a [String]) -> Result<Option<Done>, P
     }
     let task = task_of(&asked)?;
     let values = Values::of_arguments(rt.alloc(), asked)?;
-    let done = done(rt, words, task, asked, &values.options(asked))?;
+    let done = do_task(rt, words, task, asked, &values.options(asked))?;
     Ok(Some(done))
 }
 
@@ -93,7 +93,7 @@ fn show(rt: &HostRuntime, shown: Shown) -> Result<(), RunError> {
 }
 
 /// Reads the files of a task, and does it.
-fn done<'a>(
+fn do_task<'a>(
     rt: &HostRuntime,
     words: &'a [String],
     task: Task<'a>,
@@ -103,11 +103,11 @@ fn done<'a>(
     match task {
         Task::Pick { packument, wanted } => {
             let value = file_value(rt, "--packument", packument)?;
-            replied(rt, Question::Pick(&value, wanted), asked, options, "")
+            write_reply(rt, Question::Pick(&value, wanted), asked, options, "")
         }
         Task::Outdated { packuments, lock } => {
             let value = file_value(rt, "--lock", lock)?;
-            replied(
+            write_reply(
                 rt,
                 Question::Outdated(&value, asked.all),
                 asked,
@@ -122,13 +122,13 @@ fn done<'a>(
                 None => None,
             };
             let question = Question::Keep(&manifests, lock.as_ref(), asked.all);
-            replied(rt, question, asked, options, packuments)
+            write_reply(rt, question, asked, options, packuments)
         }
     }
 }
 
 /// Writes the reply to a question. Documents of packages are in this folder.
-fn replied<'a>(
+fn write_reply<'a>(
     rt: &HostRuntime,
     question: Question<'_>,
     asked: Arguments<'a>,

@@ -15,7 +15,7 @@ use Rattle.npm_pick.specs.Kept.{IsKept}
 use Rattle.npm_pick.specs.declared.options.Options.{Options}
 use Rattle.npm_texts.specs.RegistrySpec.{RegistrySpecValue, registry_spec, registry_spec_value}
 use Rattle.npm_texts.specs.declared.registry.RegistrySpec.{RegistrySpec}
-use Rattle.npm_pick_reports.specs.Asks.{AreEdgeAsks, AreEdgesAsks, AskValue, ask_value}
+use Rattle.npm_pick_reports.specs.Asks.{AreAsksOfEdge, AreAsksOfEdges, AskValue, ask_value}
 use Rattle.npm_pick_reports.specs.Loading.{IsLoadFailure, Loads}
 use Rattle.npm_pick_reports.specs.Mirror.{AreTextsOf, IsNeededFor, kept_text, IsPackage, PackageValue, absent, absent_of, kept, kept_of}
 use Rattle.npm_pick_reports.specs.Mirror.{names_of, texts_for}
@@ -86,8 +86,8 @@ module _ (Gives : Loads) (options : Options) (all : Bool) (name : List ℕ) (tex
 
 -- the edges from this one on
 pub edges_from : (edges : List Edge) (i : ℕ) (none : Edge) (here later : List AskValue) → i < length edges
-    → AreEdgeAsks (edge_value (get_or edges i none)) here → AreEdgesAsks (map edge_value (drop (i + 1) edges)) later
-    → AreEdgesAsks (map edge_value (drop i edges)) (here ++ later)
+    → AreAsksOfEdge (edge_value (get_or edges i none)) here → AreAsksOfEdges (map edge_value (drop (i + 1) edges)) later
+    → AreAsksOfEdges (map edge_value (drop i edges)) (here ++ later)
 edges_from edges i none here later small is are = rw (drop_more edges i none small) (here, later, is, are, refl)
 
 -- a dependency more

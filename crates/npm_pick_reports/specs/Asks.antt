@@ -43,34 +43,34 @@ IsLinked None = ⊥
 IsLinked (Some folder) = ¬ IsInstalled folder
 
 -- a dependency of a package, unless a folder of the project is found for it
-pub data AreEdgeAsks (edge : EdgeValue) : List AskValue → Type 0 where
-  linked : IsLinked edge.to → AreEdgeAsks edge []
-  asked : ¬ IsLinked edge.to → AreEdgeAsks edge
+pub data AreAsksOfEdge (edge : EdgeValue) : List AskValue → Type 0 where
+  linked : IsLinked edge.to → AreAsksOfEdge edge []
+  asked : ¬ IsLinked edge.to → AreAsksOfEdge edge
       (record { name = edge.name; spec = edge.spec; is_overridden = edge.is_overridden } ∷ [])
 
 -- one dependency after another
-abbrev pub AreEdgesAsks : List EdgeValue → List AskValue → Type 0
-AreEdgesAsks [] asks = asks ≡ []
-AreEdgesAsks (edge ∷ edges) asks = (here : List AskValue) × (later : List AskValue) × AreEdgeAsks edge here
-    × AreEdgesAsks edges later × (asks ≡ here ++ later)
+abbrev pub AreAsksOfEdges : List EdgeValue → List AskValue → Type 0
+AreAsksOfEdges [] asks = asks ≡ []
+AreAsksOfEdges (edge ∷ edges) asks = (here : List AskValue) × (later : List AskValue) × AreAsksOfEdge edge here
+    × AreAsksOfEdges edges later × (asks ≡ here ++ later)
 
 -- the dependencies of all packages of a lock file
-pub record AreLockAsks (lock : Data) (asks : List AskValue) : Type 0 where
+pub record AreAsksOfLock (lock : Data) (asks : List AskValue) : Type 0 where
   pub edges : List EdgeValue
   pub of_lock : AreLockEdges lock edges
-  pub are : AreEdgesAsks edges asks
+  pub are : AreAsksOfEdges edges asks
 
--- the same if there is a lock file
-abbrev pub AreLocksAsks : (lock : Option Data) → List AskValue → Type 0
-AreLocksAsks None asks = asks ≡ []
-AreLocksAsks (Some lock) asks = AreLockAsks lock asks
+-- the dependencies of all packages of the lock file, or none if there is no lock file
+abbrev pub AreAsksOfLockIfAny : (lock : Option Data) → List AskValue → Type 0
+AreAsksOfLockIfAny None asks = asks ≡ []
+AreAsksOfLockIfAny (Some lock) asks = AreAsksOfLock lock asks
 
 -- ---- all of them
 
 -- the dependencies of these manifests, and then those of a lock file, if there is one
 pub record AreAsks (manifests : List Data) (lock : Option Data) (asks : List AskValue) : Type 0 where
   pub locked : List AskValue
-  pub of_lock : AreLocksAsks lock locked
+  pub of_lock : AreAsksOfLockIfAny lock locked
   pub whole : asks ≡ flat_map manifest_asks manifests ++ locked
 
 -- what a contract sees of a dependency

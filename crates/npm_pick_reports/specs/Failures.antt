@@ -18,7 +18,7 @@ abbrev pub IsComparedFailure : Loads → (lock : Data) → (all : Bool) → RunE
 IsComparedFailure Gives lock all error = (edges : List EdgeValue) × AreLockEdges lock edges
     × IsLoadFailure (IsNeededForOne all edges) Gives error
 
--- the same for a dependency of these manifests or of this lock file
+-- the document of a package was not loaded that a dependency of these manifests or of this lock file asks for
 abbrev pub IsKeptFailure : Loads → (manifests : List Data) → (lock : Option Data) → RunError → Type 0
 IsKeptFailure Gives manifests lock error = (asks : List AskValue) × AreAsks manifests lock asks
     × IsLoadFailure (IsNeededFor (requests_of asks)) Gives error

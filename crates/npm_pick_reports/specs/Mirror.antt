@@ -24,7 +24,7 @@ request_of ask = if ask.is_overridden then None else registry_spec ask.name ask.
 abbrev pub requests_by : AskValue → List RegistrySpecValue
 requests_by ask = option_map_or (λ (request : RegistrySpecValue). request ∷ []) (request_of ask) []
 
--- the same of all dependencies
+-- the requests of all dependencies
 abbrev pub requests_of : List AskValue → List RegistrySpecValue
 requests_of asks = flat_map requests_by asks
 
@@ -82,7 +82,8 @@ pub record AreKept (Gives : Loads) (options : Options) (all : Bool) (requests : 
   pub versions : kept ≡ flat_map kept_of packages
   pub missing : absent ≡ flat_map absent_of packages
 
--- The same of the packages of all requests, in the order of the bytes of their names
+-- These versions are kept of the packages of all requests, in the order of the bytes of the names, and these packages
+-- have no document
 pub record IsMirror (Gives : Loads) (options : Options) (all : Bool) (requests : List RegistrySpecValue)
     (kept absent : List (List ℕ)) : Type 0 where
   pub names : List (List ℕ)

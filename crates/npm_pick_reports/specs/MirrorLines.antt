@@ -1,5 +1,5 @@
 -- The lines of what a mirror keeps, and those of standard error.
-use Rattle.std.specs.Prelude.{ℕ, List, [], ◌∷◌, ◌++◌, codes, map}
+use Rattle.std.specs.Prelude.{ℕ, List, [], ◌++◌, codes, map}
 use Rattle.std.specs.List.{flat_map}
 use Rattle.serde_json.specs.Data.{array, string}
 use Rattle.serde_json.specs.View.{items_of}
@@ -10,7 +10,7 @@ use Rattle.npm_pick_reports.specs.declared.format.Format.TheVariants.{Json, Text
 
 -- these words, a text and a newline
 abbrev pub line_of : (front text : List ℕ) → List ℕ
-line_of front text = front ++ (shown text ++ (10 ∷ []))
+line_of front text = front ++ (shown text ++ codes "\n")
 
 -- a line for each text
 abbrev pub lines_of : (front : List ℕ) → (texts : List (List ℕ)) → List ℕ
@@ -20,9 +20,9 @@ lines_of front texts = flat_map (λ text. line_of front text) texts
 abbrev pub list_text : (kept : List (List ℕ)) → List ℕ
 list_text kept = compact_text (array (items_of (map string kept)))
 
--- the same, and a newline
+-- the JSON list of the versions, and a newline
 abbrev pub json_line : (kept : List (List ℕ)) → List ℕ
-json_line kept = list_text kept ++ (10 ∷ [])
+json_line kept = list_text kept ++ codes "\n"
 
 -- a version a line: `a@1.2.0`; or the JSON list
 abbrev pub mirror_lines : Format → (kept : List (List ℕ)) → List ℕ

@@ -80,7 +80,7 @@ abbrev pub IsNeededFor : (all : Bool) → EdgeValue → (name : List ℕ) → Ty
 IsNeededFor all edge name = (request : RegistrySpecValue) × (is_passed all edge ≡ false)
     × (registry_spec edge.name edge.spec ≡ Some request) × (request.name ≡ name)
 
--- the same for one of these dependencies
+-- the document of this package is needed for one of these dependencies
 abbrev pub IsNeededForOne : (all : Bool) → List EdgeValue → (name : List ℕ) → Type 0
 IsNeededForOne all edges name = (edge : EdgeValue) × Contains edges edge × IsNeededFor all edge name
 

@@ -38,7 +38,7 @@ row_text Json row = compact_text (row_data row)
 
 -- the line of a dependency that is outdated
 abbrev pub row_line : Format → RowValue → List ℕ
-row_line format row = row_text format row ++ (10 ∷ [])
+row_line format row = row_text format row ++ codes "\n"
 
 -- the line of an outcome: only a dependency that is outdated has a line
 abbrev pub outcome_line : Format → OutcomeValue → List ℕ

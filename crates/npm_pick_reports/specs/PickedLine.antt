@@ -1,5 +1,5 @@
 -- The line of the version that is picked.
-use Rattle.std.specs.Prelude.{ℕ, List, [], ◌∷◌, ◌++◌, codes}
+use Rattle.std.specs.Prelude.{ℕ, List, ◌++◌, codes}
 use Rattle.serde_json.specs.Data.{Data, boolean, member, no_members, object, string}
 use Rattle.serde_json.specs.Written.{compact_text}
 use Rattle.npm_pick.specs.Pick.{PickedValue}
@@ -17,6 +17,6 @@ abbrev pub picked_text : Format → PickedValue → List ℕ
 picked_text Text picked = shown picked.key
 picked_text Json picked = compact_text (picked_data picked)
 
--- the same, and a newline byte
+-- the text of the version, and a newline byte
 abbrev pub picked_line : Format → PickedValue → List ℕ
-picked_line format picked = picked_text format picked ++ (10 ∷ [])
+picked_line format picked = picked_text format picked ++ codes "\n"

@@ -108,7 +108,7 @@ fn outcome_of<'v, F: Fn(&str) -> Result<Option<Value>, LoadError>>(
         return Ok(Outcome::Passed);
     };
     match load(request.name) {
-        Ok(Some(packument)) => compared(alloc, edge, &packument, request.text, options),
+        Ok(Some(packument)) => outcome_by_document(alloc, edge, &packument, request.text, options),
         Ok(None) => Ok(Outcome::Absent),
         Err(error) => Err(RunError::Load(error)),
     }
@@ -129,7 +129,7 @@ fn is_passed(edge: &Edge<'_>, all: bool) -> bool
 }
 
 /// The outcome of a dependency, by the document of its package.
-fn compared<'v>(
+fn outcome_by_document<'v>(
     alloc: Global,
     edge: Edge<'v>,
     packument: &Value,

@@ -144,13 +144,13 @@ fn pick_reply(
     match pick(alloc, packument, wanted, options) {
         Ok(picked) => Ok(Reply {
             lines: picked_line(alloc, picked, format)?,
-            done: ended(alloc, Ending::Picked),
+            done: done_without_notes(alloc, Ending::Picked),
         }),
         Err(error) => match error {
             PickError::Memory => Err(RunError::Memory),
             _ => Ok(Reply {
                 lines: Vec::new(alloc),
-                done: ended(alloc, Ending::Nothing(error)),
+                done: done_without_notes(alloc, Ending::Nothing(error)),
             }),
         },
     }
@@ -182,7 +182,7 @@ fn outdated_reply<F: Fn(&str) -> Result<Option<Value>, LoadError>>(
     };
     Ok(Reply {
         lines: outdated_lines(alloc, &outcomes, format)?,
-        done: ended(
+        done: done_without_notes(
             alloc,
             Ending::Compared(has_outdated(&outcomes), absent_count(&outcomes)),
         ),
@@ -190,7 +190,7 @@ fn outdated_reply<F: Fn(&str) -> Result<Option<Value>, LoadError>>(
 }
 
 /// An ending with no lines for standard error.
-fn ended(alloc: Global, ending: Ending) -> Done
+fn done_without_notes(alloc: Global, ending: Ending) -> Done
     ensures ending { result.ending ≡ ending }
     ensures notes { result.notes.items ≡ [] }
 {

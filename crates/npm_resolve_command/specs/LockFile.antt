@@ -15,7 +15,7 @@ use Rattle.npm_resolve_command.specs.declared.program_error.ProgramError.TheVari
 abbrev pub IsLockOf : (file : Data) → Lock → Type 0
 IsLockOf file lock = (lock_fault file ≡ None) × (get (codes "packages") file ≡ Some (packages_data lock))
 
--- the same if there is a file
+-- the packages of the lock file if there is one, and else none
 abbrev pub IsLockIn : (file : Option Data) → Option Lock → Type 0
 IsLockIn None lock = lock ≡ None
 IsLockIn (Some file) lock = (found : Lock) × (lock ≡ Some found) × IsLockOf file found

@@ -35,7 +35,7 @@ use values::{before_of, check_lock, folder_of, node_of, steps_of, version_of};
 fn main(rt: HostRuntime) -> ExitCode {
     let words = words_of(rt.alloc(), &rt);
     let outcome = match &words {
-        Ok(words) => answered(&rt, words),
+        Ok(words) => outcome_of(&rt, words),
         Err(error) => Err(ProgramError::Words(error)),
     };
     let (outcome, said) = match outcome {
@@ -64,13 +64,13 @@ fn say(rt: &HostRuntime, done: &Done) -> io::Result<()> {
 }
 
 /// Does what the arguments ask. Returns how the program ends, or `None` if only a text about it was shown.
-fn answered<'a>(rt: &HostRuntime, words: &'a [String]) -> Result<Option<Done>, ProgramError<'a>> {
+fn outcome_of<'a>(rt: &HostRuntime, words: &'a [String]) -> Result<Option<Done>, ProgramError<'a>> {
     let asked = read_arguments(words)?;
     if let Some(shown) = asked.shown {
         show(rt, shown)?;
         return Ok(None);
     }
-    let done = resolved(rt, words, asked)?;
+    let done = write_selection(rt, words, asked)?;
     Ok(Some(done))
 }
 
@@ -84,7 +84,7 @@ fn show(rt: &HostRuntime, shown: Shown) -> Result<(), RunError> {
 }
 
 /// Reads the manifests, and writes the versions that fit together for them. Documents of packages are in a folder.
-fn resolved<'a>(
+fn write_selection<'a>(
     rt: &HostRuntime,
     words: &'a [String],
     asked: Arguments<'a>,

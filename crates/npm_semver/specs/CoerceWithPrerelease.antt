@@ -4,7 +4,7 @@
 use Rattle.std.specs.Prelude.{◌≡◌, ◌⊎◌, ◌+◌, ◌-◌, ◌*◌, ◌<◌, ◌≤◌, ℕ, Bool, true, false, List, length}
 use Rattle.std.specs.Prelude.{slice_index, slice_range}
 use Rattle.semver_texts.specs.declared.TheConstants.{MAX_LENGTH}
-use Rattle.semver_texts.specs.Characters.{dot, hyphen, is_digit, is_identifier_character, plus}
+use Rattle.semver_texts.specs.Characters.{digit_zero, dot, hyphen, is_digit, is_identifier_character, plus}
 use Rattle.npm_semver.specs.Coerce.{IsPiece, IsReleaseOf}
 use Rattle.semver_texts.specs.IdentifierText.{identifiers_of}
 use Rattle.semver_texts.specs.Version.{VersionValue, release}
@@ -21,7 +21,7 @@ pub record IsRunAt (test : ℕ → Bool) (text : List ℕ) (start end : ℕ) : T
 -- digits without a zero in front: `0`, and `10` in `10a`, but nothing in `010`
 pub record IsNumericAt (text : List ℕ) (start end : ℕ) : Type 0 where
   pub digits : IsRunAt is_digit text start end
-  pub strict : slice_index text start ≡ 48 → end ≡ start + 1
+  pub strict : slice_index text start ≡ digit_zero → end ≡ start + 1
 
 -- identifier characters that are not digits only, and that do not begin with digits without a zero in front: `rc1` and
 -- `01a`, but neither `01` nor `1a`, where npm reads the identifier `1`

@@ -3,7 +3,7 @@
 -- `1.2.3a` or `1.2.3-01`.
 use Rattle.std.specs.Prelude.{◌≡◌, ℕ, ◌+◌, ◌==◌, ◌&&◌, ◌||◌, Bool, true, false, List, [], ◌∷◌, length, not}
 use Rattle.std.specs.List.{after_first, before_first, list_all, take_while}
-use Rattle.semver_texts.specs.Characters.{hyphen, is_digit, plus}
+use Rattle.semver_texts.specs.Characters.{digit_zero, hyphen, is_digit, plus}
 use Rattle.semver_versions.specs.Error.{IsRefusalAt, Kind, other}
 use Rattle.semver_versions.specs.Fault.{IsFault, with_dots}
 use Rattle.semver_texts.specs.IdentifierText.{parts_of}
@@ -17,7 +17,7 @@ use Rattle.semver_versions.specs.declared.version_ref.fault.VersionFault.{Versio
 abbrev pub has_zero_in_front : List ℕ → Bool
 has_zero_in_front [] = false
 has_zero_in_front (b ∷ []) = false
-has_zero_in_front (b ∷ c ∷ rest) = b == 48
+has_zero_in_front (b ∷ c ∷ rest) = b == digit_zero
 
 -- one or more digits, without a zero in front: `0`, `10`
 abbrev pub is_strict_number : List ℕ → Bool
@@ -77,6 +77,6 @@ abbrev pub IsStrictFaultOf : List ℕ → SemverError → Type 0
 IsStrictFaultOf text e =
     (kind : Kind) × (offset : ℕ) × IsStrictFault text kind offset × IsRefusalAt text kind offset e
 
--- the same of a fault that has no copy of the text
+-- a fault without a copy of the text is the strict fault of this text
 abbrev pub IsStrictVersionFault : List ℕ → VersionFault → Type 0
 IsStrictVersionFault text f = IsStrictFault text (fault_kind_of f.kind) f.offset

@@ -44,7 +44,7 @@ pub fn read_identifier(alloc: Global, text: &[u8]) -> Result<Option<Identifier>,
     }
 }
 
-// The same, borrowed from the text.
+// The identifier that the text writes, borrowed from it.
 fn borrowed(text: &[u8]) -> Option<IdentifierRef<'_>>
     ensures some { IfSome result (λ i. IsIdentifierText text.now
         × (borrowed_value i ≡ IdentifierText.identifier_of text.now)) }

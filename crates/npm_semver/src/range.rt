@@ -85,7 +85,7 @@ fn unread_error(alloc: Global, text: &str, options: NpmOptions, unread: Unread) 
     npm_error(alloc, text, options, unread)
 }
 
-// The same, out of line. `inline(never)`: few texts are refused.
+// The error for a text that was not read, out of line. `inline(never)`: few texts are refused.
 #[inline(never)]
 fn npm_error(alloc: Global, text: &str, options: NpmOptions, unread: Unread) -> SemverError
     requires { unread ≡ Refused → IsNpmRefused options (with_plain_spaces text.now) }

@@ -10,7 +10,7 @@
 -- follows the marks is an `IsUnmarkedPartial`, with `HasThreeParts` and `IsExtrasText`, as in the texts of `Range::parse`.
 use Rattle.std.specs.Prelude.{◌≡◌, ℕ, ◌==◌, ◌&&◌, Bool, true, false, not, List, [], ◌∷◌, ◌++◌}
 use Rattle.std.specs.List.{list_all}
-use Rattle.semver_texts.specs.Characters.{AreAll, hyphen, is_digit}
+use Rattle.semver_texts.specs.Characters.{AreAll, digit_zero, hyphen, is_digit}
 use Rattle.semver_texts.specs.IdentifierText.{parts_of}
 use Rattle.semver_sets.specs.PartialText.{IsUnmarkedPartial, Partial, one, three, two}
 use Rattle.npm_sets.specs.WordTexts.{is_mark}
@@ -19,7 +19,7 @@ use Rattle.npm_sets.specs.WordTexts.{is_mark}
 abbrev pub is_padded_number : List ℕ → Bool
 is_padded_number [] = false
 is_padded_number (b ∷ []) = false
-is_padded_number (b ∷ c ∷ rest) = (b == 48) && list_all is_digit (c ∷ rest)
+is_padded_number (b ∷ c ∷ rest) = (b == digit_zero) && list_all is_digit (c ∷ rest)
 
 -- any other text
 abbrev pub is_unpadded : List ℕ → Bool

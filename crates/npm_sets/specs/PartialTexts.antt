@@ -1,7 +1,7 @@
 -- How npm reads a partial, in strict and in loose form: npm's "Range Grammar", and SemVer 2.0.0, sections 2, 9 and 10.
 use Rattle.std.specs.Prelude.{ℕ, ◌==◌, ◌&&◌, ◌||◌, Bool, true, false, not, nat_le, if◌then◌else◌, length}
 use Rattle.std.specs.Prelude.{List, [], ◌∷◌, Option, Some, None, Result, Ok, Err}
-use Rattle.semver_texts.specs.Characters.{dot, hyphen, is_digit, is_identifier_character, is_x, plus}
+use Rattle.semver_texts.specs.Characters.{digit_zero, dot, hyphen, is_digit, is_identifier_character, is_x, plus}
 use Rattle.semver_texts.specs.Reading.{Read, ◌>>=◌, begins, missing, read_extras, read_number, rest_of}
 use Rattle.semver_texts.specs.declared.TheConstants.{MAX_LENGTH}
 use Rattle.semver_texts.specs.declared.parse.fault.Fault.{Fault}
@@ -14,7 +14,7 @@ use Rattle.npm_sets.specs.WordTexts.{is_empty, is_mark}
 -- the text begins with 0 and one more digit: `01`, `00.1`
 abbrev pub has_leading_zero : List ℕ → Bool
 has_leading_zero [] = false
-has_leading_zero (b ∷ rest) = (b == 48) && begins is_digit rest
+has_leading_zero (b ∷ rest) = (b == digit_zero) && begins is_digit rest
 
 -- the text begins with an identifier that is a number with a leading zero: `01.a`, but not `01a`
 abbrev pub is_padded : List ℕ → Bool

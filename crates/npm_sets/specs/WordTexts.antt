@@ -1,7 +1,8 @@
 -- How npm divides a range text into pieces and words: npm's "Range Grammar".
 use Rattle.std.specs.Prelude.{ℕ, ◌==◌, ◌&&◌, ◌||◌, Bool, true, false, not, nat_le, if◌then◌else◌, List, [], ◌∷◌, Option}
 use Rattle.std.specs.Prelude.{Some, None}
-use Rattle.semver_texts.specs.Characters.{bar, caret, greater_sign, hyphen, is_digit, is_x, tilde}
+use Rattle.semver_texts.specs.Characters.{bar, caret, carriage_return, equal_sign, greater_sign, hyphen, is_digit, is_x}
+use Rattle.semver_texts.specs.Characters.{less_sign, letter_v, space, tab, tilde}
 use Rattle.semver_texts.specs.Reading.{begins, rest_of}
 use Rattle.npm_sets.specs.declared.words.Ending.{Ending}
 use Rattle.npm_sets.specs.declared.words.Ending.TheVariants.{Comparison, NoOperator, Sign, TildeGreater}
@@ -10,7 +11,7 @@ use Rattle.npm_sets.specs.declared.words.Lead.TheVariants.{Above, AtLeast, AtMos
 
 -- white space: a space, a tab, a newline, a carriage return, a vertical tab or a form feed
 abbrev pub is_space : ℕ → Bool
-is_space b = (b == 32) || (nat_le 9 b && nat_le b 13)
+is_space b = (b == space) || (nat_le tab b && nat_le b carriage_return)
 
 -- every other character
 abbrev pub is_solid : ℕ → Bool
@@ -21,7 +22,7 @@ abbrev pub is_empty : List ℕ → Bool
 is_empty [] = true
 is_empty (b ∷ rest) = false
 
--- the same list with a character before its first text
+-- the list, with a character put before its first text
 abbrev pub before_first : ℕ → List (List ℕ) → List (List ℕ)
 before_first b [] = (b ∷ []) ∷ []
 before_first b (text ∷ texts) = (b ∷ text) ∷ texts
@@ -59,9 +60,9 @@ lead_with sign longer shorter (b ∷ rest) = if b == sign then (longer, rest) el
 abbrev pub lead_of : List ℕ → Lead × List ℕ
 lead_of [] = (Nothing, [])
 lead_of (b ∷ rest) =
-    if b == greater_sign then lead_with 61 AtLeast Above rest else
-    if b == 60 then lead_with 61 AtMost Below rest else
-    if b == 61 then (Equal, rest) else
+    if b == greater_sign then lead_with equal_sign AtLeast Above rest else
+    if b == less_sign then lead_with equal_sign AtMost Below rest else
+    if b == equal_sign then (Equal, rest) else
     if b == tilde then lead_with greater_sign Tilde Tilde rest else
     if b == caret then (Caret, rest) else
     (Nothing, b ∷ rest)
@@ -81,18 +82,18 @@ Word = Lead × List ℕ
 
 -- `v` or `=`, any number of which can come before a partial
 abbrev pub is_mark : ℕ → Bool
-is_mark b = (b == 118) || (b == 61)
+is_mark b = (b == letter_v) || (b == equal_sign)
 
 -- how a chunk ends, from its last two characters, of which the first may be missing
 abbrev pub ending_with : ℕ → ℕ → Ending
 ending_with before last =
     if (last == tilde) || (last == caret) then Sign else
     if (last == greater_sign) && (before == tilde) then TildeGreater else
-    if (last == greater_sign) || (last == 60) then Comparison else
-    if (last == 61) && not (is_mark before) then Comparison else
+    if (last == greater_sign) || (last == less_sign) then Comparison else
+    if (last == equal_sign) && not (is_mark before) then Comparison else
     NoOperator
 
--- the same for a text after two characters
+-- how a chunk ends that has these two characters and then the text at its end
 unfoldable pub ending_after : ℕ → ℕ → List ℕ → Ending
 ending_after before last [] = ending_with before last
 ending_after before last (b ∷ rest) = ending_after last b rest
@@ -113,8 +114,8 @@ is_joined Sign chunk = true
 
 -- a lead and the chunk after it: `>` and `=1` are `>=1`, `~` and `>1` are `~>1`
 abbrev pub lead_and : Lead → List ℕ → Word
-lead_and Above chunk = lead_with 61 AtLeast Above chunk
-lead_and Below chunk = lead_with 61 AtMost Below chunk
+lead_and Above chunk = lead_with equal_sign AtLeast Above chunk
+lead_and Below chunk = lead_with equal_sign AtMost Below chunk
 lead_and Tilde chunk = lead_with greater_sign Tilde Tilde chunk
 lead_and Nothing chunk = (Nothing, chunk)
 lead_and Equal chunk = (Equal, chunk)
@@ -125,7 +126,7 @@ lead_and Caret chunk = (Caret, chunk)
 -- `=` and nothing else
 abbrev pub is_equal_sign : List ℕ → Bool
 is_equal_sign [] = false
-is_equal_sign (b ∷ rest) = (b == 61) && is_empty rest
+is_equal_sign (b ∷ rest) = (b == equal_sign) && is_empty rest
 
 -- A word with one more chunk. A `=` after the lead has no meaning; a word with any other operator after its lead is no
 -- comparator, whatever follows

@@ -209,7 +209,7 @@ pub(crate) fn read_partial(loose: bool, text: &[u8]) -> Result<Partial, Fault>
     Ok(partial)
 }
 
-// The same for the sides of a hyphen range, and for a text that was refused. `inline(never)`: they are few.
+// The partial that a side of a hyphen range is, or an operand of a text that was refused. `inline(never)`: they are few.
 #[inline(never)]
 pub(crate) fn read_side(loose: bool, text: &[u8]) -> Result<Partial, Fault>
     ensures read { result_seen result ≡ Texts.partial_of loose text.now }

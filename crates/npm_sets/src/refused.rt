@@ -37,7 +37,7 @@ pub fn refused_offset(alloc: Global, text: &str, options: NpmOptions) -> Result<
     strict_offset(alloc, text, options)
 }
 
-// The same in strict form.
+// Returns the byte offset at which a text is refused in strict form.
 fn strict_offset(alloc: Global, text: &str, options: NpmOptions) -> Result<usize, AllocError>
     requires strict { options.loose ≡ false }
     requires refused { IsNpmRefused options (with_plain_spaces text.now) }
@@ -50,7 +50,7 @@ fn strict_offset(alloc: Global, text: &str, options: NpmOptions) -> Result<usize
     Ok(length_before(text, refused_place(plain.as_str().as_bytes(), options)))
 }
 
-// The same for a text without white space outside ASCII.
+// Returns the byte offset at which a text without white space outside ASCII is refused in strict form.
 fn refused_place(text: &[u8], options: NpmOptions) -> usize
     requires strict { options.loose ≡ false }
     requires refused { IsNpmRefused options text.now }

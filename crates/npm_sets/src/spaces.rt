@@ -39,7 +39,7 @@ fn read_other(alloc: Global, text: &str, options: NpmOptions) -> Result<Sets, Un
     read_wide(alloc, text, options)
 }
 
-// The same for a text that is not in ASCII. `inline(never)`: few are not.
+// Reads a text that is not in ASCII. `inline(never)`: few are not.
 #[inline(never)]
 fn read_wide(alloc: Global, text: &str, options: NpmOptions) -> Result<Sets, Unread>
     ensures { IsNpmAnswer options (with_plain_spaces text.now) result }

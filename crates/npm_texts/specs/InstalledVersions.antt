@@ -2,11 +2,12 @@
 use Rattle.std.specs.Prelude.{◌≡◌, ◌==◌, ◌≤◌, ◌||◌, ℕ, List, Bool, true, chars, encode_utf8_all, length, slice_index}
 use Rattle.std.specs.Char.{is_ascii_digit}
 use Rattle.node_semver.specs.Versions.{IsVersionText, MAX_LENGTH, VersionValue}
+use Rattle.semver_texts.specs.Characters.{equal_sign, letter_v}
 use Rattle.npm_texts.specs.WhiteSpace.{is_white, without_end, without_start}
 
 -- what may come before a version: `v`, `=` and white space
 abbrev pub is_lead : ℕ → Bool
-is_lead c = (c == 118) || (c == 61) || is_white c
+is_lead c = (c == letter_v) || (c == equal_sign) || is_white c
 
 -- the text without leads at its start and white space at its end: `1.2.3` of ` =v 1.2.3 `
 unfoldable pub bare : List ℕ → List ℕ

@@ -5,7 +5,7 @@ pub mod WhiteSpace  -- white space at the ends of a text
 pub mod InstalledVersions  -- what the version of an installed package is read as
 pub mod SpecGrammar  -- what a spec is: a range, an alias, or what is in no registry
 pub mod RegistrySpec  -- what a dependency asks a registry for
-pub mod RangeText  -- the same by functions
+pub mod RangeText  -- what a spec asks for, by functions
 pub mod SpecLaws  -- that they agree
 pub mod Admission  -- which versions the text of a range admits
 pub mod Truth  -- what counts as true

@@ -7,7 +7,7 @@ use Rattle.std.specs.List.{after_first, before_first, ends_with, list_all, list_
 use Rattle.std.specs.Option.{option_map_or}
 use Rattle.npm_texts.specs.Texts.{rest_after}
 pub use Rattle.npm_texts.specs.SpecGrammar.{SpecValue, in_registry, location, refused, spec_value}
-pub use Rattle.npm_texts.specs.SpecGrammar.{filled, is_any, is_at_sign, is_colon, is_slash, is_tag, is_tag_byte}
+pub use Rattle.npm_texts.specs.SpecGrammar.{at_sign, colon, filled, is_any, is_at_sign, is_colon, is_slash, is_tag, is_tag_byte}
 
 -- ---- URLs, repositories, files and folders
 
@@ -30,12 +30,12 @@ abbrev pub past_letter : (letter : ℕ) → List ℕ → Option (List ℕ)
 past_letter letter [] = None
 past_letter letter (b ∷ text) = if to_ascii_lowercase b == letter then Some text else None
 
--- the same if it is any one
+-- the text after its first byte, if that is any one but a line end
 abbrev pub past_any : List ℕ → Option (List ℕ)
 past_any [] = None
 past_any (b ∷ text) = if is_any b then Some text else None
 
--- the same for several letters, one after the other
+-- the text after these letters, one after the other, each small or capital
 abbrev pub past_letters : (letters : List ℕ) → List ℕ → Option (List ℕ)
 past_letters [] text = Some text
 past_letters (letter ∷ letters) text = option_and_then (past_letters letters) (past_letter letter text)
@@ -86,7 +86,7 @@ unscoped_name target = if position_or_len is_at_sign target == length target
 
 -- the name of a target: `a` of `a@^1`, `@s/a` of `@s/a@^1`, and none of `^1`
 abbrev pub target_name : (target : List ℕ) → Option (List ℕ)
-target_name target = option_map_or (λ scoped. Some (64 ∷ before_first is_at_sign scoped)) (rest_after (codes "@") target)
+target_name target = option_map_or (λ scoped. Some (at_sign ∷ before_first is_at_sign scoped)) (rest_after (codes "@") target)
     (unscoped_name target)
 
 -- ---- aliases
@@ -96,10 +96,29 @@ abbrev pub past_either : (byte other : ℕ) → List ℕ → Option (List ℕ)
 past_either byte other [] = None
 past_either byte other (b ∷ text) = if (b == byte) || (b == other) then Some text else None
 
+-- the letters of `npm:`, small and capital
+abbrev pub letter_n : ℕ
+letter_n = 110
+
+abbrev pub capital_n : ℕ
+capital_n = 78
+
+abbrev pub letter_p : ℕ
+letter_p = 112
+
+abbrev pub capital_p : ℕ
+capital_p = 80
+
+abbrev pub letter_m : ℕ
+letter_m = 109
+
+abbrev pub capital_m : ℕ
+capital_m = 77
+
 -- the target of an alias
 abbrev pub alias_target : (spec : List ℕ) → Option (List ℕ)
-alias_target spec = option_and_then (past_either 58 58) (option_and_then (past_either 109 77)
-    (option_and_then (past_either 112 80) (past_either 110 78 spec)))
+alias_target spec = option_and_then (past_either colon colon) (option_and_then (past_either letter_m capital_m)
+    (option_and_then (past_either letter_p capital_p) (past_either letter_n capital_n spec)))
 
 -- the name of the package that a spec is an alias of: `IsAliasOf` of the grammar
 abbrev pub aliased_name : (spec : List ℕ) → Option (List ℕ)

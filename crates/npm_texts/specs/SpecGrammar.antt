@@ -12,7 +12,9 @@ use Rattle.std.specs.Prelude.{◌≡◌, ◌≢◌, ◌==◌, ◌||◌, ◌⊎�
 use Rattle.std.specs.Prelude.{◌&&◌, codes, map, nat_lt, not}
 use Rattle.std.specs.Char.{is_ascii_alphabetic, is_ascii_alphanumeric, to_ascii_lowercase}
 use Rattle.std.specs.List.{list_all, list_any}
+use Rattle.std.specs.Path.{slash}
 use Rattle.std.specs.Str.{trim}
+use Rattle.semver_texts.specs.Characters.{carriage_return, newline}
 use Rattle.npm_texts.specs.declared.spec.Spec.{Spec}
 use Rattle.npm_texts.specs.declared.spec.Spec.TheVariants as Specs
 
@@ -30,14 +32,22 @@ spec_value Specs.Refused = refused
 
 -- ---- bytes
 
+-- before a scope, and between a name and its range
+abbrev pub at_sign : ℕ
+at_sign = 64
+
+-- after the scheme of a URL, and after the `npm` of an alias
+abbrev pub colon : ℕ
+colon = 58
+
 abbrev pub is_at_sign : ℕ → Bool
-is_at_sign b = b == 64
+is_at_sign b = b == at_sign
 
 abbrev pub is_colon : ℕ → Bool
-is_colon b = b == 58
+is_colon b = b == colon
 
 abbrev pub is_slash : ℕ → Bool
-is_slash b = b == 47
+is_slash b = b == slash
 
 -- letters, digits and `-_.!~*'()`, of which tags and names are made
 abbrev pub is_tag_byte : ℕ → Bool
@@ -65,7 +75,7 @@ pub data IsScheme (text : List ℕ) : Type 0 where
 
 -- what does for the second dot of `.tar.gz`: any character of ASCII that ends no line
 abbrev pub is_any : ℕ → Bool
-is_any b = nat_lt b 128 && not (b == 10) && not (b == 13)
+is_any b = nat_lt b 128 && not (b == newline) && not (b == carriage_return)
 
 -- the end of the name of an archive: `.tgz`, `.tar`, and `.tar.gz`, as in `.TGZ` and `.tar-gz`
 pub data IsArchiveEnd (end : List ℕ) : Type 0 where

@@ -235,7 +235,7 @@ pub(crate) fn truth(found: bool, agrees: bool) -> Answer {
     }
 }
 
-/// The same of an order.
+/// An order, if the other forms of the call give it too.
 pub(crate) fn order(order: Ordering, agrees: bool) -> Answer {
     if agrees {
         Answer::Order(order)

@@ -22,7 +22,7 @@ fn versions_compare(v: &Version, w: &Version, wanted: Ordering) -> bool {
         && (hash_of(v) == hash_of(w)) == wanted.is_eq()
 }
 
-/// The same for versions that borrow these texts, if both are read, and for `v` and one that does.
+/// Whether these calls agree for versions that borrow these texts, if both are read, and for `v` and one that does.
 fn borrowed_compare(v: &Version, text: &str, other: &str, wanted: Ordering) -> bool {
     match (&VersionRef::parse(text), &VersionRef::parse(other)) {
         (Ok(one), Ok(two)) => {

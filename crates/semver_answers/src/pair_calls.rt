@@ -169,13 +169,13 @@ impl Admitting {
         match self.call {
             AdmittingCall::Satisfies => satisfies(&self.range, &self.version, self.text.as_str()),
             AdmittingCall::Contains => contains(&self.range, &self.version, self.text.as_str()),
-            AdmittingCall::ReadAnew => asked(alloc, self.range_text.as_str(), &self.version),
+            AdmittingCall::ReadAnew => satisfies_text(alloc, self.range_text.as_str(), &self.version),
         }
     }
 }
 
 /// Whether a version satisfies the range of a text.
-fn asked(alloc: Global, text: &str, version: &Version) -> Answer {
+fn satisfies_text(alloc: Global, text: &str, version: &Version) -> Answer {
     match Range::parse(alloc, text) {
         Ok(range) => Answer::Truth(range.satisfies(version)),
         Err(error) => answer::refusal(error, text),

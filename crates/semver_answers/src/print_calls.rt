@@ -44,7 +44,7 @@ pub(crate) fn printed_of(
     }))
 }
 
-/// The same of calls on two values.
+/// The call on two values with this name, or nothing.
 fn compared_of(alloc: Global, name: &str, words: &[String]) -> Result<Option<Printed>, CallError> {
     let (one, other) = (word_at(words, 0), word_at(words, 1));
     Ok(Some(match name {

@@ -36,13 +36,13 @@ fn is_listed(range: &Range, version: &Version, wanted: bool) -> bool {
         && all.min_satisfying(list).is_some() == wanted
 }
 
-/// The same for the triple of a release.
+/// Whether the triple of a release satisfies the range exactly if the version does.
 fn is_of_triple(range: &Range, version: &Version, wanted: bool) -> bool {
     let triple = Triple::new(version.major, version.minor, version.patch);
     version.is_prerelease() || range.satisfies(&triple) == wanted
 }
 
-/// The same for the version that borrows this text, if it is read.
+/// Whether the version that borrows this text satisfies the range exactly if the other does, if it is read.
 fn is_of_borrowed(range: &Range, text: &str, wanted: bool) -> bool {
     match &VersionRef::parse(text) {
         Ok(version) => { range.satisfies(version) == wanted && version.satisfies(range) == wanted }
@@ -75,7 +75,7 @@ fn is_contained<V: AsVersion>(range: &Range, version: &V, wanted: bool) -> bool 
     range.contains(version) == wanted && counted == wanted && agrees
 }
 
-/// The same by the range with prereleases included.
+/// Whether the calls on the range with prereleases included agree.
 fn is_included(range: &Range, version: &Version, wanted: bool) -> bool {
     let included = range.with_prereleases();
     let list = std::slice::from_ref(version);

@@ -3,8 +3,9 @@ use Rattle.std.proofs.Common.{◌≡◌, ℕ, ◌+◌, ◌-◌, ◌<◌, ◌≤�
 use Rattle.std.proofs.Common.{ap, arith, length-drop, refl, subst, sym, if◌then◌else◌}
 use Rattle.std.proofs.lemmas.Bool.Decides.{nat_tests}
 use Rattle.std.specs.List.{after_first, before_first, position_or_len}
+use Rattle.command_lines.specs.Arguments.{is_equals}
 use Rattle.npm_semver.specs.declared.bump.Bump.{Bump}
-use Rattle.semver_command.specs.Arguments.{ArgumentValue, AreArguments, Parted, Step, first_step, has_equals, is_equals}
+use Rattle.semver_command.specs.Arguments.{ArgumentValue, AreArguments, Parted, Step, first_step, has_equals}
 use Rattle.semver_command.specs.Arguments.{leveled, more, named, none, parted, step_of}
 use Rattle.semver_command.specs.Asked.{AskedValue, IsAskedAfter, asked_after, with_argument}
 use Rattle.semver_command.specs.Names.{level_of, name_of}

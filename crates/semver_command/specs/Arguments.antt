@@ -1,8 +1,9 @@
 -- The arguments of the command line, one after the other, as npm's command reads them.
-use Rattle.std.specs.Prelude.{◌==◌, ℕ, List, [], ◌∷◌, Bool, if◌then◌else◌, length, map, nat_lt, option_map, Option, Some}
+use Rattle.std.specs.Prelude.{ℕ, List, [], ◌∷◌, Bool, if◌then◌else◌, length, map, nat_lt, option_map, Option, Some}
 use Rattle.std.specs.Prelude.{None, string_bytes}
 use Rattle.std.specs.List.{after_first, before_first, position_or_len}
 use denote.Ref.{Bor}
+use Rattle.command_lines.specs.Arguments.{is_equals}
 use Rattle.npm_semver.specs.declared.bump.Bump.{Bump}
 use Rattle.npm_semver.specs.declared.bump.Bump.TheVariants as Bumps
 use Rattle.semver_command.specs.Names.{level_of, name_of}
@@ -27,9 +28,6 @@ pub record Step : Type 0 where
   pub rest : List (List ℕ)
 
 -- ---- the first argument of the words
-
-abbrev pub is_equals : (byte : ℕ) → Bool
-is_equals byte = byte == 61
 
 abbrev pub has_equals : (word : List ℕ) → Bool
 has_equals word = nat_lt (position_or_len is_equals word) (length word)

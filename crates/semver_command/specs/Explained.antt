@@ -70,7 +70,8 @@ first_failure Endings.Misused later = Endings.Misused
 first_failure Endings.Refused later = Endings.Refused
 first_failure Endings.Unexplained later = Endings.Unexplained
 
--- the same for ranges, in their order; the first one that is refused or missing decides how the program ends
+-- what is written and said for range texts, in their order; the first one that is refused or missing decides how the
+-- program ends
 pub data AreExplained (options : NpmOptions) : (texts : List (Option (List ℕ))) → (written said : List ℕ) → Ending
     → Type 0 where
   none : AreExplained options [] [] [] Endings.Written

@@ -2,18 +2,19 @@
 use Rattle.std.specs.Prelude.{◌≡◌, ◌≢◌, ℕ, List, [], ◌∷◌, ◌++◌, Option, IfSome, not, codes}
 use Rattle.std.specs.List.{All, filter}
 use Rattle.std.specs.Str.{bytes_eq}
+use Rattle.semver_texts.specs.Characters.{newline}
 
 -- ---- lines
 
 abbrev pub HasNoNewline : (line : List ℕ) → Type 0
-HasNoNewline line = All (λ byte. byte ≢ 10) line
+HasNoNewline line = All (λ byte. byte ≢ newline) line
 
 -- The lines of the input. Each ends with a newline byte, which is no part of it. The last one may lack it.
 pub data AreLines : (input : List ℕ) → List (List ℕ) → Type 0 where
   none : AreLines [] []
   last : (line : List ℕ) → line ≢ [] → HasNoNewline line → AreLines line (line ∷ [])
   ended : (line input : List ℕ) (others : List (List ℕ)) → HasNoNewline line → AreLines input others
-      → AreLines (line ++ (10 ∷ input)) (line ∷ others)
+      → AreLines (line ++ (newline ∷ input)) (line ∷ others)
 
 -- the input is all that was left to read, where that is known
 abbrev pub IsWhole : (remaining : Option (List ℕ)) → (input : List ℕ) → Type 0

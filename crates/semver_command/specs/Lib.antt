@@ -19,7 +19,7 @@ pub mod Opened  -- which prereleases satisfy a set
 pub mod RefusedText  -- a text that is refused, with a mark at its fault
 pub mod Explained  -- the sets of ranges
 -- The program.
-pub mod Reply  -- the same for the words of the command line and for standard input
+pub mod Reply  -- what is written for the words of the command line and for standard input
 pub mod Status  -- the exit status
 -- ---- not part of any public contract: what private functions compute
 pub mod Private

@@ -9,7 +9,7 @@ abbrev pub in_direction : {V : Type 0} → (is_reverse : Bool) → List V → Li
 in_direction false versions = versions
 in_direction true versions = reverse versions
 
--- the same versions, in ascending order of precedence, or in descending order
+-- what is written is all of the versions, in ascending order of precedence or in descending order
 pub record AreInOrder (is_reverse : Bool) (versions written : List VersionValue) : Type 0 where
   pub ascending : List VersionValue
   pub same : IsPermutation versions ascending

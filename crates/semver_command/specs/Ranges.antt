@@ -23,7 +23,7 @@ abbrev pub IsIn : (include_prerelease : Bool) → Option (List (Ends VersionValu
 IsIn include_prerelease None v = ⊥
 IsIn include_prerelease (Some sets) v = NpmSetsAdmit include_prerelease sets v
 
--- the same for each of the ranges
+-- the version is in each of the ranges
 abbrev pub IsInAll : (include_prerelease : Bool) → List (Option (List (Ends VersionValue))) → VersionValue → Type 0
 IsInAll include_prerelease ranges v = AllByRecursion (λ range. IsIn include_prerelease range v) ranges
 

@@ -6,13 +6,14 @@ use Rattle.npm_semver.specs.CoerceWithPrerelease.{IsCoercedWithPrerelease}
 use Rattle.npm_semver.specs.StrictVersionText.{IsStrictVersionText}
 use Rattle.node_semver.specs.Versions.{MAX_LENGTH, VersionValue}
 use Rattle.npm_texts.specs.WhiteSpace.{is_white, without_end, without_start}
+use Rattle.semver_texts.specs.Characters.{letter_v}
 use Rattle.semver_texts.specs.Version.{without_build}
 use Rattle.semver_command.specs.declared.asked.Options.{Options}
 
 -- the characters without a `v` before the others
 abbrev pub without_mark : List ℕ → List ℕ
 without_mark [] = []
-without_mark (c ∷ cs) = if c == 118 then cs else c ∷ cs
+without_mark (c ∷ cs) = if c == letter_v then cs else c ∷ cs
 
 -- the text without white space at its ends, and without a `v` before the rest: `1.2.3` of ` v1.2.3 `
 unfoldable pub bare : List ℕ → List ℕ

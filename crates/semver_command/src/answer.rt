@@ -12,7 +12,7 @@ ghost use Rattle.node_semver.specs.Versions.{VersionValue};
 use crate::asked::{Asked, Listing, Options};
 use crate::command_error::CommandError;
 use crate::ending::Ending;
-use crate::gathered::gathered;
+use crate::gathered::gather;
 use crate::increment::{incremented, write_incremented};
 use crate::kept::Kept;
 use crate::lines::{ending_of, put_in_order, write_list};
@@ -42,8 +42,8 @@ pub fn answer<R: Read, W: Write>(
         (reader_remaining R.remaining reader.old) (reader_remaining R.remaining reader.new) }
 {
     match asked.increment {
-        Some(bump) => raised(alloc, asked, bump, reader, writer),
-        None => Ok(listed(alloc, asked, reader, writer)?),
+        Some(bump) => answer_increment(alloc, asked, bump, reader, writer),
+        None => Ok(answer_list(alloc, asked, reader, writer)?),
     }
 }
 
@@ -57,8 +57,8 @@ pub fn npm_options(options: Options) -> NpmOptions
     }
 }
 
-/// The same without an increment.
-fn listed<R: Read, W: Write>(
+/// Writes the output of a request without an increment.
+fn answer_list<R: Read, W: Write>(
     alloc: Global,
     asked: &Asked<'_>,
     reader: &mut BufReader<R>,
@@ -71,7 +71,7 @@ fn listed<R: Read, W: Write>(
     let options = asked.options;
     let ranges = ranges_of(alloc, &asked.ranges, npm_options(options))?;
     let listing = options.listing;
-    let kept = gathered(
+    let kept = gather(
         alloc,
         &asked.versions,
         options,
@@ -108,8 +108,8 @@ fn write_kept<W: Write>(
     }
 }
 
-/// The same with an increment.
-fn raised<R: Read, W: Write>(
+/// Writes the output of a request with an increment.
+fn answer_increment<R: Read, W: Write>(
     alloc: Global,
     asked: &Asked<'_>,
     bump: Bump,
@@ -148,7 +148,7 @@ fn all_versions<R: Read, W: Write>(
         (reader_remaining R.remaining reader.new) versions.items (W.contents writer.old) (W.contents writer.new)) }
 {
     let words = &asked.versions;
-    let kept = gathered(
+    let kept = gather(
         alloc,
         words,
         asked.options,

@@ -138,7 +138,7 @@ impl<'a> Asked<'a> {
         Ok(())
     }
 
-    /// The same of an option with its value.
+    /// Adds an option with its value to the request.
     fn set(&mut self, setting: Setting, text: Option<&'a str>) -> Result<(), AllocError>
         ensures { OnOk result (asked_value self.new
             ≡ AskedRules.with_setting (asked_value self.old) setting (text_value text.entry)) }

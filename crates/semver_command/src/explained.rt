@@ -76,7 +76,7 @@ fn first_failure(ending: Ending, later: Ending) -> Ending
     }
 }
 
-/// The same for one text.
+/// Writes the sets of the range of one text, or why the text is refused.
 fn explain_text<W: Write, E: Write>(
     alloc: Global,
     text: Option<&str>,
@@ -93,7 +93,7 @@ fn explain_text<W: Write, E: Write>(
     }
 }
 
-/// The same for a text that is there.
+/// Writes the sets of the range of a text that is there, or why the text is refused.
 fn explain_given<W: Write, E: Write>(
     alloc: Global,
     text: &str,

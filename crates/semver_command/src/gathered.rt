@@ -18,7 +18,7 @@ use std::alloc::Global;
 use std::io::{BufReader, Read, Write};
 
 /// Reads the versions of all texts that lie in all ranges, and returns those that are kept.
-pub fn gathered<R: Read, W: Write>(
+pub fn gather<R: Read, W: Write>(
     alloc: Global,
     words: &[&str],
     options: Options,

@@ -29,14 +29,14 @@ pub fn incremented(
     match inc(alloc, version, bump, given.as_ref(), base) {
         Ok(bumped) => Ok(Some(bumped)),
         Err(error) => {
-            refused(error)?;
+            stop_without_memory(error)?;
             Ok(None)
         }
     }
 }
 
 /// Fails if an increment was not made since an allocation failed.
-fn refused(error: BumpError) -> Result<(), Stopped>
+fn stop_without_memory(error: BumpError) -> Result<(), Stopped>
     ensures refused { IfOk result (λ _. error ≢ BumpError.OutOfMemory) }
     ensures errors { IfErr result (λ e. e ≡ Stopped.Memory) }
 {

@@ -43,7 +43,7 @@ const ROOM: usize = 65536;
 
 /// Ends with the status of `status_of`.
 fn main(rt: HostRuntime) -> ExitCode {
-    let outcome = replied(&rt);
+    let outcome = outcome_of(&rt);
     let said = match &outcome {
         Ok(Ending::Misused) => {
             eprintln!(rt; "--inc can only be used on a single version with no range")
@@ -58,7 +58,7 @@ fn main(rt: HostRuntime) -> ExitCode {
 }
 
 /// Replies to the words of the command line and to standard input.
-fn replied(rt: &HostRuntime) -> Result<Ending, CommandError> {
+fn outcome_of(rt: &HostRuntime) -> Result<Ending, CommandError> {
     let words = words_of(rt.alloc(), rt)?;
     let reader = BufReader::with_capacity(rt.alloc(), ROOM, rt.stdin());
     let writer = BufWriter::with_capacity(rt.alloc(), ROOM, rt.stdout());

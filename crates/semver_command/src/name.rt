@@ -82,7 +82,7 @@ fn flag_of(word: &str) -> Option<Flag>
     }
 }
 
-/// The same of those that are not about reading.
+/// The flag of a word, of the flags that are not about reading.
 fn other_flag_of(word: &str) -> Option<Flag>
     ensures { result ≡ Names.other_flag_of word.now }
 {
@@ -95,7 +95,7 @@ fn other_flag_of(word: &str) -> Option<Flag>
     }
 }
 
-/// The same of those that npm's command lacks.
+/// The flag of a word, of the flags that npm's command lacks.
 fn listing_flag_of(word: &str) -> Option<Flag>
     ensures { result ≡ Names.listing_flag_of word.now }
 {
@@ -131,7 +131,7 @@ pub fn level_of(word: &str) -> Option<Bump>
     }
 }
 
-/// The same of the levels that begin a prerelease.
+/// The level of a word, of the levels that begin a prerelease.
 fn pre_level_of(word: &str) -> Option<Bump>
     ensures { result ≡ Names.pre_level_of word.now }
 {

@@ -47,7 +47,7 @@ fn in_order(below: Option<Version>, above: Option<Version>) -> Opened
     }
 }
 
-/// The same of two.
+/// The two releases in ascending order, or one if they are equal.
 fn both_in_order(one: Version, other: Version) -> Opened
     ensures { AreBoth one other (releases_of result) }
 {
@@ -73,7 +73,7 @@ fn opened_by(
     }
 }
 
-/// The same for the version.
+/// The release that the version is a prerelease of, if a prerelease with this triple satisfies the range.
 fn opened_at(alloc: Global, range: &Range, version: &Version) -> Result<Option<Version>, AllocError>
     requires { IsRangeEnd version.now }
     ensures { IfOk result (IsFound range.now (Opens (Before version.now))) }

@@ -56,7 +56,7 @@ pub fn is_in_all(ranges: &[Option<Range>], version: &Version, include_prerelease
     true
 }
 
-/// The same for one range.
+/// Returns `true` if the version satisfies the range, or with prereleases included lies inside one of its sets.
 fn is_in(range: Option<&Range>, version: &Version, include_prerelease: bool) -> bool
     ensures { IsTrue result ↔ IsIn include_prerelease (range_value range.entry) version.now }
 {

@@ -61,7 +61,7 @@ pub fn run<R: Read, W: Write, E: Write>(
     Ok(ending)
 }
 
-/// The same, with what may still be in the writer's buffer.
+/// Replies, with what may still be in the writer's buffer.
 fn reply<R: Read, W: Write, E: Write>(
     alloc: Global,
     words: &[String],

@@ -37,7 +37,7 @@ pub record AreSameEnds {T : Type 0} (cmp : T → T → Ordering) (one other : En
   pub lower : cut_cmp cmp one.lower other.lower ≡ Equal
   pub upper : cut_cmp cmp one.upper other.upper ≡ Equal
 
--- the same as a test that a program can run: what `==` returns
+-- `true` if two spans have equal lower ends and equal upper ends: what `==` returns
 abbrev pub are_same_ends : {T : Type 0} → (T → T → Ordering) → Ends T → Ends T → Bool
 are_same_ends {T} cmp = eq_of_both (on (λ (span : Ends T). span.lower) (eq_by_cmp (cut_cmp cmp)))
     (on (λ (span : Ends T). span.upper) (eq_by_cmp (cut_cmp cmp)))

@@ -27,7 +27,7 @@ pub mod Difference
 pub mod Sharing
 -- the spans that a list is joined to
 pub mod Joined
--- the same as places in the list
+-- the places in the list of the spans that it is joined to
 pub mod Places
 -- the number of spans that a list is joined to
 pub mod Starts

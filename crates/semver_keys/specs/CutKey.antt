@@ -5,8 +5,8 @@ use Rattle.semver_cuts.specs.declared.cut.Cut.TheVariants.{Start, Before, After,
 use Rattle.semver_texts.specs.Version.{VersionValue}
 use Rattle.semver_keys.specs.VersionKey.{HasWords, version_key}
 
--- no byte, the key of the version, the same and 0, and 255. No key begins another, so no version's key lies between a
--- version's key and the same with 0
+-- no byte, the key of the version, that key with 0 after it, and 255. No key begins another, so no version's key lies
+-- between a version's key and that key with 0
 unfoldable pub cut_key : Cut VersionValue → List ℕ
 cut_key Start = []
 cut_key (Before v) = version_key v

@@ -23,7 +23,7 @@ pub(crate) fn add_number(key: &mut Vec<u8>, n: u64) -> Result<(), AllocError>
     }
 }
 
-// The same for a number that is not one byte. `inline(never)`: few numbers are so large.
+// Appends the key of a number that is not one byte. `inline(never)`: few numbers are so large.
 #[inline(never)]
 #[tactic(auto, using(crate::proofs::NumberRules::bytes_rules))]
 fn add_long_number(key: &mut Vec<u8>, n: u64) -> Result<(), AllocError>

@@ -123,7 +123,7 @@ fn short_release<V: HasKey>(version: &V) -> Option<[u8; 4]>
     ])
 }
 
-// The same for every version. `inline(never)`: few versions need it.
+// Appends the key of any version. `inline(never)`: few versions need it.
 #[inline(never)]
 #[tactic(auto, using(crate::proofs::VersionSteps::version_rules))]
 fn add_long_key<V: HasKey>(key: &mut Vec<u8>, version: &V) -> Result<(), AllocError>

@@ -12,7 +12,7 @@ use Rattle.semver_texts.specs.Version.{VersionValue}
 use Rattle.semver_texts.specs.VersionText.{IsVersionText}
 use Rattle.semver_sets.proofs.Ranges.Decisions.{Decided, admits_or_not, refused_or_not}
 use Rattle.semver_versions.specs.Lemmas.Public.{one_reading, read_or_faulty, version-no_fault}
-use Rattle.semver_versions.specs.ErrorLocation.{newline}
+use Rattle.semver_texts.specs.Characters.{newline}
 
 -- ---- a line is bad or good, and not both
 

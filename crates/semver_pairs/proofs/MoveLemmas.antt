@@ -8,8 +8,8 @@ use Rattle.semver_pairs.specs.declared.open_pair.OpenPair.{OpenPair}
 use Rattle.semver_pairs.specs.GaugeValue.{GaugeValue}
 use Rattle.semver_pairs.specs.Output.{AreAnswers}
 use Rattle.semver_pairs.specs.Pairs.{Pair, both, pairs_read}
-use Rattle.semver_pairs.specs.Private.Answering.{AnswersAll, AnswersOne, AnswersOneSome, AnswersPast, AnswersRange}
-use Rattle.semver_pairs.specs.Private.Answering.{AnswersRangeSome, AnswersSome, AnswersUpTo, IsAnswerLine, Moves}
+use Rattle.semver_pairs.specs.Private.Answering.{AnswersAll, AnswersOne, AnswersOneInPart, AnswersPast, AnswersRange}
+use Rattle.semver_pairs.specs.Private.Answering.{AnswersRangeInPart, AnswersInPart, AnswersUpTo, IsAnswerLine, Moves}
 use Rattle.semver_pairs.specs.Private.OpenPair.{IsOpen, open_bytes}
 use Rattle.semver_pairs.specs.Private.Splitting.{BeginsWithPair}
 use Rattle.semver_pairs.proofs.OutputLemmas.{moves-all, moves-hold, moves-none, moves-part, moves-trans}
@@ -54,7 +54,7 @@ so_far_end {line = line} so_far answer moves = record {
 pub so_far_part : {range version_first bytes_first version bytes line : List ℕ} {old now new : Option (List ℕ)}
     {waiting held : List ℕ} → VersionsSoFar range version_first bytes_first version bytes old now waiting held
     → IsAnswerLine (strip_carriage_return range) version line → (left : List ℕ) × Moves now new held line left
-    → AnswersRangeSome range version_first bytes_first old new waiting
+    → AnswersRangeInPart range version_first bytes_first old new waiting
 so_far_part {bytes = bytes} so_far answer part = record {
   rest = bytes;
   left = part.0;
@@ -64,7 +64,7 @@ so_far_part {bytes = bytes} so_far answer part = record {
 -- memory was refused
 pub so_far_stop : {range version_first bytes_first version bytes : List ℕ} {old now : Option (List ℕ)}
     {waiting held : List ℕ} → VersionsSoFar range version_first bytes_first version bytes old now waiting held
-    → AnswersRangeSome range version_first bytes_first old now waiting
+    → AnswersRangeInPart range version_first bytes_first old now waiting
 so_far_stop {range = range} {version = version} {bytes = bytes} {held = held} so_far =
     let some = answer_line-exists (strip_carriage_return range) version in record {
       rest = bytes;
@@ -74,7 +74,7 @@ so_far_stop {range = range} {version = version} {bytes = bytes} {held = held} so
 
 -- memory was refused for the range itself
 pub range_stop : {range version bytes : List ℕ} {contents : Option (List ℕ)} {waiting : List ℕ}
-    → AnswersRangeSome range version bytes contents contents waiting
+    → AnswersRangeInPart range version bytes contents contents waiting
 range_stop = so_far_stop so_far_none
 
 -- ---- pairs one after the other
@@ -108,7 +108,7 @@ past_more past begins answers = past_trans past (past_pair begins answers)
 
 pub past_part : {bytes here range version mid : List ℕ} {old now new : Option (List ℕ)} {waiting held : List ℕ}
     → AnswersPast bytes here old now waiting held → BeginsWithPair here range version mid
-    → AnswersRangeSome range version mid now new held → AnswersSome bytes old new waiting
+    → AnswersRangeInPart range version mid now new held → AnswersInPart bytes old new waiting
 past_part past begins some = record { rest = some.rest; left = some.left; past = past_more past begins some.past }
 
 -- ---- the open pair
@@ -119,7 +119,7 @@ pub one-from : {range version rest : List ℕ} {old new : Option (List ℕ)} {wa
 one-from answers = record { line = answers.added; answer = from-nothing answers.answers; moves = answers.moves }
 
 pub one-part : {range version : List ℕ} {old new : Option (List ℕ)} {waiting : List ℕ}
-    → AnswersRangeSome range version [] old new waiting → AnswersOneSome range version old new waiting
+    → AnswersRangeInPart range version [] old new waiting → AnswersOneInPart range version old new waiting
 one-part some = record { left = some.left; one = one-from some.past }
 
 pub open_whole : {bytes range version rest : List ℕ} {old new : Option (List ℕ)} {waiting left : List ℕ}
@@ -132,13 +132,13 @@ open_whole begins one = record {
 }
 
 pub open_part : {bytes range version rest : List ℕ} {old new : Option (List ℕ)} {waiting : List ℕ}
-    → BeginsWithPair bytes range version rest → AnswersOneSome range version old new waiting
-    → AnswersSome bytes old new waiting
+    → BeginsWithPair bytes range version rest → AnswersOneInPart range version old new waiting
+    → AnswersInPart bytes old new waiting
 open_part {rest = rest} begins some = record { rest = rest; left = some.left; past = open_whole begins some.one }
 
 -- memory was refused
 pub past_stop : {bytes : List ℕ} {contents : Option (List ℕ)} {waiting : List ℕ}
-    → AnswersSome bytes contents contents waiting
+    → AnswersInPart bytes contents contents waiting
 past_stop {bytes = bytes} {waiting = waiting} = record { rest = bytes; left = waiting; past = past_none }
 
 -- nothing of a pair was read before
@@ -166,18 +166,18 @@ piece_all before pairs put = past_written (past_trans before pairs) put
 -- memory was refused once all was written
 pub piece_stop : {bytes mid rest : List ℕ} {old first second new : Option (List ℕ)} {held waiting : List ℕ}
     → AnswersPast bytes mid old first [] held → AnswersPast mid rest first second held waiting
-    → Appends second new waiting → AnswersSome bytes old new []
+    → Appends second new waiting → AnswersInPart bytes old new []
 piece_stop {rest = rest} before pairs put = record { rest = rest; left = []; past = piece_all before pairs put }
 
 -- the pairs stopped
 pub piece_pairs : {bytes mid : List ℕ} {old first new : Option (List ℕ)} {held : List ℕ}
-    → AnswersPast bytes mid old first [] held → AnswersSome mid first new held → AnswersSome bytes old new []
+    → AnswersPast bytes mid old first [] held → AnswersInPart mid first new held → AnswersInPart bytes old new []
 piece_pairs before some = record { rest = some.rest; left = some.left; past = past_trans before some.past }
 
 -- the last write stopped
 pub piece_part : {bytes mid rest : List ℕ} {old first second new : Option (List ℕ)} {held waiting : List ℕ}
     → AnswersPast bytes mid old first [] held → AnswersPast mid rest first second held waiting
-    → (count : ℕ) × Appends second new (take count waiting) → AnswersSome bytes old new []
+    → (count : ℕ) × Appends second new (take count waiting) → AnswersInPart bytes old new []
 piece_part {rest = rest} {waiting = waiting} before pairs part = record {
   rest = rest;
   left = drop part.0 waiting ++ [];

@@ -5,11 +5,11 @@ use Rattle.std.proofs.Common.{refl, subst, sym, ◌∙◌, append-nil, arith, le
 use Rattle.std.specs.Io.KnownBytes.{Appends, Consumes, Keeps}
 use Rattle.std.proofs.KnownBytes.{Consumes-kept, Consumes-nil, Consumes-trans}
 use Rattle.std.specs.Str.Lines.{strip_carriage_return}
-use Rattle.semver_versions.specs.ErrorLocation.{newline}
+use Rattle.semver_texts.specs.Characters.{newline}
 use Rattle.semver_pairs.specs.declared.open_pair.OpenPair.{OpenPair}
 use Rattle.semver_pairs.specs.Output.{AreAnswers, Exchanges, IsOutput, IsOutputBeforeEnd, IsOutputPrefix}
 use Rattle.semver_pairs.specs.Pairs.{Pair, lone, pairs_read}
-use Rattle.semver_pairs.specs.Private.Answering.{AnswersAll, AnswersAllSome, AnswersOneSome, AnswersPast, AnswersSome}
+use Rattle.semver_pairs.specs.Private.Answering.{AnswersAll, AnswersAllInPart, AnswersOneInPart, AnswersPast, AnswersInPart}
 use Rattle.semver_pairs.specs.Private.Answering.{Moves}
 use Rattle.semver_pairs.specs.Private.OpenPair.{IsOpen, open_bytes}
 use Rattle.semver_pairs.specs.Private.Splitting.{HasNoNewline}
@@ -60,13 +60,13 @@ last_lone lines some alone moves =
 
 pub last_lone_part : {pair : OpenPair} {old new : Option (List ℕ)} → IsOpen pair → open_bytes pair ≢ []
     → ¬ ((pair.is_range_ended ≡ true) × (pair.version.items ≢ []))
-    → (left : List ℕ) × Moves old new [] (codes "missing version\n") left → AnswersAllSome (open_bytes pair) old new []
+    → (left : List ℕ) × Moves old new [] (codes "missing version\n") left → AnswersAllInPart (open_bytes pair) old new []
 last_lone_part lines some alone part = record { left = part.0; all = last_lone lines some alone part.1 }
 
 pub last_pair_part : {pair : OpenPair} {old new : Option (List ℕ)} {waiting : List ℕ} → IsOpen pair
     → (pair.is_range_ended ≡ true) × (pair.version.items ≢ [])
-    → AnswersOneSome pair.range.items pair.version.items old new waiting
-    → AnswersAllSome (open_bytes pair) old new waiting
+    → AnswersOneInPart pair.range.items pair.version.items old new waiting
+    → AnswersAllInPart (open_bytes pair) old new waiting
 last_pair_part lines whole some = record { left = some.left; all = last_pair lines whole.0 whole.1 some.one }
 
 pub last_written : {bytes : List ℕ} {old now new : Option (List ℕ)} {waiting : List ℕ}
@@ -79,7 +79,7 @@ last_written {bytes = bytes} all put = record {
 
 pub last_written_part : {bytes : List ℕ} {old now new : Option (List ℕ)} {waiting : List ℕ}
     → AnswersAll bytes old now [] waiting → (count : ℕ) × Appends now new (take count waiting)
-    → AnswersAllSome bytes old new []
+    → AnswersAllInPart bytes old new []
 last_written_part {bytes = bytes} {waiting = waiting} all part = record {
   left = drop part.0 waiting ++ [];
   all = record {
@@ -137,7 +137,7 @@ run_more {r0 = r0} {r1 = r1} {r2 = r2} piece so_far taken some past = record {
 
 -- a piece was not answered to its end
 pub run_part : (Ended : Type 0) {r0 r1 r2 c0 c1 c2 : Option (List ℕ)} {kept : OpenPair} {count : ℕ} (piece : List ℕ)
-    → RunSoFar r0 r1 c0 c1 kept count → Consumes r1 r2 piece → AnswersSome (open_bytes kept ++ piece) c1 c2 []
+    → RunSoFar r0 r1 c0 c1 kept count → Consumes r1 r2 piece → AnswersInPart (open_bytes kept ++ piece) c1 c2 []
     → Exchanges (IsOutputPrefix Ended) r0 r2 c0 c2
 run_part Ended {r0 = r0} {r1 = r1} {r2 = r2} piece so_far taken some =
     let past = past_trans (past_longer piece so_far.past) some.past in record {
@@ -202,7 +202,7 @@ run_end {r0 = r0} {r1 = r1} {r2 = r2} {c0 = c0} {c1 = c1} {c2 = c2} {kept = kept
     }
 
 pub run_end_part : (Ended : Type 0) {r0 r1 r2 c0 c1 c2 : Option (List ℕ)} {kept : OpenPair} {count : ℕ}
-    → RunSoFar r0 r1 c0 c1 kept count → Consumes r1 r2 [] → Ended → AnswersAllSome (open_bytes kept) c1 c2 []
+    → RunSoFar r0 r1 c0 c1 kept count → Consumes r1 r2 [] → Ended → AnswersAllInPart (open_bytes kept) c1 c2 []
     → Exchanges (IsOutputPrefix Ended) r0 r2 c0 c2
 run_end_part Ended {r0 = r0} {r1 = r1} {r2 = r2} {c0 = c0} {c1 = c1} {c2 = c2} {kept = kept} {count = count} so_far
     taken ended some =

@@ -1,7 +1,7 @@
 -- The lines of what the program reads.
 use Rattle.std.specs.Prelude.{ℕ, ◌==◌, if◌then◌else◌, List, [], ◌∷◌, ◌++◌, map}
 use Rattle.std.specs.Str.Lines.{strip_carriage_return}
-use Rattle.semver_versions.specs.ErrorLocation.{newline}
+use Rattle.semver_texts.specs.Characters.{newline}
 
 -- bytes divided at the newline bytes: the lines that end with one, and the rest after the last one, which can be empty
 pub record Lines : Type 0 where

@@ -6,8 +6,8 @@ ghost use Rattle.std.specs.Str.Lines.{strip_carriage_return};
 ghost use Rattle.semver_pairs.specs.Answer.{IsBadRange};
 ghost use Rattle.semver_pairs.specs.GaugeValue.{HasFailed};
 ghost use Rattle.semver_pairs.specs.Pairs.{pairs_read};
-ghost use Rattle.semver_pairs.specs.Private.Answering.{AnswersOne, AnswersOneSome, AnswersPast, AnswersRange};
-ghost use Rattle.semver_pairs.specs.Private.Answering.{AnswersRangeSome, AnswersSome, IsAnswerLine, IsReadRange};
+ghost use Rattle.semver_pairs.specs.Private.Answering.{AnswersOne, AnswersOneInPart, AnswersPast, AnswersRange};
+ghost use Rattle.semver_pairs.specs.Private.Answering.{AnswersRangeInPart, AnswersInPart, IsAnswerLine, IsReadRange};
 ghost use Rattle.semver_pairs.specs.Private.Answering.{TellsFailure};
 ghost use Rattle.semver_pairs.specs.Private.Splitting.{BeginsWithPair, HasNoNewline};
 ghost use Rattle.semver_sets.specs.Meaning.{RangeAdmits};
@@ -41,7 +41,7 @@ pub(crate) fn answer_pairs<'b, W: Write>(
     ensures answers { MatchResult result
         (λ rest. AnswersPast bytes.now rest.now
         (W.contents writer.old.inner) (W.contents writer.new.inner) answers.old answers.new)
-        (λ _. AnswersSome bytes.now (W.contents writer.old.inner) (W.contents writer.new.inner) answers.old) }
+        (λ _. AnswersInPart bytes.now (W.contents writer.old.inner) (W.contents writer.new.inner) answers.old) }
     ensures none { IfOk result (λ rest. pairs_read false rest.now ≡ []) }
     ensures failure { TellsFailure result (HasFailed writer.new) }
 {
@@ -87,7 +87,7 @@ pub(crate) fn answer_one<W: Write>(
     ensures answers { MatchResult result
         (λ _. AnswersOne range.now version.now
         (W.contents writer.old.inner) (W.contents writer.new.inner) answers.old answers.new)
-        (λ _. AnswersOneSome range.now version.now
+        (λ _. AnswersOneInPart range.now version.now
         (W.contents writer.old.inner) (W.contents writer.new.inner) answers.old) }
     ensures failure { TellsFailure result (HasFailed writer.new) }
 {
@@ -117,7 +117,7 @@ fn answer_range<'b, W: Write>(
     ensures answers { MatchResult result
         (λ rest. AnswersRange pair.now.range.now pair.now.version.now pair.now.rest.now rest.now
         (W.contents writer.old.inner) (W.contents writer.new.inner) answers.old answers.new)
-        (λ _. AnswersRangeSome pair.now.range.now pair.now.version.now pair.now.rest.now
+        (λ _. AnswersRangeInPart pair.now.range.now pair.now.version.now pair.now.rest.now
         (W.contents writer.old.inner) (W.contents writer.new.inner) answers.old) }
     ensures fewer { IfOk result (λ rest. length rest.now ≤ length pair.now.rest.now) }
     ensures ascii { IfOk result (λ rest. IsTrue pair.now.is_ascii → IsAscii rest.now) }
@@ -133,7 +133,7 @@ fn answer_range<'b, W: Write>(
     }
 }
 
-/// The same after the range line was parsed: `range` is `None` if the line is no range.
+/// Answers the pairs of a range line that was parsed: `range` is `None` if the line is no range.
 // `inline(never)`: it is one call for each range line, and the loop over versions has a stack of its own.
 #[inline(never)]
 fn answer_versions<'b, W: Write>(
@@ -150,7 +150,7 @@ fn answer_versions<'b, W: Write>(
     ensures answers { MatchResult result
         (λ rest. AnswersRange pair.now.range.now pair.now.version.now pair.now.rest.now rest.now
         (W.contents writer.old.inner) (W.contents writer.new.inner) answers.old answers.new)
-        (λ _. AnswersRangeSome pair.now.range.now pair.now.version.now pair.now.rest.now
+        (λ _. AnswersRangeInPart pair.now.range.now pair.now.version.now pair.now.rest.now
         (W.contents writer.old.inner) (W.contents writer.new.inner) answers.old) }
     ensures fewer { IfOk result (λ rest. length rest.now ≤ length pair.now.rest.now) }
     ensures ascii { IfOk result (λ rest. IsTrue pair.now.is_ascii → IsAscii rest.now) }

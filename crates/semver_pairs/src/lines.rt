@@ -3,7 +3,7 @@ ghost use Rattle.std.specs.Prelude.{◌≡◌, ◌∷◌, ◌++◌, ◌<◌, len
 ghost use Rattle.std.specs.Str.{IsAscii};
 ghost use Rattle.std.specs.Str.Lines.{strip_carriage_return};
 ghost use Rattle.memchr.specs.Find.{IsFirstByte, is_byte};
-ghost use Rattle.semver_versions.specs.ErrorLocation.{newline};
+ghost use Rattle.semver_texts.specs.Characters.{newline};
 ghost use Rattle.semver_pairs.specs.Private.Splitting.{BeginsWithLine, HasNoNewline};
 
 use memchr::memchr_iter;

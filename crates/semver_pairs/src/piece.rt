@@ -1,7 +1,7 @@
 //! The output for the bytes of one read, and for the bytes that are left at the end of the input.
 ghost use Rattle.std.specs.Prelude.{◌≡◌, ◌≢◌, [], ◌++◌, MatchResult, IfOk, IfSome, IfNone, OnOk};
 ghost use Rattle.semver_pairs.specs.GaugeValue.{HasFailed};
-ghost use Rattle.semver_pairs.specs.Private.Answering.{AnswersAll, AnswersAllSome, AnswersPast, AnswersSome};
+ghost use Rattle.semver_pairs.specs.Private.Answering.{AnswersAll, AnswersAllInPart, AnswersPast, AnswersInPart};
 ghost use Rattle.semver_pairs.specs.Private.Answering.{TellsFailure};
 ghost use Rattle.semver_pairs.specs.Private.OpenPair.{IsOpen, open_bytes};
 
@@ -28,7 +28,7 @@ pub(crate) fn answer_piece<W: Write>(
     ensures answers { MatchResult result
         (λ _. AnswersPast (open_bytes kept.old ++ piece.now) (open_bytes kept.new)
         (W.contents writer.old.inner) (W.contents writer.new.inner) [] [])
-        (λ _. AnswersSome (open_bytes kept.old ++ piece.now)
+        (λ _. AnswersInPart (open_bytes kept.old ++ piece.now)
         (W.contents writer.old.inner) (W.contents writer.new.inner) []) }
     ensures lines { OnOk result (IsOpen kept.new) }
     ensures written { OnOk result (answers.new ≡ []) }
@@ -56,7 +56,7 @@ fn answer_open<'b, W: Write>(
     ensures answers { MatchResult result
         (λ found. IfSome found (λ rest. AnswersPast (open_bytes kept.old ++ piece.now) rest.now
         (W.contents writer.old.inner) (W.contents writer.new.inner) answers.old answers.new))
-        (λ _. AnswersSome (open_bytes kept.old ++ piece.now)
+        (λ _. AnswersInPart (open_bytes kept.old ++ piece.now)
         (W.contents writer.old.inner) (W.contents writer.new.inner) answers.old) }
     ensures left { IfOk result (λ found. IfNone found
         (IsOpen kept.new × (open_bytes kept.new ≡ open_bytes kept.old ++ piece.now))) }
@@ -87,7 +87,7 @@ pub(crate) fn answer_last<W: Write>(
     requires unfailed { ¬ HasFailed writer.old }
     ensures answers { MatchResult result
         (λ _. AnswersAll (open_bytes kept.now) (W.contents writer.old.inner) (W.contents writer.new.inner) [] [])
-        (λ _. AnswersAllSome (open_bytes kept.now) (W.contents writer.old.inner) (W.contents writer.new.inner) []) }
+        (λ _. AnswersAllInPart (open_bytes kept.now) (W.contents writer.old.inner) (W.contents writer.new.inner) []) }
     ensures failure { TellsFailure result (HasFailed writer.new) }
 {
     if kept.is_empty() {
@@ -112,7 +112,7 @@ fn add_last<W: Write>(
     ensures answers { MatchResult result
         (λ _. AnswersAll (open_bytes kept.now)
         (W.contents writer.old.inner) (W.contents writer.new.inner) [] answers.new)
-        (λ _. AnswersAllSome (open_bytes kept.now) (W.contents writer.old.inner) (W.contents writer.new.inner) []) }
+        (λ _. AnswersAllInPart (open_bytes kept.now) (W.contents writer.old.inner) (W.contents writer.new.inner) []) }
     ensures failure { TellsFailure result (HasFailed writer.new) }
 {
     if !kept.has_version() {

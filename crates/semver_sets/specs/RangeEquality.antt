@@ -13,6 +13,6 @@ AreSameCuts [] (other ∷ others) = ⊥
 AreSameCuts (one ∷ ones) [] = ⊥
 AreSameCuts (one ∷ ones) (other ∷ others) = AreSameEnds version_cmp one other × AreSameCuts ones others
 
--- the same as a test that a program can run: the result of `==`
+-- `true` if both have the same number of sets, with equal cuts at each place: what `==` returns
 abbrev pub are_same_cuts : List (Ends VersionValue) → List (Ends VersionValue) → Bool
 are_same_cuts = pointwise (are_same_ends version_cmp)

@@ -90,7 +90,7 @@ impl<'a> Partial<'a> {
         WordVersion::Full(major, minor, patch, self.extras)
     }
 
-    // The same without the build: `1.2.0-a` of `1.2.x-a+b`
+    // The version with 0 for each absent number, without the build: `1.2.0-a` of `1.2.x-a+b`
     #[inline(always)]
     pub(crate) fn bare(self) -> WordVersion<'a>
         ensures { version_seen result ≡ without_build (zeroed (partial_seen self.entry)) }

@@ -42,7 +42,7 @@ pub fn admits<V: AsVersion, C: Counts>(
     }
 }
 
-// The same for a prerelease. `inline(never)`: releases are checked most often.
+// Returns `true` if the set admits a prerelease. `inline(never)`: releases are checked most often.
 #[inline(never)]
 fn admits_prerelease<V: AsVersion, C: Counts>(
     set: &Span<EndVersion>,
@@ -59,7 +59,7 @@ fn admits_prerelease<V: AsVersion, C: Counts>(
     admits_opened(set, version, comparisons)
 }
 
-// The same. `inline(always)`: the search among many sets calls it in a loop.
+// Returns `true` if the set admits a prerelease. `inline(always)`: the search among many sets calls it in a loop.
 #[inline(always)]
 pub(crate) fn admits_opened<V: AsVersion, C: Counts>(
     set: &Span<EndVersion>,
@@ -107,8 +107,8 @@ pub(crate) fn is_at_or_before<V: AsVersion, C: Counts>(
     is_at_most(cut, version)
 }
 
-// The same without the count. Most cuts are at an end whose triple differs from the version's, so only triples are
-// compared.
+// Returns `true` if the cut is less than the one just before the version, or equal to it, without the count. Most cuts
+// are at an end whose triple differs from the version's, so only triples are compared.
 #[inline(always)]
 fn is_at_most<V: AsVersion>(cut: &Cut<EndVersion>, version: &V) -> bool
     ensures { IsTrue result ↔ IsCutAtMost version_cmp cut.now (Before (V.seen version.now)) }
@@ -125,7 +125,8 @@ fn is_at_most<V: AsVersion>(cut: &Cut<EndVersion>, version: &V) -> bool
     }
 }
 
-// The same for a cut at an end with the version's triple.
+// Returns `true` if a cut at an end with the version's triple is less than the one just before the version, or equal
+// to it.
 #[inline(always)]
 fn is_at_most_in_triple<V: AsVersion>(cut: &Cut<EndVersion>, version: &V) -> bool
     requires { IsAtTriple cut.now (V.seen version.now) }

@@ -73,7 +73,8 @@ impl Sets {
         }
     }
 
-    // The same, by one walk along the merged spans of both.
+    // Returns `true` if some cut lies both in a set of this list and in a set of the other, by one walk along the merged
+    // spans of both.
     #[inline(never)]
     fn share_merged_cut(&self, other: &Sets) -> bool
         ensures { IsTrue result ↔ ShareCut version_cmp (sets_seen self.now) (sets_seen other.now) }

@@ -1,7 +1,5 @@
 //! The words of a range text, and the comparator that each of them gives. The module [`ends`] has its two ends.
 //!
-//! `#[inline(always)]`: see `partial.rt`.
-//!
 //! Each of npm's headings has a file, with one function by cases: a line for each row of npm's table.
 ghost use Rattle.std.specs.Prelude.{◌≡◌, List, None, Some, false};
 ghost use Rattle.semver_sets.specs.Comparator.{Comparator};

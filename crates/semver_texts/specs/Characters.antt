@@ -31,9 +31,49 @@ bar = 124
 abbrev pub greater_sign : ℕ
 greater_sign = 62
 
+-- `<`
+abbrev pub less_sign : ℕ
+less_sign = 60
+
+-- `=`
+abbrev pub equal_sign : ℕ
+equal_sign = 61
+
+-- `*`, for any number
+abbrev pub star : ℕ
+star = 42
+
+-- `0`
+abbrev pub digit_zero : ℕ
+digit_zero = 48
+
+abbrev pub letter_v : ℕ
+letter_v = 118
+
+abbrev pub capital_v : ℕ
+capital_v = 86
+
+abbrev pub letter_x : ℕ
+letter_x = 120
+
+abbrev pub capital_x : ℕ
+capital_x = 88
+
+abbrev pub space : ℕ
+space = 32
+
+abbrev pub tab : ℕ
+tab = 9
+
+abbrev pub newline : ℕ
+newline = 10
+
+abbrev pub carriage_return : ℕ
+carriage_return = 13
+
 -- a space or a tab; a newline is no blank
 abbrev pub is_blank : ℕ → Bool
-is_blank b = (b == 32) || (b == 9)
+is_blank b = (b == space) || (b == tab)
 
 -- `0` to `9`
 abbrev pub is_digit : ℕ → Bool
@@ -45,15 +85,15 @@ is_identifier_character b = is_ascii_alphanumeric b || (b == hyphen)
 
 -- `x`, `X` or `*`, each of which means any number
 abbrev pub is_x : ℕ → Bool
-is_x b = (b == 120) || (b == 88) || (b == 42)
+is_x b = (b == letter_x) || (b == capital_x) || (b == star)
 
 -- `v` or `V`, which a version can begin with
 abbrev pub is_version_mark : ℕ → Bool
-is_version_mark b = (b == 118) || (b == 86)
+is_version_mark b = (b == letter_v) || (b == capital_v)
 
 -- `v`, which a partial can begin with
 abbrev pub is_partial_mark : ℕ → Bool
-is_partial_mark b = b == 118
+is_partial_mark b = b == letter_v
 
 -- each character of the text passes the test
 abbrev pub AreAll : (ℕ → Bool) → List ℕ → Type 0

@@ -2,6 +2,7 @@
 use Rattle.std.specs.Prelude.{ℕ, List, [], ◌∷◌, ◌++◌, map}
 use Rattle.std.specs.Fmt.{decimal}
 use Rattle.std.specs.List.{join_with_byte}
+use Rattle.semver_texts.specs.Characters.{dot, hyphen, plus}
 use Rattle.semver_texts.specs.IdentifierValue.{IdentifierValue, numeric, alphanumeric}
 use Rattle.semver_texts.specs.Version.{VersionValue}
 
@@ -13,9 +14,9 @@ identifier_text (alphanumeric t) = t
 -- nothing if there are no identifiers, else the mark and the identifiers with dots between them: `-rc.7` and `+7`
 abbrev pub marked_text : ℕ → List IdentifierValue → List ℕ
 marked_text mark [] = []
-marked_text mark (x ∷ xs) = mark ∷ join_with_byte 46 (map identifier_text (x ∷ xs))
+marked_text mark (x ∷ xs) = mark ∷ join_with_byte dot (map identifier_text (x ∷ xs))
 
 -- three numbers with dots between them, the prerelease after `-`, the build after `+`: `1.2.34-abc.213+2`
 abbrev pub version_text : VersionValue → List ℕ
-version_text v = decimal v.major ++ (46 ∷ decimal v.minor) ++ (46 ∷ decimal v.patch)
-    ++ marked_text 45 v.pre_release ++ marked_text 43 v.build
+version_text v = decimal v.major ++ (dot ∷ decimal v.minor) ++ (dot ∷ decimal v.patch)
+    ++ marked_text hyphen v.pre_release ++ marked_text plus v.build

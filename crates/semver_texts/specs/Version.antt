@@ -37,6 +37,6 @@ with_pre_release m n p i = record (release m n p) { pre_release = numeric i ∷ 
 abbrev pub least_of : ℕ → ℕ → ℕ → VersionValue
 least_of m n p = with_pre_release m n p 0
 
--- the same version without its build: `1.2.3-rc.1` for `1.2.3-rc.1+7`
+-- the version without its build: `1.2.3-rc.1` for `1.2.3-rc.1+7`
 abbrev pub without_build : VersionValue → VersionValue
 without_build v = record v { build = [] }

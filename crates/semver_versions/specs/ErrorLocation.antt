@@ -1,10 +1,7 @@
 -- Line and column of an offset in a text. Both count from 0, and the column counts bytes.
 use Rattle.std.specs.Prelude.{ℕ, Bool, List, ◌==◌, count_by, length, take}
 use Rattle.std.specs.List.{after_last}
-
--- the newline byte
-abbrev pub newline : ℕ
-newline = 10
+use Rattle.semver_texts.specs.Characters.{newline}
 
 -- `true` if the byte is a newline
 abbrev pub is_newline : ℕ → Bool

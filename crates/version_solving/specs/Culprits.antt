@@ -4,7 +4,7 @@ use Rattle.std.specs.Prelude.{◌≡◌, ◌++◌, List, ◌∷◌, All, Contain
 use Rattle.version_solving.specs.declared.demand.Demand.{Demand}
 use Rattle.version_solving.specs.Solving.{Fits, Problem, Selection}
 
--- The same with other demands of the root.
+-- The problem with other demands of the root.
 abbrev pub with_root : Problem → List Demand → Problem
 with_root p root = record { root = root; count = p.count; demands = p.demands; allows = p.allows }
 

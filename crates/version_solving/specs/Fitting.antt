@@ -21,7 +21,7 @@ IsFirst p name range (First candidate) = WouldFit p name range candidate
 IsFirst p name range Nothing = (candidate : ℕ) → WouldFit p name range candidate → ⊥
 IsFirst p name range Undecided = ⊤
 
--- The same in place of a demand of the root: it and its range do not count, and the others do.
+-- The first candidate that would fit in place of a demand of the root. The demand does not count, and the others do.
 pub record IsChange (p : Problem) (d : Demand) (change : Change) : Type 0 where
   pub before : List Demand
   pub after : List Demand

@@ -61,17 +61,19 @@ IsNotBelow (Some best) v = ¬ (version_cmp v best ≡ Less)
 abbrev pub IsTried : (VersionValue → Type 0) → Option VersionValue → VersionValue → Type 0
 IsTried Wanted best v = Wanted v → IsNotBelow best v
 
--- the same for all candidates of a cut
+-- each wanted candidate of the cut is not less than the best so far
 abbrev pub IsCutTried : Bool → (VersionValue → Type 0) → Option VersionValue → Cut VersionValue → Type 0
 IsCutTried included Wanted best cut = AllByRecursion (IsTried Wanted best) (candidates_at included cut)
 
--- the same for the least version of a triple that the upper end of a set opens, if the set admits it
+-- the least version of the triple that the upper end of the set opens is not less than the best so far, if the set
+-- admits it and it is wanted
 abbrev pub IsOpenTried : (VersionValue → Type 0) → Option VersionValue → Ends VersionValue → Type 0
 IsOpenTried Wanted best set =
     (v : VersionValue) → Opens set.upper v → SetAdmits set (least_of v.major v.minor v.patch)
     → IsTried Wanted best (least_of v.major v.minor v.patch)
 
--- the same for a set: for its lower end, and for the triple that its upper end opens
+-- the candidates of a set were tried: those of its lower end, and the least version of the triple that its upper end
+-- opens
 pub record IsSetTried (included : Bool) (Wanted : VersionValue → Type 0) (best : Option VersionValue)
     (set : Ends VersionValue)
     : Type 0 where

@@ -93,7 +93,7 @@ fn plain_beginning(sets: &[Span<EndVersion>]) -> Option<&EndVersion>
     }
 }
 
-// The same for other sets.
+// The least version of any sets.
 #[inline(never)]
 fn least_built(
     alloc: Global,
@@ -109,7 +109,7 @@ fn least_built(
     }
 }
 
-// The same, as a candidate that is not built.
+// The least version of the sets, as a candidate that is not built.
 #[inline]
 fn least_of_sets(sets: &[Span<EndVersion>], included: bool) -> Option<Unbuilt<'_>>
     requires { AllByRecursion IsRangeSet sets.now }
@@ -149,7 +149,7 @@ fn keep_lesser_end<'a>(least: &mut Option<Unbuilt<'a>>, end: &'a EndVersion)
     }
 }
 
-// The same for a set that does not begin just before a version.
+// Keeps the least version of a set that does not begin just before a version, if it is less than the least so far.
 #[inline(never)]
 fn keep_least_inside<'a>(least: &mut Option<Unbuilt<'a>>, set: &'a Span<EndVersion>, included: bool)
     requires { IsRangeSet set.now }

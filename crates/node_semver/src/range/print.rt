@@ -69,7 +69,7 @@ fn write_set<W: fmt::Write>(f: &mut fmt::Formatter<W>, set: &Span<EndVersion>) -
     }
 }
 
-// The same for every set, in several writes. `inline(never)`: few sets need it.
+// Writes the text of any set, in several writes. `inline(never)`: few sets need it.
 #[inline(never)]
 fn write_ends<W: fmt::Write>(f: &mut fmt::Formatter<W>, set: &Span<EndVersion>) -> fmt::Result
     ensures { WritesOnOk W.write_str_gives f.old result (set_text set.now) f.new }

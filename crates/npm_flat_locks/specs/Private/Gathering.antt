@@ -35,7 +35,7 @@ pub record AreAdded (Names : List ℕ → Type 0) (old new : Reached) : Type 0 w
   pub queued : (name : List ℕ) → is_seen new name ≡ true → (is_seen old name ≡ true) ⊎ IsWaiting new name
   pub waited : (name : List ℕ) → IsWaiting new name → IsWaiting old name ⊎ (is_seen new name ≡ true)
 
--- the same if the name is asked for, and else nothing changes
+-- if the name is asked for, it was seen before, or it waits last; if not, nothing changes
 abbrev pub IsNotedIf : (is_asked : Bool) → (name : List ℕ) → (old new : Reached) → Type 0
 IsNotedIf is_asked name old new = MatchBool is_asked (IsNoted name old new) (new ≡ old)
 

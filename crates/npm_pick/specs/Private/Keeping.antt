@@ -50,7 +50,7 @@ abbrev pub IsSatisfied : Option (List (Ends VersionValue)) → VersionValue → 
 IsSatisfied None v = ⊥
 IsSatisfied (Some range) v = RangeAdmits range v
 
--- the same for one of several
+-- the version satisfies one of several ranges, of which some may not have been read
 abbrev pub IsInOne : List (Option (List (Ends VersionValue))) → VersionValue → Type 0
 IsInOne ranges v = AnyByRecursion (λ range. IsSatisfied range v) ranges
 

@@ -18,7 +18,7 @@ pub record IsAdded (Gives : Loads) (options : Options) (all : Bool) (requests : 
   pub is : IsPackage Gives options all requests name one
   pub both : AreBothAdded old new (kept_of one) (absent_of one)
 
--- the same for all requests that have these texts for the package
+-- the versions that are kept of a package were added, whatever the requests are that have these texts for the package
 abbrev pub IsAddedFor : (Gives : Loads) → Options → (all : Bool) → (name : List ℕ) → (texts : List (List ℕ))
     → (old new : Mirror) → Type 0
 IsAddedFor Gives options all name texts old new = (requests : List RegistrySpecValue) → AreTextsOf requests name texts

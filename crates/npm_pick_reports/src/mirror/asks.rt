@@ -5,7 +5,7 @@ ghost use Rattle.serde_json.specs.View.{members_view, view};
 ghost use Rattle.npm_packages.specs.Edges.{edge_value};
 ghost use Rattle.npm_pick_reports.specs.Asks as Asks;
 ghost use Rattle.npm_pick_reports.specs.LockFailures.{IsLockFailure};
-ghost use Rattle.npm_pick_reports.specs.Asks.{AreAsks, AreEdgeAsks, AreLockAsks, AskValue, IsLinked, ask_value};
+ghost use Rattle.npm_pick_reports.specs.Asks.{AreAsks, AreAsksOfEdge, AreAsksOfLock, AskValue, IsLinked, ask_value};
 
 use crate::run_error::RunError;
 use npm_packages::{CheckError, Edge, edges_of, is_installed};
@@ -115,7 +115,7 @@ fn add_locked<'v>(
     lock: Option<&'v Value>,
 ) -> Result<(), RunError>
     ensures added { OnOk result ((found : List AskValue)
-        × Asks.AreLocksAsks (option_map (λ lock. view lock.now) lock.entry) found
+        × Asks.AreAsksOfLockIfAny (option_map (λ lock. view lock.now) lock.entry) found
         × (map ask_value asks.new.items ≡ map ask_value asks.old.items ++ found)) }
     ensures failed { IfErr result (IsLockFailure (option_map (λ lock. view lock.now) lock.entry)) }
 {
@@ -127,7 +127,7 @@ fn add_locked<'v>(
 
 /// Adds the dependencies of all packages of a lock file.
 fn add_lock<'v>(alloc: Global, asks: &mut Vec<Ask<'v>>, lock: &'v Value) -> Result<(), RunError>
-    ensures added { OnOk result ((found : List AskValue) × AreLockAsks (view lock.now) found
+    ensures added { OnOk result ((found : List AskValue) × AreAsksOfLock (view lock.now) found
         × (map ask_value asks.new.items ≡ map ask_value asks.old.items ++ found)) }
     ensures failed { IfErr result (IsLockFailure (Some (view lock.now))) }
 {
@@ -142,7 +142,7 @@ fn add_lock<'v>(alloc: Global, asks: &mut Vec<Ask<'v>>, lock: &'v Value) -> Resu
 
 /// Adds these dependencies.
 fn add_edges<'v>(asks: &mut Vec<Ask<'v>>, edges: &[Edge<'v>]) -> Result<(), AllocError>
-    ensures { OnOk result ((found : List AskValue) × Asks.AreEdgesAsks (map edge_value edges.now) found
+    ensures { OnOk result ((found : List AskValue) × Asks.AreAsksOfEdges (map edge_value edges.now) found
         × (map ask_value asks.new.items ≡ map ask_value asks.old.items ++ found)) }
 {
     for edge in edges {
@@ -153,7 +153,7 @@ fn add_edges<'v>(asks: &mut Vec<Ask<'v>>, edges: &[Edge<'v>]) -> Result<(), Allo
 
 /// Adds a dependency of a package of a lock file, unless a folder of the project is found for it.
 fn add_edge<'v>(asks: &mut Vec<Ask<'v>>, edge: &Edge<'v>) -> Result<(), AllocError>
-    ensures { OnOk result ((found : List AskValue) × AreEdgeAsks (edge_value edge.now) found
+    ensures { OnOk result ((found : List AskValue) × AreAsksOfEdge (edge_value edge.now) found
         × (map ask_value asks.new.items ≡ map ask_value asks.old.items ++ found)) }
 {
     if is_linked(edge.to) {

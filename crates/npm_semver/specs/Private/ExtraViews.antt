@@ -46,7 +46,7 @@ IsEnding IsEnd limit Missing = (end : ℕ) → ¬ IsEnd end
 IsEnding IsEnd limit (At end) = IsEnd end
 IsEnding IsEnd limit AfterLimit = (end : ℕ) × (limit < end) × IsEnd end
 
--- the same of lists, with the greatest of the ends
+-- the greatest of the ends of a list, or an end that is after the limit
 abbrev pub IsListEnding : Extra → List ℕ → (start limit : ℕ) → Ending → Type 0
 IsListEnding extra text start limit Missing = (end : ℕ) → ¬ IsListOf extra text start end
 IsListEnding extra text start limit (At end) =

@@ -73,7 +73,7 @@ module _ {T : Type 0} {cmp : T → T → Ordering} (o : IsTotalOrder cmp) where
   pub below-from_not_le : (c d : Cut T) → is_le (cut_cmp cmp c d) ≡ false → IsCutBelow cmp d c
   below-from_not_le c d h = grind arith
 
-  -- the same two ends, as a test, is an equivalence
+  -- the test whether two spans have the same two ends is an equivalence
   pub are_same_ends-equiv : IsEquivalence (are_same_ends cmp)
   are_same_ends-equiv = search (arith, and_equiv, on_equiv, eq_by_cmp_equiv, cut_total)
 
@@ -95,11 +95,11 @@ module _ {T : Type 0} (cmp : T → T → Ordering) where
   pub at_most-from_le : (c d : Cut T) → is_le (cut_cmp cmp c d) ≡ true → IsCutAtMost cmp c d
   at_most-from_le c d h = grind arith
 
-  -- and the test is true if the fact is
+  -- the test `c < d` is true if `c` is below `d`
   pub lt-from_below : (c d : Cut T) → IsCutBelow cmp c d → is_lt (cut_cmp cmp c d) ≡ true
   lt-from_below c d p = ap is_lt p
 
-  -- the same for the test `c <= d`
+  -- and the test `c <= d` is true if `c` is at most `d`
   pub le-from_at_most : (c d : Cut T) → IsCutAtMost cmp c d → is_le (cut_cmp cmp c d) ≡ true
   le-from_at_most c d h1 = grind arith
 

@@ -16,7 +16,7 @@ module _ {T : Type 0} (cmp : T → T → Ordering) (cut : Cut T) where
   pub in_some-left : (ones others : List (Ends T)) → IsInSome cmp ones cut → IsInSome cmp (ones ++ others) cut
   in_some-left ones others is = any-left (λ (span : Ends T). IsInSpan cmp span cut) ones others is
 
-  -- and the same for the second
+  -- if it lies in a span of the second, it does too
   pub in_some-right : (ones others : List (Ends T)) → IsInSome cmp others cut → IsInSome cmp (ones ++ others) cut
   in_some-right ones others is = any-right (λ (span : Ends T). IsInSpan cmp span cut) ones others is
 

@@ -39,7 +39,7 @@ module _ {X : Type 0} (P : X → Type 0) where
     all_map f [] a = tt
     all_map f (x ∷ xs) a = (f x a.0, all_map f xs a.1)
 
-    -- the same from two facts of each element
+    -- what follows from two facts of every value follows for each element
     pub all_both : (R : X → Type 0) → ((x : X) → P x → Q x → R x) → (xs : List X)
         → AllByRecursion P xs → AllByRecursion Q xs → AllByRecursion R xs
     all_both R f [] a b = tt

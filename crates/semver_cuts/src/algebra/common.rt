@@ -65,8 +65,8 @@ fn common_of_all<'a, T: Ord, S: Gather<'a, T>>(
     Ok(())
 }
 
-// The same if the others are apart: for each span, the walk begins near the place where the walk for the one before it
-// began.
+// Passes the intersection of each span with each span, if the others are apart: for each span, the walk begins near
+// the place where the walk for the one before it began.
 fn common_ascending<'a, T: Ord, S: Gather<'a, T>>(
     ones: &'a [Span<T>],
     others: &'a [Span<T>],
@@ -113,9 +113,9 @@ fn common_with<'a, T: Ord, S: Gather<'a, T>>(
     Ok(())
 }
 
-// The same if the others are apart. Begins at the first of them that ends above where the span begins, which it looks
-// for near `place`, and returns its place. `inline(never)`: it is one call for each span, and the loop over the spans
-// stays small.
+// Passes the intersection of one span with each of the others, which are apart. Begins at the first of them that ends
+// above where the span begins, which it looks for near `place`, and returns its place. `inline(never)`: it is one call
+// for each span, and the loop over the spans stays small.
 #[inline(never)]
 fn common_along<'a, T: Ord, S: Gather<'a, T>>(
     one: &'a Span<T>,
@@ -131,7 +131,8 @@ fn common_along<'a, T: Ord, S: Gather<'a, T>>(
     Ok(first)
 }
 
-// The same, up to the first of the others that begins where the span ends or above. `inline`: it has one caller.
+// Passes the intersection of one span with the others, up to the first that begins where the span ends or above.
+// `inline`: it has one caller.
 #[inline]
 fn common_until<'a, T: Ord, S: Gather<'a, T>>(
     one: &'a Span<T>,

@@ -102,7 +102,7 @@ pub(crate) fn in_order<'a, T: Ord>(
     Ok(order)
 }
 
-// The same for a list of two spans. Does not allocate.
+// Two spans, in order. Does not allocate.
 #[inline]
 pub(crate) fn two_in_order<'a, T: Ord>(one: &'a Span<T>, other: &'a Span<T>) -> [Placed<'a, T>; 2]
     ensures { AreSorted T.cmp (one.now ∷ other.now ∷ []) result }

@@ -70,7 +70,7 @@ impl<'a, 'p, T: Ord> MergedSpans<'a, 'p, T> {
     }
 }
 
-// The same as `MergedSpans::covers`, by one walk along the merged spans of both. Each step passes a span of one list.
+// `MergedSpans::covers`, by one walk along the merged spans of both. Each step passes a span of one list.
 fn covers_along<T: Ord>(ones: &MergedSpans<'_, '_, T>, others: &MergedSpans<'_, '_, T>) -> bool
     ensures { IsTrue result ↔ CoversAll T.cmp ones.now.list others.now.list }
 {
@@ -95,7 +95,7 @@ fn covers_along<T: Ord>(ones: &MergedSpans<'_, '_, T>, others: &MergedSpans<'_, 
     true
 }
 
-// The same as `MergedSpans::shares_cut`, by such a walk.
+// `MergedSpans::shares_cut`, by one walk along the merged spans of both.
 fn shares_along<T: Ord>(ones: &MergedSpans<'_, '_, T>, others: &MergedSpans<'_, '_, T>) -> bool
     ensures { IsTrue result ↔ ShareCut T.cmp ones.now.list others.now.list }
 {

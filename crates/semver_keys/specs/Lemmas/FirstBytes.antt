@@ -21,7 +21,7 @@ pub first-bytes : (o : Ordering) (m n : ℕ) (r s : List ℕ) → Stand o m n
     → key_cmp (m ∷ r) (n ∷ s) ≡ ordering_then o (key_cmp r s)
 first-bytes o m n r s h = ap (λ p. ordering_then p (key_cmp r s)) (sym (nat_cmp_is m n o h))
 
--- the same where two numbers stand in the order of the first bytes, and what follows does not count
+-- two keys, by the order of two numbers that stand as their first bytes do, where what follows does not count
 pub first-as : (o : Ordering) (m n a b : ℕ) (r s : List ℕ) (p : Ordering) → Stand o m n → Stand o a b
     → ordering_then o (key_cmp r s) ≡ ordering_then o p → key_cmp (m ∷ r) (n ∷ s) ≡ ordering_then (nat_cmp a b) p
 first-as o m n a b r s p h k e = first-bytes o m n r s h ∙ e ∙ ap (λ q. ordering_then q p) (nat_cmp_is a b o k)

@@ -36,7 +36,7 @@ fn add_part(
     }
 }
 
-// The same for the end that the cut is at. A release opens no triple.
+// Appends the part of a set among the prereleases of the triple of an end. A release opens no triple.
 #[tactic(auto, using(crate::proofs::OpenedRules::part_rules))]
 fn add_part_at(
     parts: &mut Vec<Span<Version>>,

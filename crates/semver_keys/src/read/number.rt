@@ -22,7 +22,7 @@ pub(crate) fn read_number(key: &[u8]) -> Option<(u64, &[u8])>
     read_long_number(first, rest)
 }
 
-// The same for a number that is not one byte. `inline(never)`: few numbers are so large.
+// The number whose key is not one byte, and the rest. `inline(never)`: few numbers are so large.
 #[inline(never)]
 fn read_long_number(first: u8, rest: &[u8]) -> Option<(u64, &[u8])>
     requires { 240 ≤ first }

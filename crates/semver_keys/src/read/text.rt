@@ -41,7 +41,7 @@ fn read_byte(key: &[u8]) -> Option<(u8, &[u8])>
     read_low_byte(rest)
 }
 
-// The same after a byte 1: the byte 0 or 1.
+// What is written after a byte 1, the byte 0 or 1 of a text, and the rest.
 fn read_low_byte(rest: &[u8]) -> Option<(u8, &[u8])>
     ensures read { IfSome result (λ r. IsByteRead (1 ∷ rest.now) r.0 r.1.now) }
     ensures none { IfNone result (BeginsWithNoByte (1 ∷ rest.now)) }
@@ -91,7 +91,7 @@ fn plain_text(alloc: Global, bytes: &[u8]) -> Result<Option<String>, AllocError>
     }
 }
 
-// The same for a text that has a byte 0 or 1. `inline(never)`: only versions that are made by hand have one.
+// The text with these bytes, if it has a byte 0 or 1. `inline(never)`: only versions that are made by hand have one.
 #[inline(never)]
 fn odd_text(alloc: Global, bytes: &[u8]) -> Result<Option<String>, AllocError>
     ensures text { IfOk result (λ found. IfSome found (λ text. written (string_bytes text) ≡ bytes.now)) }

@@ -9,7 +9,7 @@ use Rattle.semver_pairs.specs.Output.{AreAnswers}
 use Rattle.semver_pairs.specs.Pairs.{pairs_read}
 use Rattle.semver_sets.specs.Meaning.{TextAdmits}
 use Rattle.semver_texts.specs.Version.{VersionValue}
-use Rattle.semver_versions.specs.ErrorLocation.{newline}
+use Rattle.semver_texts.specs.Characters.{newline}
 
 -- the range line is a good one, and exactly the versions that its text admits are admitted
 abbrev pub IsReadRange : (line : List ℕ) → (Admits : VersionValue → Type 0) → Type 0
@@ -47,8 +47,8 @@ pub record AnswersPast (bytes rest : List ℕ) (contents contents_new : Option (
     pub answers : AnswersUpTo bytes rest added
     pub moves : Moves contents contents_new waiting added left
 
--- The same for some rest and some output left.
-pub record AnswersSome (bytes : List ℕ) (contents contents_new : Option (List ℕ)) (waiting : List ℕ) : Type 0 where
+-- The output for the pairs before some rest was added, and the first part of what waits was written.
+pub record AnswersInPart (bytes : List ℕ) (contents contents_new : Option (List ℕ)) (waiting : List ℕ) : Type 0 where
   pub rest : List ℕ
   pub left : List ℕ
   pub past : AnswersPast bytes rest contents contents_new waiting left
@@ -60,8 +60,8 @@ pub record AnswersRange (range version bytes rest : List ℕ) (contents contents
   pub answers : AnswersFrom range version bytes rest added
   pub moves : Moves contents contents_new waiting added left
 
--- The same for some rest and some output left.
-pub record AnswersRangeSome (range version bytes : List ℕ) (contents contents_new : Option (List ℕ))
+-- The output from a range line on, up to some rest, was added, and the first part of what waits was written.
+pub record AnswersRangeInPart (range version bytes : List ℕ) (contents contents_new : Option (List ℕ))
     (waiting : List ℕ) : Type 0 where
   pub rest : List ℕ
   pub left : List ℕ
@@ -74,8 +74,8 @@ pub record AnswersOne (range version : List ℕ) (contents contents_new : Option
   pub answer : IsAnswerLine (strip_carriage_return range) version line
   pub moves : Moves contents contents_new waiting line left
 
--- The same for some output left.
-pub record AnswersOneSome (range version : List ℕ) (contents contents_new : Option (List ℕ))
+-- The output for one pair was added, and the first part of what waits was written.
+pub record AnswersOneInPart (range version : List ℕ) (contents contents_new : Option (List ℕ))
     (waiting : List ℕ) : Type 0 where
   pub left : List ℕ
   pub one : AnswersOne range version contents contents_new waiting left
@@ -86,8 +86,8 @@ pub record AnswersAll (bytes : List ℕ) (contents contents_new : Option (List �
   pub answers : AreAnswers (pairs_read true bytes) added
   pub moves : Moves contents contents_new waiting added left
 
--- The same for some output left.
-pub record AnswersAllSome (bytes : List ℕ) (contents contents_new : Option (List ℕ)) (waiting : List ℕ) : Type 0 where
+-- The output for all pairs was added, and the first part of what waits was written.
+pub record AnswersAllInPart (bytes : List ℕ) (contents contents_new : Option (List ℕ)) (waiting : List ℕ) : Type 0 where
   pub left : List ℕ
   pub all : AnswersAll bytes contents contents_new waiting left
 
@@ -98,7 +98,7 @@ ErrorTells Write Failed = Failed
 ErrorTells Memory Failed = ¬ Failed
 ErrorTells Endless Failed = ⊥
 
--- The same of a result. A value says that the gauge has not failed.
+-- A result tells whether the writer's gauge has failed. A value says that it has not.
 abbrev pub TellsFailure : {T : Type 0} → Result T RunError → (Failed : Type 0) → Type 0
 TellsFailure (Ok x) Failed = ¬ Failed
 TellsFailure (Err e) Failed = ErrorTells e Failed

@@ -1,7 +1,7 @@
 -- Bytes up to their first newline bytes.
 use Rattle.std.specs.Prelude.{◌≡◌, ◌==◌, ℕ, List, [], ◌∷◌, ◌++◌, false, ⊤}
 use Rattle.std.specs.Str.Lines.{strip_carriage_return}
-use Rattle.semver_versions.specs.ErrorLocation.{newline}
+use Rattle.semver_texts.specs.Characters.{newline}
 
 -- the bytes contain no newline byte
 abbrev pub HasNoNewline : List ℕ → Type 0

@@ -72,6 +72,6 @@ IsReadResult text (Ok sets) = AreSetsOfText text (sets_seen sets) × IsRangeValu
 IsReadResult text (Err Refused) = IsRefused text
 IsReadResult text (Err OutOfMemory) = Unit {0}
 
--- the same for a text with these two parts before and after its first `||`
+-- the result of reading a text with these two parts before and after its first `||`
 abbrev pub IsReadResultOf : List ℕ → List ℕ → Result Sets Unread → Type 0
 IsReadResultOf first others result = (text : List ℕ) → (first, Some others) ≡ piece_at text → IsReadResult text result

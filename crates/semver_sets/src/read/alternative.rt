@@ -211,7 +211,7 @@ fn keep_greatest(kept: &mut Cut<EndVersion>, later: Cut<EndVersion>)
     }
 }
 
-// The same for any two lower ends.
+// Keeps the greater of any two lower ends, and the later of equal ones.
 #[inline(never)]
 fn keep_greater(kept: &mut Cut<EndVersion>, later: Cut<EndVersion>)
     ensures { IsLaterGreatest version_cmp kept.old later kept.new }
@@ -237,7 +237,7 @@ fn keep_least(kept: &mut Cut<EndVersion>, later: Cut<EndVersion>)
     }
 }
 
-// The same for any two upper ends.
+// Keeps the lesser of any two upper ends, and the earlier of equal ones.
 #[inline(never)]
 fn keep_lesser(kept: &mut Cut<EndVersion>, later: Cut<EndVersion>)
     ensures { IsEarlierLeast version_cmp kept.old later kept.new }

@@ -66,7 +66,7 @@ impl Gathered {
         self.add_to_list(set)
     }
 
-    // The same for every set but the first. `inline(never)`: usually there is one.
+    // Adds a set that is not the first. `inline(never)`: usually there is one.
     #[inline(never)]
     fn add_to_list(&mut self, set: Span<EndVersion>) -> Result<(), AllocError>
         ensures { OnOk result (self.new ≡ self.old ++ set ∷ []) }

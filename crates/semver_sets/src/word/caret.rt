@@ -1,6 +1,4 @@
 //! `^1.2.3`, `^0.2`, `^1`
-//!
-//! `#[inline(always)]`: see `partial.rt`.
 ghost use Rattle.std.specs.Prelude.{◌≡◌, ◌≤◌, None, Some};
 ghost use Rattle.semver_sets.specs.CaretRanges.{caret_row};
 ghost use Rattle.semver_sets.specs.Comparator.{from_up_to};

@@ -190,7 +190,7 @@ fn full_end(alloc: Global, triple: (u64, u64, u64), extras: &[u8]) -> Result<End
     }
 }
 
-// The same without the build.
+// Builds the version of a triple and its text of extras, without the build.
 #[inline(always)]
 #[tactic(auto, using(semver_texts::specs::Lemmas::Public::clean_extras))]
 fn bare_end(alloc: Global, triple: (u64, u64, u64), extras: &[u8]) -> Result<EndVersion, AllocError>
@@ -222,7 +222,7 @@ fn end_with_extras(
     )
 }
 
-// The same without the build. `inline(never)`: few versions have extras, as at `end_with_extras`.
+// Builds a version with extras, without the build. `inline(never)`: few versions have extras, as at `end_with_extras`.
 #[inline(never)]
 #[tactic(auto, unfolding(semver_texts::specs::Reading::read_extras))]
 fn end_with_prerelease(

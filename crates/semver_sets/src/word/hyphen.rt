@@ -1,8 +1,7 @@
 //! `1.2 - 3`, and ` - 3` at the start of a range text
 //!
-//! `#[inline(always)]`: see `partial.rt`. `read_right_operand` is called only if there is a hyphen, and through a
-//! function of one line: the toolchain clears the place of a result where the calling function begins, and so only if
-//! it is called.
+//! `read_right_operand` is called only if there is a hyphen, and through a function of one line: the toolchain clears
+//! the place of a result where the calling function begins, and so only if it is called.
 ghost use Rattle.std.specs.Prelude.{◌≡◌, ◌∷◌, IfSome, Some, None};
 ghost use Rattle.semver_texts.specs.Characters.{hyphen};
 ghost use Rattle.semver_sets.specs.HyphenRanges as HyphenRanges;

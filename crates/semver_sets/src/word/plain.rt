@@ -1,6 +1,4 @@
 //! `1.2.3`, `1.2`, `1.x`, `*`
-//!
-//! `#[inline(always)]`: see `partial.rt`.
 ghost use Rattle.std.specs.Prelude.{◌≡◌};
 ghost use Rattle.semver_sets.specs.Operators.{plain_row};
 ghost use Rattle.semver_sets.specs.PartialText.{by_row};

@@ -1,6 +1,4 @@
 //! `~1.2.3`, `~1.2`, `~> 1`
-//!
-//! `#[inline(always)]`: see `partial.rt`.
 ghost use Rattle.std.specs.Prelude.{◌≡◌};
 ghost use Rattle.semver_texts.specs.Characters.{is_blank};
 ghost use Rattle.semver_texts.specs.Reading.{rest_of};

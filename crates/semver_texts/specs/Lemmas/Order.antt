@@ -184,7 +184,7 @@ identifier_cmp-means a b = record {
   );
 }
 
--- the same for the result of a function
+-- what the order of two identifiers means, for a function that returns it
 pub identifier_order : (a b : IdentifierValue) (r : Ordering) → r ≡ identifier_cmp a b → IdentifierOrderMeans a b r
 identifier_order a b r e = subst (IdentifierOrderMeans a b) (sym e) (identifier_cmp-means a b)
 
@@ -248,7 +248,7 @@ version_cmp-means v w = record {
   );
 }
 
--- the same for the result of a function
+-- what the order of two versions means, for a function that returns it
 pub version_order : (v w : VersionValue) (r : Ordering) → r ≡ version_cmp v w → OrderMeans v w r
 version_order v w r e = subst (OrderMeans v w) (sym e) (version_cmp-means v w)
 

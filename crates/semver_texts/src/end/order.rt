@@ -71,7 +71,7 @@ impl EndVersion {
         }
     }
 
-    // The same if one of the two has lists. `inline(never)`: few ends have.
+    // The order of two ends with the same triple, if one of the two has lists. `inline(never)`: few ends have.
     #[inline(never)]
     fn cmp_lists(&self, other: &EndVersion) -> Ordering
         ensures { result ≡ prerelease_cmp self.now.pre_release other.now.pre_release }
@@ -107,7 +107,7 @@ impl EndVersion {
         cmp_prereleases(self.pre_release().as_slice(&zero), identifiers)
     }
 
-    /// Returns the same for a prerelease that borrows its text.
+    /// Returns the order of this end and the version of its triple that has this prerelease, which borrows its text.
     // `inline(never)`: as above.
     #[inline(never)]
     pub fn cmp_borrowed(&self, identifiers: &Identifiers<'_>) -> Ordering

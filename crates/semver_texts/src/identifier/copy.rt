@@ -108,7 +108,8 @@ impl<'a> Identifiers<'a> {
     }
 }
 
-// The same as `to_vec`. `inline(always)`: where most lists have identifiers, a call would take 40 instructions more.
+// The list that `to_vec` returns. `inline(always)`: where most lists have identifiers, a call would take 40 instructions
+// more.
 #[inline(always)]
 pub fn to_vec_inline(
     alloc: Global,

@@ -21,7 +21,7 @@ fn goes_on(text: &[u8]) -> bool
     }
 }
 
-// The same for a byte and the byte after it.
+// Returns `true` if a list of identifiers goes on with these two bytes.
 #[inline(always)]
 fn goes_on_at(first: u8, next: u8) -> bool
     ensures { result ≡ Reading.goes_on (first ∷ next ∷ []) }

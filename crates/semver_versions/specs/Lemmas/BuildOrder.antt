@@ -51,6 +51,6 @@ version_build_cmp-means v w = record {
   );
 }
 
--- the same for the result of a function
+-- what the order with builds means, for a function that returns it
 pub version_build_order : (v w : VersionValue) (r : Ordering) → r ≡ version_build_cmp v w → BuildOrderMeans v w r
 version_build_order v w r e = subst (BuildOrderMeans v w) (sym e) (version_build_cmp-means v w)

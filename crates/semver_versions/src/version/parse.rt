@@ -147,7 +147,7 @@ fn version_after_triple(
     }
 }
 
-// The same for a text of which nothing has been read.
+// Reads a text of which nothing has been read.
 // `inline(always)`: see `after_triple`.
 #[inline(always)]
 fn from_start(alloc: Global, text: &str) -> Result<Version, SemverError>
@@ -186,7 +186,7 @@ fn refused(alloc: Global, text: &str, fault: Fault) -> SemverError
     refusal_after_triple(alloc, text, fault)
 }
 
-// The same, called if the text is refused after its triple. `cold`, `inline(never)`: few texts are.
+// The error for a text that is refused after its triple. `cold`, `inline(never)`: few texts are.
 #[cold]
 #[inline(never)]
 fn refusal_after_triple(alloc: Global, text: &str, fault: Fault) -> SemverError

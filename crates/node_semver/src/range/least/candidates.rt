@@ -39,7 +39,7 @@ impl<'a> Unbuilt<'a> {
         }
     }
 
-    // The same version without its build.
+    // This version without its build.
     #[inline(always)]
     pub(crate) fn without_build(self) -> Unbuilt<'a>
         ensures { result ≡ without_build self.entry }

@@ -223,7 +223,7 @@ fn try_candidate<'a, Q: Question, I: Inclusion>(
     }
 }
 
-// The same for the release of a triple: only triples are compared.
+// Keeps the release of a triple if it is less than the best so far and wanted: only triples are compared.
 #[inline(always)]
 fn try_release<Q: Question, I: Inclusion>(
     best: &mut Option<Unbuilt<'_>>,
@@ -239,7 +239,7 @@ fn try_release<Q: Question, I: Inclusion>(
     }
 }
 
-// The same for a release that is less than the best so far.
+// Keeps a release that is less than the best so far if it is wanted.
 #[inline(never)]
 fn try_lower<Q: Question, I: Inclusion>(
     best: &mut Option<Unbuilt<'_>>,

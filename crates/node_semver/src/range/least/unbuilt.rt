@@ -65,7 +65,7 @@ impl<'a> Unbuilt<'a> {
         }
     }
 
-    // The same with a 0 after its identifiers. For a prerelease, this is the next version.
+    // The version of an end, with a 0 after its identifiers. For a prerelease, this is the next version.
     #[inline(always)]
     pub(crate) fn after_end(end: &'a EndVersion) -> Unbuilt<'a>
         ensures { result ≡ record end.now { pre_release = end.now.pre_release ++ numeric 0 ∷ [] } }
@@ -128,7 +128,7 @@ impl<'a> Unbuilt<'a> {
         }
     }
 
-    // The same if both have the same triple.
+    // Returns `true` if the version of an end is less than this one, if both have the same triple.
     #[inline(never)]
     fn is_prerelease_above(&self, end: &EndVersion) -> bool
         ensures { IsTrue result ↔ (prerelease_cmp end.now.pre_release self.now.pre_release ≡ Less) }

@@ -22,8 +22,8 @@ returns-in-Ok-Some-clause-found g c =
     let gives : FnReturnsAt g.F.Fn c.args.load.now c.in-Some.request.name.now (Ok (Some c.in-Ok-Some.packument)) =
     says_at g.F.Fn c.load.ensures (c.in-Ok-Some.is ∙ ap Ok c.in-Ok-Some.field-0-is) in
     known_found (FnReturnsAt g.F.Fn c.args.load.now) c.args.all c.args.options.now (edge_value c.args.edge)
-    (registry_spec_value c.in-Some.request) c.in-Ok-Some.packument c.compared.result
-    (sym c.is_passed.ensures ∙ c.if-is_passed.false) asked gives c.compared.ensures.found
+    (registry_spec_value c.in-Some.request) c.in-Ok-Some.packument c.outcome_by_document.result
+    (sym c.is_passed.ensures ∙ c.if-is_passed.false) asked gives c.outcome_by_document.ensures.found
 
 pub returns-in-Ok-None-clause-found : goal.returns-in-Ok-None-clause-found
 returns-in-Ok-None-clause-found g c =

@@ -12,8 +12,8 @@ returns-clause-reply g c = record {
   of_lock = c.in-Ok.ensures.found;
   found = rw c.deref.ensures.value at c.in-Ok-outcomes_of.ensures.found;
   lines = rw c.deref-2.ensures.value at c.in_ok-outdated_lines.ensures;
-  notes = c.ended.ensures.notes;
-  ending = c.ended.ensures.ending
+  notes = c.done_without_notes.ensures.notes;
+  ending = c.done_without_notes.ensures.ending
       ∙ compared_ending c.in-Ok-outcomes_of.outcomes.items c.has_outdated.result c.absent_count.result
       (rw c.deref-3.ensures.value at c.has_outdated.ensures) (rw c.deref-4.ensures.value at c.absent_count.ensures);
 }

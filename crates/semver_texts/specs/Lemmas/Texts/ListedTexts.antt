@@ -46,7 +46,7 @@ first-part (b ∷ rest) g = elim (cases_Bool (b == dot)) [
 pub parts-texts : (text : List ℕ) → AllByRecursion IsIdentifierText (parts_of text) → texts_of text ≡ parts_of text
 parts-texts text all = grind arith
 
--- the same, if others follow it after a dot
+-- the first identifier of a list and the rest of the text, if others follow it after a dot
 pub first-before : (text rest : List ℕ) (d : ℕ) → IsListed text → 0 < length text
     → rest_of is_identifier_character text ≡ d ∷ rest
     → IsFirstSplit text (prefix_of is_identifier_character text) rest
@@ -69,7 +69,7 @@ listed-ends (b ∷ text) listed some = elim (first-part (b ∷ text) (go-on (b �
   | before next there parts ↦ ends-at_dot (b ∷ text) (rw there refl)
 ]
 
--- the same of what a reader of an identifier returned
+-- what a reader of an identifier returned is the first identifier of the list, if nothing follows it
 pub split-alone : (text part rest : List ℕ) → IsListed text → 0 < length text
     → part ≡ prefix_of is_identifier_character text → rest ≡ rest_of is_identifier_character text → length rest < 1
     → IsFirstSplit text part rest

@@ -3,7 +3,7 @@ use Rattle.std.specs.Io.Buffered.{reader_remaining}
 use Rattle.semver_command.specs.Arguments.{text_value}
 use Rattle.semver_command.specs.Asked.{asked_value}
 use Rattle.semver_command.proofs.Answered.{copied_same, misused, none_raised, one_raised, some_mapped}
-use Rattle.semver_command.proofs.answer.raised.Goals as goal
+use Rattle.semver_command.proofs.answer.answer_increment.Goals as goal
 
 pub returns-then-is_nothing-clause-answered : goal.returns-then-is_nothing-clause-answered
 returns-then-is_nothing-clause-answered g c = none_raised (asked_value c.args.asked.now) c.args.bump (reader_remaining g.R.Read.remaining c.args.reader.now)

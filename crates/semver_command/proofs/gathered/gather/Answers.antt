@@ -2,7 +2,7 @@ use Rattle.std.proofs.Common.{map}
 use Rattle.std.specs.Io.Buffered.{reader_remaining}
 use Rattle.semver_command.specs.Ranges.{IsInAll}
 use Rattle.semver_command.proofs.Answered.{all_gathered}
-use Rattle.semver_command.proofs.gathered.gathered.Goals as goal
+use Rattle.semver_command.proofs.gathered.gather.Goals as goal
 
 pub returns : goal.returns
 returns g c = all_gathered c.args.options c.args.listing (IsInAll c.args.options.include_prerelease c.args.ranges.now)

@@ -4,7 +4,7 @@ use Rattle.npm_packages.specs.Edges.{edge_value}
 use Rattle.serde_json.specs.View.{view}
 use Rattle.npm_pick_reports.specs.Outdated.{current, unpicked}
 use Rattle.npm_pick_reports.proofs.Outcomes.{behind_row}
-use Rattle.npm_pick_reports.proofs.outdated.compared.Goals as goal
+use Rattle.npm_pick_reports.proofs.outdated.outcome_by_document.Goals as goal
 
 pub returns-in_default-clause-found : goal.returns-in_default-clause-found
 returns-in_default-clause-found c = unpicked (inl (rw c.in_default.is at c.in_ok-wanted.ensures.found))

@@ -1,10 +1,13 @@
 -- What cannot be met together, and why: lines of solving_reasons in names, specs and versions.
-use Rattle.std.specs.Prelude.{◌≡◌, ◌++◌, ℕ, List, [], ◌∷◌, IfSome, map, option_map, slice_get, suc}
+use Rattle.std.specs.Prelude.{◌≡◌, ◌++◌, ℕ, List, [], ◌∷◌, Option, Some, None, IfSome, map, option_map, slice_get, suc}
 use Rattle.std.specs.List.{AllZip}
 use Rattle.std.specs.Option.{option_map_or}
 use Rattle.version_solving.specs.Culprits.{AreCulprits}
 use Rattle.version_solving.specs.Documents.{problem_of}
+use Rattle.version_solving.specs.Fitting.{IsChange}
 use Rattle.version_solving.specs.Solving.{Problem}
+use Rattle.version_solving.specs.declared.change.Change.{Change}
+use Rattle.version_solving.specs.declared.change.Change.TheVariants.{First, Nothing, Undecided}
 use Rattle.version_solving.specs.declared.demand.Demand.{Demand}
 use Rattle.solving_reasons.specs.Reasons as Reasons
 use Rattle.solving_reasons.specs.Reasons.{IsProof}
@@ -19,8 +22,9 @@ use Rattle.version_solving.specs.Naming.{IsAskOf}
 use Rattle.version_solving.specs.declared.ask.Listed.{Listed}
 use Rattle.version_solving.specs.declared.wanted.Wanted.{Wanted}
 use Rattle.npm_resolve.specs.Instance.{key_of}
-use Rattle.npm_resolve.specs.ReasonValues.{ReasonValue, SourceValue, TermValue, WishValue, asking, of_lines, of_root, of_versions, outside, reason_value}
+use Rattle.npm_resolve.specs.ReasonValues.{ReasonValue, SourceValue, TermValue, WishValue, asking, of_lines, of_root, of_versions, outside, reason_value, text}
 use Rattle.npm_resolve.specs.declared.conflict.Conflict.{Conflict}
+use Rattle.npm_resolve.specs.declared.conflict.Culprit.{Culprit}
 use Rattle.npm_resolve.specs.declared.conflict.Reason.{Reason}
 use Rattle.npm_resolve.specs.declared.instance.Offer.{Offer}
 use Rattle.npm_resolve.specs.declared.posed.Posed.{Posed}
@@ -82,10 +86,24 @@ abbrev pub AreReasons : Posed → (demands : List Demand) → List Reason → Ty
 AreReasons posed demands reasons = (lines : List Line) × IsProof (problem_of demands posed.documents) lines
     × AllZip (IsReasonOf posed) lines reasons
 
--- The wishes are those of demands of the root that cannot be met together, and without any one of which the others can; and the reasons
+-- The key of the candidate that would fit in place of a demand, if one is found.
+abbrev pub fitting_key : Posed → Demand → Change → Option (List ℕ)
+fitting_key posed demand (First candidate) = Some (key_at posed demand.name candidate)
+fitting_key posed demand Nothing = None
+fitting_key posed demand Undecided = None
+
+-- What the demand asks for, and the version that would fit in its place: the first one outside its range with which the other demands of
+-- the root can be met.
+pub record IsCulprit (posed : Posed) (demand : Demand) (culprit : Culprit) : Type 0 where
+  pub asked : IsAskOf posed.wishes.items posed.root.items demand culprit.ask
+  pub change : Change
+  pub fits : IsChange (problem_of posed.root.items posed.documents) demand change
+  pub key : option_map text culprit.would_fit ≡ fitting_key posed demand change
+
+-- The culprits are those of demands of the root that cannot be met together, and without any one of which the others can; and the reasons
 -- are why.
 pub record IsConflict (posed : Posed) (conflict : Conflict) : Type 0 where
   pub demands : List Demand
   pub culprits : AreCulprits (problem_of posed.root.items posed.documents) demands
-  pub asked : AllZip (IsAskOf posed.wishes.items posed.root.items) demands conflict.culprits.items
+  pub told : AllZip (IsCulprit posed) demands conflict.culprits.items
   pub reasons : IfSome conflict.reasons (λ reasons. AreReasons posed demands reasons.items)

@@ -5,10 +5,19 @@ use version_solving::Ask;
 /// What manifests ask for that cannot be met together, and without any one of which the others can.
 #[derive(Drop)]
 pub struct Conflict<'v> {
-    pub culprits: Vec<Ask<'v>>,
+    pub culprits: Vec<Culprit<'v>>,
     /// Why the culprits cannot be met together: lines each of which is true, or follows from lines above it. The last one has no terms.
     /// `None` if it takes more steps than it may to find them.
     pub reasons: Option<Vec<Reason<'v>>>,
+}
+
+/// One of what cannot be met together.
+#[derive(Clone, Copy, Debug, PartialEq, Eq, Drop)]
+pub struct Culprit<'v> {
+    pub ask: Ask<'v>,
+    /// The first version of the name, outside the range that is asked for, with which all else that the manifests ask for can be met.
+    /// `None` if there is no such version, or if it takes more steps than it may to find it.
+    pub would_fit: Option<&'v str>,
 }
 
 /// A line: its terms never hold together.

@@ -8,6 +8,7 @@ mod absent;
 mod answer;
 mod chosen;
 mod conflict;
+mod culprits;
 mod documents;
 mod explained;
 mod instance;
@@ -18,7 +19,7 @@ mod rules;
 mod wishes;
 
 pub use answer::{Answer, Chosen, Resolution};
-pub use conflict::{Conflict, Reason, Source, Term, Wish};
+pub use conflict::{Conflict, Culprit, Reason, Source, Term, Wish};
 pub use documents::{Document, documents_for};
 pub use npm_candidates::{Omits, Options, Reach};
 pub use resolve::resolved;

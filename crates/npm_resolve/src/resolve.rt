@@ -12,6 +12,7 @@ use crate::absent::with_absent;
 use crate::answer::{Answer, Resolution};
 use crate::chosen::all_chosen;
 use crate::conflict::{Conflict, Reason};
+use crate::culprits::culprits_of;
 use crate::documents::Document;
 use crate::explained::all_explained;
 use crate::instance::{lists_of, offers_of, ranges_of};
@@ -22,9 +23,7 @@ use npm_candidates::{Asks, Omits, Options, Reach};
 use serde_json::Value;
 use solving_reasons::{named_demands, reasons};
 use std::alloc::Global;
-use version_solving::{
-    Demand, Documents, Numbered, Outcome, blamed_asks, by_number, culprits, solve,
-};
+use version_solving::{Demand, Documents, Numbered, Outcome, by_number, culprits, solve};
 
 /// Returns versions that fit together: of the names that manifests need, and of those that their versions need, one version each, so
 /// that all that is asked for is met. A version needs its peers and, by `Reach::Dependencies`, its `dependencies`. A name without a
@@ -33,7 +32,8 @@ use version_solving::{
 /// `overrides` of the first manifest, which is the root, change what the manifests and the versions ask for. Those of other manifests
 /// do not count. A rule that is not read changes nothing, and is told in the answer.
 ///
-/// If no selection fits, it returns what the manifests ask for that cannot be met together, and why.
+/// If no selection fits, it returns what the manifests ask for that cannot be met together, and why. For each of these it returns the
+/// first version outside the range that is asked for with which all else that the manifests ask for can be met, if it finds one.
 ///
 /// Names are chosen in the order in which they are first needed. Each choice is the first of the versions of its name with which a
 /// selection that fits exists, the earlier choices kept: the version that `npm_pick` would pick, where it fits.
@@ -69,7 +69,7 @@ pub fn resolved<'v>(
         ranges: wanted,
     } = by_number(alloc, &asks, &names)?;
     let ranges = ranges_of(alloc, &offers, &wanted, options.before)?;
-    let posed = Posed {
+    let mut posed = Posed {
         wishes: asks,
         offers,
         names,
@@ -77,7 +77,7 @@ pub fn resolved<'v>(
         root,
         documents: Documents { packages, ranges },
     };
-    let resolution = resolution_of(alloc, &posed, steps)?;
+    let resolution = resolution_of(alloc, &mut posed, steps)?;
     Ok(Answer {
         resolution,
         left_out,
@@ -86,9 +86,9 @@ pub fn resolved<'v>(
 }
 
 /// Solves a problem, and names what it says.
-fn resolution_of<'v>(alloc: Global, posed: &Posed<'v>, steps: u64) -> Result<Resolution<'v>>
-    requires { length posed.now.wishes.items ≡ length posed.now.root.items }
-    ensures { IfOk result (IsResolution posed.now) }
+fn resolution_of<'v>(alloc: Global, posed: &mut Posed<'v>, steps: u64) -> Result<Resolution<'v>>
+    requires { length posed.old.wishes.items ≡ length posed.old.root.items }
+    ensures { IfOk result (IsResolution posed.old) }
 {
     match solve(alloc, &posed.root, &posed.documents, steps)? {
         Outcome::Selected(choices) => Ok(Resolution::Selected(all_chosen(
@@ -102,15 +102,15 @@ fn resolution_of<'v>(alloc: Global, posed: &Posed<'v>, steps: u64) -> Result<Res
 }
 
 /// What cannot be met together, and why, where no selection fits.
-fn conflict_of<'v>(alloc: Global, posed: &Posed<'v>, steps: u64) -> Result<Option<Conflict<'v>>>
-    requires length { length posed.now.wishes.items ≡ length posed.now.root.items }
-    requires none { NoneFits (problem_of posed.now.root.items posed.now.documents) [] }
-    ensures { IfOk result (λ found. IfSome found (IsConflict posed.now)) }
+fn conflict_of<'v>(alloc: Global, posed: &mut Posed<'v>, steps: u64) -> Result<Option<Conflict<'v>>>
+    requires length { length posed.old.wishes.items ≡ length posed.old.root.items }
+    requires none { NoneFits (problem_of posed.old.root.items posed.old.documents) [] }
+    ensures { IfOk result (λ found. IfSome found (IsConflict posed.old)) }
 {
     match culprits_in(alloc, posed, steps)? {
         Some(demands) => Ok(Some(Conflict {
-            culprits: blamed_asks(alloc, &posed.wishes, &posed.root, &demands)?,
             reasons: reasons_of(alloc, posed, &demands, steps)?,
+            culprits: culprits_of(alloc, posed, &demands, steps)?,
         })),
         None => Ok(None),
     }

@@ -1,7 +1,9 @@
 -- What a contract sees of the lines that say why wishes cannot be met together.
 use Rattle.std.specs.Prelude.{ℕ, Bool, List, Option, map, option_map}
 use Rattle.std.specs.Borrow.{Bor}
+use Rattle.npm_candidates.specs.Asks.{AskValue, ask_value}
 use Rattle.npm_resolve.specs.declared.conflict.Conflict.{Conflict}
+use Rattle.npm_resolve.specs.declared.conflict.Culprit.{Culprit}
 use Rattle.npm_resolve.specs.declared.conflict.Reason.{Reason}
 use Rattle.npm_resolve.specs.declared.conflict.Source.{Source}
 use Rattle.npm_resolve.specs.declared.conflict.Source.TheVariants as Sources
@@ -49,3 +51,11 @@ reason_value reason = record { source = source_value reason.source; terms = map 
 
 abbrev pub reasons_of : Conflict → Option (List ReasonValue)
 reasons_of conflict = option_map (λ reasons. map reason_value reasons.items) conflict.reasons
+
+-- what is asked for, and the version that would fit in its place
+pub record CulpritValue : Type 0 where
+  pub ask : AskValue
+  pub would_fit : Option (List ℕ)
+
+abbrev pub culprit_value : Culprit → CulpritValue
+culprit_value culprit = record { ask = ask_value culprit.ask; would_fit = option_map text culprit.would_fit }

@@ -9,7 +9,7 @@ use node_semver::VersionRef;
 use npm_packages::{Lock, lock_of};
 use npm_pick::parse_time;
 use npm_pick_reports::LoadError;
-use npm_resolve::{Ask, Chosen, Omits, Options, Reach, Resolution, documents_for, resolved};
+use npm_resolve::{Chosen, Culprit, Omits, Options, Reach, Resolution, documents_for, resolved};
 use serde_json::Value;
 use std::alloc::{AllocError, Global};
 use std::slice;
@@ -126,10 +126,10 @@ fn selected(alloc: Global, chosen: &[Chosen<'_>]) -> Result<String, AllocError> 
     Ok(text)
 }
 
-fn none(alloc: Global, blamed: &[Ask<'_>]) -> Result<String, AllocError> {
+fn none(alloc: Global, culprits: &[Culprit<'_>]) -> Result<String, AllocError> {
     let mut text = String::from_str(alloc, "none")?;
-    for ask in blamed {
-        let shown = format!(in alloc; "\t{}:{}", ask.name, ask.spec)?;
+    for culprit in culprits {
+        let shown = format!(in alloc; "\t{}:{}", culprit.ask.name, culprit.ask.spec)?;
         text.push_str(&shown)?;
     }
     Ok(text)

@@ -1,4 +1,4 @@
--- What a contract sees of the lines that say why wishes cannot be met together.
+-- What a contract sees of what cannot be met together, and of the lines that say why.
 use Rattle.std.specs.Prelude.{ℕ, Bool, List, Option, map, option_map}
 use Rattle.std.specs.Borrow.{Bor}
 use Rattle.npm_candidates.specs.Asks.{AskValue, ask_value}
@@ -13,6 +13,14 @@ use Rattle.npm_resolve.specs.declared.conflict.Wish.{Wish}
 
 abbrev pub text : Bor (List ℕ) → List ℕ
 text borrowed = borrowed.now
+
+-- what is asked for, and the key of the version that would fit in its place, if one is found
+pub record CulpritValue : Type 0 where
+  pub ask : AskValue
+  pub would_fit : Option (List ℕ)
+
+abbrev pub culprit_value : Culprit → CulpritValue
+culprit_value culprit = record { ask = ask_value culprit.ask; would_fit = option_map text culprit.would_fit }
 
 pub record WishValue : Type 0 where
   pub name : List ℕ
@@ -51,11 +59,3 @@ reason_value reason = record { source = source_value reason.source; terms = map 
 
 abbrev pub reasons_of : Conflict → Option (List ReasonValue)
 reasons_of conflict = option_map (λ reasons. map reason_value reasons.items) conflict.reasons
-
--- what is asked for, and the version that would fit in its place
-pub record CulpritValue : Type 0 where
-  pub ask : AskValue
-  pub would_fit : Option (List ℕ)
-
-abbrev pub culprit_value : Culprit → CulpritValue
-culprit_value culprit = record { ask = ask_value culprit.ask; would_fit = option_map text culprit.would_fit }

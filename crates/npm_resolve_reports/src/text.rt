@@ -143,11 +143,7 @@ fn push_reason(
 }
 
 /// What cannot be installed together.
-fn culprit_lines(
-    alloc: Global,
-    documents: &[Document],
-    culprits: &[Culprit<'_>],
-) -> Result<Vec<u8>>
+fn culprit_lines(alloc: Global, documents: &[Document], culprits: &[Culprit<'_>]) -> Result<Vec<u8>>
     ensures { IfOk result (λ lines. lines.items ≡ Texts.culprit_lines documents.now (map culprit_value culprits.now)) }
 {
     let mut lines = Vec::new(alloc);

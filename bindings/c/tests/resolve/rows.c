@@ -103,7 +103,7 @@ static const struct row ROWS[] = {
     {TEXT(ASKS("\"old\":\"npm:react@^20\"")), TEXT(DOCUMENTS), NO_OPTIONS, NPM_RESOLVE_OK,
      CULPRITS(CULPRIT("true", "old", "npm:react@^20", "\"18.2.0\""))},
     {TEXT(ASKS("\"react\":\"^20\",\"react-hot\":\"^6\"")), TEXT(DOCUMENTS), NO_OPTIONS, NPM_RESOLVE_OK,
-     CULPRITS(CULPRIT("true", "react", "^20", "null"))},
+     "\"would_fit\":null}],\"outcome\":\"none\""},
     {TEXT(ASKS("\"gone\":\"\"")), TEXT(DOCUMENTS), NO_OPTIONS, NPM_RESOLVE_OK,
      CULPRITS(CULPRIT("false", "gone", "*", "null"))},
     {TEXT(ASKS("\"react\":\"*\"")), TEXT(DOCUMENTS), TAG("old"), NPM_RESOLVE_OK, SELECTED(PACKAGE("react", "17.0.2"))},

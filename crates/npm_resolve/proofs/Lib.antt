@@ -3,3 +3,4 @@ mod Wishing
 mod Gathering
 mod Naming
 mod Keys
+mod Changing

@@ -31,6 +31,23 @@ zip_length R [] (y ∷ ys) all = absurd all
 zip_length R (x ∷ xs) [] all = absurd all
 zip_length R (x ∷ xs) (y ∷ ys) all = ap suc (zip_length R xs ys all.1)
 
+pub zip_inside : {X Y : Type 0} (R : X → Y → Type 0) (xs : List X) (ys : List Y) (i : ℕ) → AllZip R xs ys → i < length xs → i < length ys
+zip_inside R xs ys i all inside = subst (λ (n : ℕ). i < n) (zip_length R xs ys all) inside
+
+pub zip_get_or : {X Y : Type 0} (R : X → Y → Type 0) (xs : List X) (ys : List Y) (i : ℕ) (d : X) (e : Y) → AllZip R xs ys → i < length xs
+    → R (get_or xs i d) (get_or ys i e)
+zip_get_or R [] ys i d e all inside = absurd (omega (arith, inside))
+zip_get_or R (x ∷ xs) [] i d e all inside = absurd all
+zip_get_or R (x ∷ xs) (y ∷ ys) zero d e all inside = all.0
+zip_get_or R (x ∷ xs) (y ∷ ys) (suc i) d e all inside = zip_get_or R xs ys i d e all.1 (omega (arith, inside))
+
+pub zip_weaker : {X Y : Type 0} (R S : X → Y → Type 0) → ((x : X) (y : Y) → R x y → S x y) → (xs : List X) (ys : List Y) → AllZip R xs ys
+    → AllZip S xs ys
+zip_weaker R S more [] [] all = tt
+zip_weaker R S more [] (y ∷ ys) all = absurd all
+zip_weaker R S more (x ∷ xs) [] all = absurd all
+zip_weaker R S more (x ∷ xs) (y ∷ ys) all = (more x y all.0, zip_weaker R S more xs ys all.1)
+
 module _ {X Y : Type 0} (R : X → Y → Type 0) (xs : List X) (ys : List Y) (i : ℕ) where
   pub one_more : (d : X) (y : Y) → i < length xs → AllZip R (take i xs) ys → R (get_or xs i d) y
       → AllZip R (take (i + 1) xs) (ys ++ y ∷ [])

@@ -1,13 +1,15 @@
 //! What cannot be met together, and what would fit in its place.
-ghost use Rattle.std.specs.Prelude.{◌≡◌, IfOk, All, Contains, length};
+ghost use Rattle.std.specs.Prelude.{◌≡◌, IfOk, All, Contains, length, option_map};
 ghost use Rattle.std.specs.List.{AllZip};
+ghost use Rattle.version_solving.specs.Documents.{problem_of};
+ghost use Rattle.version_solving.specs.Fitting.{IsChange};
+ghost use Rattle.version_solving.specs.Naming.{IsAskOf};
 ghost use Rattle.npm_resolve.specs.Explanations.{IsCulprit, fitting_key};
 ghost use Rattle.npm_resolve.specs.ReasonValues.{text};
 
 use crate::Result;
-use crate::chosen::key_of;
 use crate::conflict::Culprit;
-use crate::instance::Offer;
+use crate::explained::key_of;
 use crate::posed::Posed;
 use std::alloc::Global;
 use version_solving::{Ask, Change, Demand, blamed_asks, changes};
@@ -25,38 +27,37 @@ pub(crate) fn culprits_of<'v>(
 {
     let asks = blamed_asks(alloc, &posed.wishes, &posed.root, demands)?;
     let changes = changes(alloc, &posed.root, &mut posed.documents, demands, steps)?;
-    all_told(alloc, &posed.offers, demands, &asks, &changes)
+    all_told(alloc, posed, demands, &asks, &changes)
 }
 
-/// What is asked for by each demand, and the version of its change.
+/// What each demand asks for, and the version of its change.
 fn all_told<'v>(
     alloc: Global,
-    offers: &[Offer<'v>],
+    posed: &Posed<'v>,
     demands: &[Demand],
     asks: &[Ask<'v>],
     changes: &[Change],
-) -> Result<Vec<Culprit<'v>>> {
-    let mut culprits = Vec::with_capacity(alloc, asks.len())?;
-    for (place, ask) in asks.iter().enumerate() {
+) -> Result<Vec<Culprit<'v>>>
+    requires asks { AllZip (IsAskOf posed.now.wishes.items posed.now.root.items) demands.now asks.now }
+    requires changes { AllZip (IsChange (problem_of posed.now.root.items posed.now.documents)) demands.now changes.now }
+    ensures { IfOk result (λ culprits. AllZip (IsCulprit posed.now) demands.now culprits.items) }
+{
+    let mut culprits = Vec::with_capacity(alloc, demands.len())?;
+    for (place, demand) in demands.iter().enumerate() {
         culprits.push(Culprit {
-            ask: *ask,
-            would_fit: fitting_of(offers, demands.get(place), changes.get(place)),
+            ask: asks[place],
+            would_fit: fitting_of(posed, *demand, changes[place]),
         })?;
     }
     Ok(culprits)
 }
 
-/// The version of a change of a demand.
-fn fitting_of<'v>(
-    offers: &[Offer<'v>],
-    demand: Option<&Demand>,
-    change: Option<&Change>,
-) -> Option<&'v str> {
-    let (Some(demand), Some(Change::First(candidate))) = (demand, change) else {
-        return None;
-    };
-    match offers.get(demand.name) {
-        Some(offer) => Some(key_of(offer, *candidate)),
-        None => None,
+/// The version of a change of a demand, if it has one.
+fn fitting_of<'v>(posed: &Posed<'v>, demand: Demand, change: Change) -> Option<&'v str>
+    ensures { option_map text result ≡ fitting_key posed.now demand change }
+{
+    match change {
+        Change::First(candidate) => Some(key_of(posed, demand.name, candidate)),
+        Change::Nothing | Change::Undecided => None,
     }
 }

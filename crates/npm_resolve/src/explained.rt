@@ -139,7 +139,7 @@ fn keys_of<'v>(
 }
 
 /// The key of a candidate of a name.
-fn key_of<'v>(posed: &Posed<'v>, name: usize, candidate: usize) -> &'v str
+pub(crate) fn key_of<'v>(posed: &Posed<'v>, name: usize, candidate: usize) -> &'v str
     ensures { result.now ≡ Explanations.key_at posed.now name candidate }
 {
     match posed.offers.get(name) {

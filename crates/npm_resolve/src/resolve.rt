@@ -32,7 +32,8 @@ use version_solving::{Demand, Documents, Numbered, Outcome, by_number, culprits,
 /// `overrides` of the first manifest, which is the root, change what the manifests and the versions ask for. Those of other manifests
 /// do not count. A rule that is not read changes nothing, and is told in the answer.
 ///
-/// If no selection fits, it returns what the manifests ask for that cannot be met together, and why.
+/// If no selection fits, it returns what the manifests ask for that cannot be met together, and why. For each of these it returns the
+/// first version outside the range that is asked for with which all else that the manifests ask for can be met, if it finds one.
 ///
 /// Names are chosen in the order in which they are first needed. Each choice is the first of the versions of its name with which a
 /// selection that fits exists, the earlier choices kept: the version that `npm_pick` would pick, where it fits.

@@ -100,6 +100,11 @@ declare namespace resolve {
         needed: boolean;
         /** There is a document of this name. */
         document: boolean;
+        /**
+         * The first version of the name, outside the range of the spec, with which all else that the manifest asks for can be met. It is
+         * null if there is none, or if it takes more steps to find it.
+         */
+        would_fit: string | null;
     }
 
     /** What is asked of a name. The spec is null for any. */

@@ -54,7 +54,8 @@ def told(ran, is_lock):
     if answer["outcome"] == "selected":
         return {"packages": [[one["name"], one["package"], one["version"]] for one in answer["packages"]]}
     if answer["outcome"] == "none":
-        return {"culprits": [[one["name"], one["spec"], one["needed"], one["document"]] for one in answer["culprits"]]}
+        parts = ["name", "spec", "needed", "document", "would_fit"]
+        return {"culprits": [[one[part] for part in parts] for one in answer["culprits"]]}
     return {answer["outcome"]: True}
 
 

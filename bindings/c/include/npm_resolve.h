@@ -102,12 +102,14 @@ typedef struct npm_resolve_options {
  * The answer is a JSON object without spaces:
  *
  *     {"outcome":"selected","packages":[{"name":"a","package":"a","version":"1.0.0"}]}
- *     {"culprits":[{"document":true,"name":"a","needed":true,"spec":"^2"}],"outcome":"none"}
+ *     {"culprits":[{"document":true,"name":"a","needed":true,"spec":"^2","would_fit":"1.0.0"}],"outcome":"none"}
  *     {"outcome":"undecided"}
  *
- * The last one says that the steps were used up; if they were used up after `none` was known, `culprits` is null. The object may
- * get more members. With `lock_file` the answer is the text of a package-lock.json of version 3 instead, if versions fit
- * together. It begins with a brace and a newline, and the object with a brace and a quote.
+ * `would_fit` is the first version of the name, outside the range of the spec, with which all else that the manifest asks for
+ * can be met; it is null if there is none, or if it takes more steps to find it. The last object says that the steps were used
+ * up; if they were used up after `none` was known, `culprits` is null. The object may get more members. With `lock_file` the
+ * answer is the text of a package-lock.json of version 3 instead, if versions fit together. It begins with a brace and a
+ * newline, and the object with a brace and a quote.
  *
  * It is written to the room of `size` bytes if it fits, without a zero at the end; else the room stays as it was. `*length` is
  * its length in either case, and the call may be made again with a room of so many bytes. On any other status than

@@ -40,7 +40,7 @@ function told({ outcome, packages, lockfile, culprits }) {
     case 'selected':
         return lockfile ? { lockfile } : { packages: packages.map((one) => [one.name, one.package, one.version]) };
     case 'none':
-        return { culprits: culprits && culprits.map(({ name, spec, needed, document }) => [name, spec, needed, document]) };
+        return { culprits: culprits?.map((one) => [one.name, one.spec, one.needed, one.document, one.would_fit]) };
     default:
         return { [outcome]: true };
     }

@@ -234,4 +234,5 @@ export const members: true[] = [
     is<semver.Operator, '===' | '!==' | '' | '=' | '==' | '!=' | '>' | '>=' | '<' | '<='>(),
     is<semver.ReleaseType, Released>(),
     is<semver.IdentifierBase, Base>(),
+    is<resolve.Culprit['would_fit'], string | null>(),
 ];

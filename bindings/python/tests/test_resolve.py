@@ -37,7 +37,8 @@ def told(answer: Union[Resolution, LockResolution]) -> Dict[str, Any]:
         return {"packages": [[one["name"], one["package"], one["version"]] for one in members["packages"]]}
     if "culprits" in members:
         culprits = members["culprits"] or []
-        return {"culprits": [[one["name"], one["spec"], one["needed"], one["document"]] for one in culprits]}
+        parts = ["name", "spec", "needed", "document", "would_fit"]
+        return {"culprits": [[one[part] for part in parts] for one in culprits]}
     return {members["outcome"]: True}
 
 

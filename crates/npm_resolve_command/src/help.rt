@@ -13,7 +13,7 @@ It selects a version of each package that a package.json asks for, and of each p
 a peer, so that all of their ranges are met: what npm install --strict-peer-deps must find, or stops at with ERESOLVE.
 Each version is the best one with which the others fit: the version of the tag, or else the newest. It writes a line
 NAME@VERSION for each. If no versions fit together, it writes which dependencies cannot be installed together, and why;
-without any one of them the others can.
+without any one of them the others can. For each it names a version outside its range that would fit, if there is one.
 
 Options, of which the value may also be in the same word, as in --steps=1000:
   --manifest FILE    A package.json, of which dependencies, devDependencies, optionalDependencies and peerDependencies

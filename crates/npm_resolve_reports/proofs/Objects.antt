@@ -3,13 +3,13 @@ use Rattle.std.proofs.Common.{◌≡◌, ℕ, List, [], ◌∷◌, None, Option,
 use Rattle.serde_json.specs.Data.{array, string}
 use Rattle.serde_json.specs.View.{items_of}
 use Rattle.serde_json.specs.Written.{has_float, items_have_float}
-use Rattle.npm_candidates.specs.Asks.{AskValue, ask_value}
 use Rattle.npm_resolve.specs.Answers.{ChosenValue, chosen_value}
-use Rattle.npm_resolve.specs.ReasonValues.{ReasonValue, SourceValue, TermValue, WishValue, asking, of_lines, of_root, of_versions, outside, reasons_of}
+use Rattle.npm_resolve.specs.ReasonValues.{CulpritValue, ReasonValue, SourceValue, TermValue, WishValue, asking, culprit_value, of_lines, of_root}
+use Rattle.npm_resolve.specs.ReasonValues.{of_versions, outside, reasons_of}
 use Rattle.npm_resolve.specs.declared.answer.Resolution.{Resolution}
 use Rattle.npm_resolve.specs.declared.answer.Resolution.TheVariants as Resolutions
 use Rattle.npm_resolve.specs.declared.documents.Document.{Document}
-use Rattle.npm_resolve_reports.specs.Objects.{chosen_data, culprit_data, resolution_data}
+use Rattle.npm_resolve_reports.specs.Objects.{chosen_data, culprit_data, fitting_data, resolution_data}
 use Rattle.npm_resolve_reports.specs.ReasonObjects.{line_data, reason_data, reasons_data, source_data, spec_data, term_data, wish_data}
 use Rattle.npm_resolve_reports.specs.Sentences.{sentence}
 
@@ -17,9 +17,14 @@ chosen_plain : (chosen : List ChosenValue) → items_have_float (items_of (map c
 chosen_plain [] = refl
 chosen_plain (one ∷ chosen) = chosen_plain chosen
 
-culprits_plain : (documents : List Document) (asks : List AskValue) → items_have_float (items_of (map (culprit_data documents) asks)) ≡ false
+fitting_plain : (would_fit : Option (List ℕ)) → has_float (fitting_data would_fit) ≡ false
+fitting_plain None = refl
+fitting_plain (Some key) = refl
+
+culprits_plain : (documents : List Document) (culprits : List CulpritValue)
+    → items_have_float (items_of (map (culprit_data documents) culprits)) ≡ false
 culprits_plain documents [] = refl
-culprits_plain documents (ask ∷ asks) = culprits_plain documents asks
+culprits_plain documents (culprit ∷ culprits) = rw (fitting_plain culprit.would_fit) (culprits_plain documents culprits)
 
 -- ---- reasons
 
@@ -69,7 +74,7 @@ option_plain documents (Some reasons) = reasons_plain documents reasons
 pub no_float : (documents : List Document) (resolution : Resolution) → has_float (resolution_data documents resolution) ≡ false
 no_float documents (Resolutions.Selected chosen) = rw (chosen_plain (map chosen_value chosen.items)) refl
 no_float documents (Resolutions.NoSelection (Some conflict)) = rw (
-  culprits_plain documents (map ask_value conflict.culprits.items),
+  culprits_plain documents (map culprit_value conflict.culprits.items),
   option_plain documents (reasons_of conflict),
 ) refl
 no_float documents (Resolutions.NoSelection None) = refl

@@ -1,12 +1,11 @@
 -- The JSON object.
-use Rattle.std.specs.Prelude.{ℕ, List, [], ◌∷◌, ◌++◌, None, Some, codes, map}
+use Rattle.std.specs.Prelude.{ℕ, List, [], ◌∷◌, ◌++◌, None, Option, Some, codes, map}
 use Rattle.serde_json.specs.Data.{Data, array, boolean, member, no_members, null, object, string}
 use Rattle.serde_json.specs.View.{items_of}
 use Rattle.serde_json.specs.Written.{compact_text}
 use Rattle.npm_texts.specs.RangeText.{filled}
-use Rattle.npm_candidates.specs.Asks.{AskValue, ask_value}
 use Rattle.npm_resolve.specs.Answers.{ChosenValue, chosen_value}
-use Rattle.npm_resolve.specs.ReasonValues.{reasons_of}
+use Rattle.npm_resolve.specs.ReasonValues.{CulpritValue, culprit_value, reasons_of}
 use Rattle.npm_resolve.specs.declared.answer.Resolution.{Resolution}
 use Rattle.npm_resolve.specs.declared.answer.Resolution.TheVariants as Resolutions
 use Rattle.npm_resolve.specs.declared.conflict.Conflict.{Conflict}
@@ -24,16 +23,22 @@ abbrev pub selected_data : List ChosenValue → Data
 selected_data chosen = object (member (codes "outcome") (string (codes "selected"))
     (member (codes "packages") (array (items_of (map chosen_data chosen))) no_members))
 
--- `{"document":true,"name":"react","needed":true,"spec":"^18.2.0"}`
-abbrev pub culprit_data : List Document → AskValue → Data
-culprit_data documents ask = object (member (codes "document") (boolean (has_document documents ask.name))
-    (member (codes "name") (string ask.name) (member (codes "needed") (boolean ask.needed)
-    (member (codes "spec") (string (filled ask.spec)) no_members))))
+-- `null` if no version would fit
+abbrev pub fitting_data : Option (List ℕ) → Data
+fitting_data None = null
+fitting_data (Some key) = string key
+
+-- `{"document":true,"name":"react","needed":true,"spec":"^18.2.0","would_fit":"17.0.2"}`
+abbrev pub culprit_data : List Document → CulpritValue → Data
+culprit_data documents culprit = object (member (codes "document") (boolean (has_document documents culprit.ask.name))
+    (member (codes "name") (string culprit.ask.name) (member (codes "needed") (boolean culprit.ask.needed)
+    (member (codes "spec") (string (filled culprit.ask.spec))
+    (member (codes "would_fit") (fitting_data culprit.would_fit) no_members)))))
 
 -- `{"culprits":[..],"outcome":"none","reasons":[..]}`
 abbrev pub conflict_data : List Document → Conflict → Data
 conflict_data documents conflict = object
-    (member (codes "culprits") (array (items_of (map (culprit_data documents) (map ask_value conflict.culprits.items))))
+    (member (codes "culprits") (array (items_of (map (culprit_data documents) (map culprit_value conflict.culprits.items))))
     (member (codes "outcome") (string (codes "none")) (member (codes "reasons")
     (reasons_data documents (reasons_of conflict)) no_members)))
 

@@ -3,11 +3,13 @@ use Rattle.std.specs.Prelude.{◌≡◌, ◌==◌, ◌++◌, ℕ, List, [], ◌�
 use Rattle.std.specs.Cmp.Lexicographic.{slice_cmp}
 use Rattle.std.specs.List.{list_any}
 use Rattle.std.specs.List.Sorted.{IsPermutation, IsSorted}
+use Rattle.std.specs.Option.{option_map_or}
 use Rattle.std.specs.Ordering.{nat_cmp}
 use Rattle.command_lines.specs.Shown.{shown}
 use Rattle.npm_texts.specs.RangeText.{filled}
 use Rattle.npm_candidates.specs.Asks.{AskValue}
 use Rattle.npm_resolve.specs.Answers.{ChosenValue}
+use Rattle.npm_resolve.specs.ReasonValues.{CulpritValue}
 use Rattle.npm_resolve.specs.declared.documents.Document.{Document}
 
 -- ---- what is selected
@@ -54,12 +56,23 @@ abbrev pub culprit_line : List Document → AskValue → List ℕ
 culprit_line documents ask = ask_words ask ++ (asked_words ask.needed ++ (document_words (has_document documents ask.name)
     ++ (10 ∷ [])))
 
-abbrev pub culprits_head : List AskValue → List ℕ
-culprits_head asks = if length asks == 1 then codes "This cannot be installed:" ++ (10 ∷ [])
+abbrev pub culprits_head : List CulpritValue → List ℕ
+culprits_head culprits = if length culprits == 1 then codes "This cannot be installed:" ++ (10 ∷ [])
     else codes "These cannot be installed together:" ++ (10 ∷ [])
 
-abbrev pub culprit_lines : List Document → List AskValue → List ℕ
-culprit_lines documents asks = culprits_head asks ++ flat_map (culprit_line documents) asks
+abbrev pub culprit_lines : List Document → List CulpritValue → List ℕ
+culprit_lines documents culprits = culprits_head culprits ++ flat_map (λ culprit. culprit_line documents culprit.ask) culprits
+
+-- `react-hot 5.0.0 would fit, outside the range.`
+abbrev pub change_line : (name key : List ℕ) → List ℕ
+change_line name key = shown name ++ (codes " " ++ (shown key ++ (codes " would fit, outside the range." ++ (10 ∷ []))))
+
+-- the line of a culprit with a version that would fit in its place
+abbrev pub fitting_line : CulpritValue → List ℕ
+fitting_line culprit = option_map_or (change_line culprit.ask.name) culprit.would_fit []
+
+abbrev pub fitting_lines : List CulpritValue → List ℕ
+fitting_lines culprits = flat_map fitting_line culprits
 
 -- it takes too long to find them
 abbrev pub unblamed_line : List ℕ

@@ -1,15 +1,15 @@
 //! A resolution as a JSON object.
-ghost use Rattle.std.specs.Prelude.{◌≡◌, ◌++◌, IfOk, OnOk, map, string_bytes};
+ghost use Rattle.std.specs.Prelude.{◌≡◌, ◌++◌, IfOk, OnOk, map, option_map, string_bytes};
 ghost use Rattle.serde_json.specs.Data.{boolean, null, put as with_member};
 ghost use Rattle.serde_json.specs.View.{members_view, view};
-ghost use Rattle.npm_candidates.specs.Asks.{ask_value};
 ghost use Rattle.npm_resolve.specs.Answers.{chosen_value};
+ghost use Rattle.npm_resolve.specs.ReasonValues.{culprit_value, text};
 ghost use Rattle.npm_resolve_reports.specs.Objects as Objects;
 
 use crate::Result;
-use crate::reasons_json::reasons_json;
+use crate::reasons_json::{reasons_json, text_json};
 use crate::text::has_document;
-use npm_resolve::{Ask, Chosen, Conflict, Document, Resolution};
+use npm_resolve::{Chosen, Conflict, Culprit, Document, Resolution};
 use npm_texts::{filled, put_text};
 use serde_json::{Map, Value, put};
 use std::alloc::Global;
@@ -99,27 +99,45 @@ fn conflict_json(alloc: Global, documents: &[Document], conflict: &Conflict<'_>)
 }
 
 /// The objects of all culprits.
-fn culprit_values(alloc: Global, documents: &[Document], asks: &[Ask<'_>]) -> Result<Vec<Value>>
-    ensures { IfOk result (λ values. map view values.items ≡ map (Objects.culprit_data documents.now) (map ask_value asks.now)) }
+fn culprit_values(
+    alloc: Global,
+    documents: &[Document],
+    culprits: &[Culprit<'_>],
+) -> Result<Vec<Value>>
+    ensures { IfOk result (λ values. map view values.items
+        ≡ map (Objects.culprit_data documents.now) (map culprit_value culprits.now)) }
 {
-    let mut values = Vec::with_capacity(alloc, asks.len())?;
-    for ask in asks {
-        values.push(culprit_json(alloc, documents, *ask)?)?;
+    let mut values = Vec::with_capacity(alloc, culprits.len())?;
+    for culprit in culprits {
+        values.push(culprit_json(alloc, documents, *culprit)?)?;
     }
     Ok(values)
 }
 
 /// The object of a culprit.
-fn culprit_json(alloc: Global, documents: &[Document], ask: Ask<'_>) -> Result<Value>
-    ensures { IfOk result (λ value. view value ≡ Objects.culprit_data documents.now (ask_value ask.entry)) }
+fn culprit_json(alloc: Global, documents: &[Document], culprit: Culprit<'_>) -> Result<Value>
+    ensures { IfOk result (λ value. view value ≡ Objects.culprit_data documents.now (culprit_value culprit.entry)) }
 {
+    let Culprit { ask, would_fit } = culprit;
+    let would_fit = fitting_json(alloc, would_fit)?;
     let mut members = Map::new(alloc);
     let has_document = has_document(documents, ask.name);
     put_bool(&mut members, alloc, "document", has_document)?;
     put_text(&mut members, alloc, "name", ask.name)?;
     put_bool(&mut members, alloc, "needed", ask.needed)?;
     put_text(&mut members, alloc, "spec", filled(ask.spec))?;
+    put(&mut members, alloc, "would_fit", would_fit)?;
     Ok(Value::Object(members))
+}
+
+/// The version that would fit, or `null` if there is none.
+fn fitting_json(alloc: Global, would_fit: Option<&str>) -> Result<Value>
+    ensures { IfOk result (λ value. view value ≡ Objects.fitting_data (option_map text would_fit.entry)) }
+{
+    match would_fit {
+        Some(key) => text_json(alloc, key),
+        None => Ok(Value::Null),
+    }
 }
 
 /// Adds a member whose value is `true` or `false`.

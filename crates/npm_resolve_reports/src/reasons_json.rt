@@ -186,7 +186,7 @@ fn spec_json(alloc: Global, spec: Option<&str>) -> Result<Value>
 }
 
 /// The JSON string of a text.
-fn text_json(alloc: Global, words: &str) -> Result<Value>
+pub(crate) fn text_json(alloc: Global, words: &str) -> Result<Value>
     ensures { IfOk result (λ value. view value ≡ string words.now) }
 {
     Ok(Value::String(String::from_str(alloc, words)?))

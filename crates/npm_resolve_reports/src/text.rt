@@ -1,8 +1,8 @@
 //! Lines for a person.
-ghost use Rattle.std.specs.Prelude.{◌≡◌, ◌++◌, IfOk, OnOk, map, string_bytes};
+ghost use Rattle.std.specs.Prelude.{◌≡◌, ◌++◌, IfOk, OnOk, map, option_map, string_bytes};
 ghost use Rattle.npm_candidates.specs.Asks.{ask_value};
 ghost use Rattle.npm_resolve.specs.Answers.{chosen_value};
-ghost use Rattle.npm_resolve.specs.ReasonValues.{reason_value};
+ghost use Rattle.npm_resolve.specs.ReasonValues.{culprit_value, reason_value};
 ghost use Rattle.npm_resolve_reports.specs.TextLines as TextLines;
 ghost use Rattle.npm_resolve_reports.specs.TextLines.{AreTextLines};
 ghost use Rattle.npm_resolve_reports.specs.Texts as Texts;
@@ -11,7 +11,7 @@ ghost use Rattle.npm_resolve_reports.specs.Texts.{AreTexts};
 use crate::Result;
 use crate::sentence::Sentence;
 use command_lines::push_shown;
-use npm_resolve::{Ask, Chosen, Conflict, Document, Reason, Resolution};
+use npm_resolve::{Ask, Chosen, Conflict, Culprit, Document, Reason, Resolution};
 use npm_texts::filled;
 use std::alloc::Global;
 
@@ -85,15 +85,30 @@ fn push_line(lines: &mut Vec<u8>, text: &str) -> Result<()>
     lines.extend_from_slice(b"\n")
 }
 
-/// What cannot be installed together, and why.
+/// What cannot be installed together, why, and what would fit.
 fn conflict_lines(alloc: Global, documents: &[Document], conflict: &Conflict<'_>) -> Result<Vec<u8>>
     ensures { IfOk result (λ lines. lines.items ≡ TextLines.conflict_lines documents.now conflict.now) }
 {
     let mut lines = culprit_lines(alloc, documents, &conflict.culprits)?;
-    if let Some(reasons) = &conflict.reasons {
-        push_reasons(alloc, &mut lines, documents, reasons)?;
-    }
+    push_known(alloc, &mut lines, documents, conflict.reasons.as_ref())?;
+    push_all_fitting(&mut lines, &conflict.culprits)?;
     Ok(lines)
+}
+
+/// Adds why it cannot be installed, if that is known.
+fn push_known(
+    alloc: Global,
+    lines: &mut Vec<u8>,
+    documents: &[Document],
+    reasons: Option<&Vec<Reason<'_>>>,
+) -> Result<()>
+    ensures { OnOk result (lines.new.items ≡ lines.old.items ++ TextLines.known_lines documents.now
+        (option_map (λ found. map reason_value found.now.items) reasons.entry)) }
+{
+    match reasons {
+        Some(reasons) => push_reasons(alloc, lines, documents, reasons),
+        None => Ok(()),
+    }
 }
 
 /// Adds why it cannot be installed.
@@ -128,17 +143,17 @@ fn push_reason(
 }
 
 /// What cannot be installed together.
-fn culprit_lines(alloc: Global, documents: &[Document], asks: &[Ask<'_>]) -> Result<Vec<u8>>
-    ensures { IfOk result (λ lines. lines.items ≡ Texts.culprit_lines documents.now (map ask_value asks.now)) }
+fn culprit_lines(alloc: Global, documents: &[Document], culprits: &[Culprit<'_>]) -> Result<Vec<u8>>
+    ensures { IfOk result (λ lines. lines.items ≡ Texts.culprit_lines documents.now (map culprit_value culprits.now)) }
 {
     let mut lines = Vec::new(alloc);
-    if asks.len() == 1 {
+    if culprits.len() == 1 {
         lines.extend_from_slice(b"This cannot be installed:\n")?;
     } else {
         lines.extend_from_slice(b"These cannot be installed together:\n")?;
     }
-    for ask in asks {
-        push_culprit(&mut lines, documents, *ask)?;
+    for culprit in culprits {
+        push_culprit(&mut lines, documents, culprit.ask)?;
     }
     Ok(lines)
 }
@@ -192,6 +207,36 @@ pub(crate) fn has_document(documents: &[Document], name: &str) -> bool
     documents
         .iter()
         .any(|document| document.name.as_str() == name)
+}
+
+/// Adds a line for each culprit with a version that would fit in its place.
+fn push_all_fitting(lines: &mut Vec<u8>, culprits: &[Culprit<'_>]) -> Result<()>
+    ensures { OnOk result (lines.new.items ≡ lines.old.items ++ Texts.fitting_lines (map culprit_value culprits.now)) }
+{
+    for culprit in culprits {
+        push_fitting(lines, *culprit)?;
+    }
+    Ok(())
+}
+
+/// Adds the line of a culprit, if a version would fit.
+fn push_fitting(lines: &mut Vec<u8>, culprit: Culprit<'_>) -> Result<()>
+    ensures { OnOk result (lines.new.items ≡ lines.old.items ++ Texts.fitting_line (culprit_value culprit.entry)) }
+{
+    match culprit.would_fit {
+        Some(key) => push_change(lines, culprit.ask.name, key),
+        None => Ok(()),
+    }
+}
+
+/// Adds the line of a version that would fit.
+fn push_change(lines: &mut Vec<u8>, name: &str, key: &str) -> Result<()>
+    ensures { OnOk result (lines.new.items ≡ lines.old.items ++ Texts.change_line name.now key.now) }
+{
+    push_shown(lines, name)?;
+    lines.extend_from_slice(b" ")?;
+    push_shown(lines, key)?;
+    lines.extend_from_slice(b" would fit, outside the range.\n")
 }
 
 /// What is said if it takes too long to find what cannot be installed together.

@@ -30,8 +30,8 @@
 #define OVERRIDDEN(text) "{\"dependencies\":{\"react-hot\":\"*\"},\"overrides\":{" text "}}"
 #define PACKAGE(name, version) "{\"name\":\"" name "\",\"package\":\"" name "\",\"version\":\"" version "\"}"
 #define SELECTED(packages) "{\"outcome\":\"selected\",\"packages\":[" packages "]}"
-#define CULPRIT(document, name, spec)                                                                                  \
-    "{\"document\":" document ",\"name\":\"" name "\",\"needed\":true,\"spec\":\"" spec "\"}"
+#define CULPRIT(document, name, spec, would_fit)                                                                       \
+    "{\"document\":" document ",\"name\":\"" name "\",\"needed\":true,\"spec\":\"" spec "\",\"would_fit\":" would_fit "}"
 #define CULPRITS(culprits) "\"culprits\":[" culprits "]"
 
 /* Versions with dependencies, an engine and a deprecated version. */
@@ -95,8 +95,17 @@ static const struct row ROWS[] = {
     {TEXT(ASKS("\"react-hot\":\"*\"")), TEXT(DOCUMENTS), NO_OPTIONS, NPM_RESOLVE_OK,
      SELECTED(PACKAGE("react-hot", "4.0.0") "," PACKAGE("react", "17.0.2"))},
     {TEXT(ASKS("\"react\":\"^18\",\"react-hot\":\"^4\"")), TEXT(DOCUMENTS), NO_OPTIONS, NPM_RESOLVE_OK,
-     CULPRITS(CULPRIT("true", "react", "^18") "," CULPRIT("true", "react-hot", "^4"))},
-    {TEXT(ASKS("\"gone\":\"\"")), TEXT(DOCUMENTS), NO_OPTIONS, NPM_RESOLVE_OK, CULPRITS(CULPRIT("false", "gone", "*"))},
+     CULPRITS(CULPRIT("true", "react", "^18", "\"17.0.2\"") "," CULPRIT("true", "react-hot", "^4", "\"5.0.0\""))},
+    {TEXT(ASKS("\"react\":\"^20\",\"react-hot\":\"*\"")), TEXT(DOCUMENTS), NO_OPTIONS, NPM_RESOLVE_OK,
+     CULPRITS(CULPRIT("true", "react", "^20", "\"18.2.0\""))},
+    {TEXT(ASKS("\"react\":\"^20\",\"react-hot\":\"*\"")), TEXT(DOCUMENTS), LOWEST, NPM_RESOLVE_OK,
+     CULPRITS(CULPRIT("true", "react", "^20", "\"17.0.2\""))},
+    {TEXT(ASKS("\"old\":\"npm:react@^20\"")), TEXT(DOCUMENTS), NO_OPTIONS, NPM_RESOLVE_OK,
+     CULPRITS(CULPRIT("true", "old", "npm:react@^20", "\"18.2.0\""))},
+    {TEXT(ASKS("\"react\":\"^20\",\"react-hot\":\"^6\"")), TEXT(DOCUMENTS), NO_OPTIONS, NPM_RESOLVE_OK,
+     "\"would_fit\":null}],\"outcome\":\"none\""},
+    {TEXT(ASKS("\"gone\":\"\"")), TEXT(DOCUMENTS), NO_OPTIONS, NPM_RESOLVE_OK,
+     CULPRITS(CULPRIT("false", "gone", "*", "null"))},
     {TEXT(ASKS("\"react\":\"*\"")), TEXT(DOCUMENTS), TAG("old"), NPM_RESOLVE_OK, SELECTED(PACKAGE("react", "17.0.2"))},
     {TEXT(ASKS("\"react\":\"*\"")), TEXT(DOCUMENTS), BEFORE("2021-06-01T00:00:00Z"), NPM_RESOLVE_OK,
      SELECTED(PACKAGE("react", "17.0.2"))},
@@ -111,16 +120,18 @@ static const struct row ROWS[] = {
     {TEXT(ASKS("\"react\":\"file:react\"")), TEXT(DOCUMENTS), NO_OPTIONS, NPM_RESOLVE_OK, SELECTED("")},
     {TEXT(GROUPS), TEXT(DOCUMENTS), OMIT(true, true, true), NPM_RESOLVE_OK, SELECTED("")},
     {TEXT(GROUPS), TEXT(DOCUMENTS), OMIT(true, false, true), NPM_RESOLVE_OK, SELECTED(PACKAGE("react-hot", "4.0.0"))},
-    {TEXT(GROUPS), TEXT(DOCUMENTS), OMIT(true, true, false), NPM_RESOLVE_OK, CULPRITS(CULPRIT("false", "gone", "*"))},
+    {TEXT(GROUPS), TEXT(DOCUMENTS), OMIT(true, true, false), NPM_RESOLVE_OK,
+     CULPRITS(CULPRIT("false", "gone", "*", "null"))},
     {TEXT(THREE), TEXT(DOCUMENTS), NO_OPTIONS, NPM_RESOLVE_OK, SELECTED(PACKAGE("react", "17.0.2"))},
     {TEXT("{}"), TEXT("{}"), NO_OPTIONS, NPM_RESOLVE_OK, SELECTED("")},
     {TEXT(ASKS("\"react\":\"*\"")), TEXT(DOCUMENTS), STEPS(0), NPM_RESOLVE_OK, "{\"outcome\":\"undecided\"}"},
     {TEXT(ASKS("\"a\":\"*\"")), TEXT(ODD), NO_OPTIONS, NPM_RESOLVE_OK,
      SELECTED(PACKAGE("a", "1.0.0") "," PACKAGE("b", "2.0.0"))},
-    {TEXT(ASKS("\"self\":\"1\"")), TEXT(ODD), NO_OPTIONS, NPM_RESOLVE_OK, CULPRITS(CULPRIT("true", "self", "1"))},
+    {TEXT(ASKS("\"self\":\"1\"")), TEXT(ODD), NO_OPTIONS, NPM_RESOLVE_OK,
+     CULPRITS(CULPRIT("true", "self", "1", "\"2.0.0\""))},
     {TEXT(ASKS("\"self\":\"*\"")), TEXT(ODD), NO_OPTIONS, NPM_RESOLVE_OK, SELECTED(PACKAGE("self", "2.0.0"))},
-    {TEXT(ASKS("\"none\":\"*\"")), TEXT(ODD), NO_OPTIONS, NPM_RESOLVE_OK, CULPRITS(CULPRIT("true", "none", "*"))},
-    {TEXT(ASKS("\"seven\":\"*\"")), TEXT(ODD), NO_OPTIONS, NPM_RESOLVE_OK, CULPRITS(CULPRIT("true", "seven", "*"))},
+    {TEXT(ASKS("\"none\":\"*\"")), TEXT(ODD), NO_OPTIONS, NPM_RESOLVE_OK, CULPRITS(CULPRIT("true", "none", "*", "null"))},
+    {TEXT(ASKS("\"seven\":\"*\"")), TEXT(ODD), NO_OPTIONS, NPM_RESOLVE_OK, CULPRITS(CULPRIT("true", "seven", "*", "null"))},
     {TEXT(ASKS("\"\\u0001\":\"*\"")), TEXT(ODD), NO_OPTIONS, NPM_RESOLVE_OK, SELECTED(PACKAGE("\\u0001", "1.0.0"))},
     {TEXT("7"), TEXT("{}"), NO_OPTIONS, NPM_RESOLVE_INVALID_MANIFEST, ""},
     {TEXT("{\"dependencies\":7}"), TEXT("{}"), NO_OPTIONS, NPM_RESOLVE_INVALID_MANIFEST, ""},
@@ -140,7 +151,7 @@ static const struct row ROWS[] = {
     {TEXT(ASKS("\"a\":\"*\"")), TEXT(TREE), NO_OPTIONS, NPM_RESOLVE_OK, SELECTED(PACKAGE("a", "1.1.0"))},
     {TEXT(ASKS("\"a\":\"*\"")), TEXT(TREE), FLAT, NPM_RESOLVE_OK, SELECTED(PACKAGE("a", "1.1.0") "," PACKAGE("b", "1.1.0"))},
     {TEXT(ASKS("\"c\":\"*\"")), TEXT(TREE), NO_OPTIONS, NPM_RESOLVE_OK, SELECTED(PACKAGE("c", "1.0.0"))},
-    {TEXT(ASKS("\"c\":\"*\"")), TEXT(TREE), FLAT, NPM_RESOLVE_OK, CULPRITS(CULPRIT("true", "c", "*"))},
+    {TEXT(ASKS("\"c\":\"*\"")), TEXT(TREE), FLAT, NPM_RESOLVE_OK, CULPRITS(CULPRIT("true", "c", "*", "null"))},
     {TEXT(ASKS("\"a\":\"*\"")), TEXT(TREE), LOWEST, NPM_RESOLVE_OK, SELECTED(PACKAGE("a", "1.0.0"))},
     {TEXT(ASKS("\"a\":\"*\"")), TEXT(TREE), FLAT_LOWEST, NPM_RESOLVE_OK,
      SELECTED(PACKAGE("a", "1.0.0") "," PACKAGE("b", "1.0.0"))},
@@ -158,7 +169,7 @@ static const struct row ROWS[] = {
     {TEXT(ASKS("\"a\":\"*\"")), TEXT(TREE), FLAT_STEPS(0), NPM_RESOLVE_OK, "{\"outcome\":\"undecided\"}"},
     {TEXT(ASKS("\"a\":\"*\"")), TEXT(TREE), AS_LOCK_BY_LOCK(LOCK(LOCKED("a", "1.0.0"))), NPM_RESOLVE_OK, A_LOCK},
     {TEXT(ASKS("\"a\":\"*\"")), TEXT(TREE), AS_LOCK_STEPS(0), NPM_RESOLVE_OK, "{\"outcome\":\"undecided\"}"},
-    {TEXT(ASKS("\"c\":\"*\"")), TEXT(TREE), AS_LOCK, NPM_RESOLVE_OK, CULPRITS(CULPRIT("true", "c", "*"))},
+    {TEXT(ASKS("\"c\":\"*\"")), TEXT(TREE), AS_LOCK, NPM_RESOLVE_OK, CULPRITS(CULPRIT("true", "c", "*", "null"))},
     {TEXT("{}"), TEXT("{}"), AS_LOCK, NPM_RESOLVE_OK,
      "{\n  \"lockfileVersion\": 3,\n  \"packages\": {\n    \"\": {}\n  },\n  \"requires\": true\n}\n"},
     {TEXT("{}"), TEXT("{}"), AS_LOCK_NOT_FLAT, NPM_RESOLVE_NOT_FLAT, ""},

@@ -47,13 +47,16 @@ class Chosen(typing.TypedDict):
 class Culprit(typing.TypedDict):
     """A dependency that cannot be installed together with the others. Without any one of them the others can.
 
-    `needed` is false for an optional peer, which only limits; `document` says whether there is a document of this name.
+    `needed` is false for an optional peer, which only limits; `document` says whether there is a document of this name. `would_fit` is
+    the first version of the name, outside the range of the spec, with which all else that the manifest asks for can be met: None if there
+    is none, or if it takes more steps to find it.
     """
 
     name: str
     spec: str
     needed: bool
     document: bool
+    would_fit: str | None
 
 
 class Wish(typing.TypedDict):
@@ -221,8 +224,8 @@ def resolve(
     >>> [(one['name'], one['version']) for one in answer['packages']]
     [('hot', '4.0.0'), ('react', '17.0.2')]
     >>> answer = resolve({'dependencies': {'hot': '*', 'react': '18'}}, documents)
-    >>> answer['outcome'], [one['name'] for one in answer['culprits']]
-    ('none', ['hot', 'react'])
+    >>> answer['outcome'], [(one['name'], one['would_fit']) for one in answer['culprits']]
+    ('none', [('hot', None), ('react', '17.0.2')])
     >>> answer = resolve({'dependencies': {'hot': '*'}}, documents, flat=True, lockfile=True)
     >>> '"node_modules/react"' in answer['lockfile']
     True

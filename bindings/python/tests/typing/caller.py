@@ -79,5 +79,6 @@ if answer["outcome"] == "selected":
     names: List[str] = [f"{one['name']}@{one['version']}" for one in answer["packages"]]
 elif answer["outcome"] == "none":
     specs: List[str] = [one["spec"] for one in answer["culprits"] or []]
+    changes: List[Optional[str]] = [one["would_fit"] for one in answer["culprits"] or []]
 locked: LockResolution = resolve("{}", {}, flat=True, lowest=True, node="v20.1.0", lock={"lockfileVersion": 3}, lockfile=True)
 lock: str = locked["lockfile"] if locked["outcome"] == "selected" else ""

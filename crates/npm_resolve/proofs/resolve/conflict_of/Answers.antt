@@ -4,4 +4,4 @@ use Rattle.npm_resolve.proofs.resolve.conflict_of.Goals as goal
 pub culprits_of-requires-clause-within : goal.culprits_of-requires-clause-within
 culprits_of-requires-clause-within c =
     let culprits = rw c.in-Some.is at c.in_ok-demands.ensures.culprits in
-    rw c.deref-in-Some-2.ensures.value culprits.within
+    rw c.deref-in-Some.ensures.value culprits.within

@@ -7,7 +7,7 @@ use Rattle.std.proofs.lemmas.List.Elements.{All-contains, All-weaker}
 use Rattle.std.proofs.lemmas.Result.{IfOk-weaker}
 use Rattle.version_solving.specs.Culprits.{AreCulprits, with_root}
 use Rattle.version_solving.specs.Documents.{problem_of}
-use Rattle.version_solving.specs.Solving.{NoneFits, Problem}
+use Rattle.version_solving.specs.Solving.{Problem}
 use Rattle.version_solving.specs.declared.demand.Demand.{Demand}
 use Rattle.solving_reasons.specs.Named.{AreTooMany}
 use Rattle.npm_resolve.proofs.resolve.culprits_in.Goals as goal

@@ -126,9 +126,9 @@ fn selected(alloc: Global, chosen: &[Chosen<'_>]) -> Result<String, AllocError> 
     Ok(text)
 }
 
-fn none(alloc: Global, blamed: &[Culprit<'_>]) -> Result<String, AllocError> {
+fn none(alloc: Global, culprits: &[Culprit<'_>]) -> Result<String, AllocError> {
     let mut text = String::from_str(alloc, "none")?;
-    for culprit in blamed {
+    for culprit in culprits {
         let shown = format!(in alloc; "\t{}:{}", culprit.ask.name, culprit.ask.spec)?;
         text.push_str(&shown)?;
     }

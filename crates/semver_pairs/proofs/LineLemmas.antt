@@ -13,7 +13,7 @@ use Rattle.std.proofs.lemmas.Bool.{cases_Bool}
 use Rattle.std.proofs.lemmas.List.{take_rest}
 use Rattle.memchr.specs.Find.{IsFirstByte, NoneBefore, Nowhere, Passes, TakesFirst, first_of, is_byte, places}
 use Rattle.memchr.proofs.lemmas.ValueLemmas.{IsFirstByte-value}
-use Rattle.semver_versions.specs.ErrorLocation.{newline}
+use Rattle.semver_texts.specs.Characters.{newline}
 use Rattle.semver_pairs.specs.Lines.{divided, joined, with_byte, with_line}
 use Rattle.semver_pairs.specs.Private.Splitting.{BeginsWithLine, HasNoNewline}
 use Rattle.semver_pairs.proofs.AsciiLemmas.{ascii-before, ascii-past}

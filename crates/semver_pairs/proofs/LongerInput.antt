@@ -4,7 +4,7 @@ use Rattle.std.proofs.Common.{◌∙◌, append_assoc}
 use Rattle.std.specs.Prelude.{map}
 use Rattle.std.specs.Str.Lines.{strip_carriage_return}
 use Rattle.std.proofs.lemmas.List.{map-append}
-use Rattle.semver_versions.specs.ErrorLocation.{newline}
+use Rattle.semver_texts.specs.Characters.{newline}
 use Rattle.semver_pairs.specs.Lines.{Lines, divided, rest_line, with_byte, with_line}
 use Rattle.semver_pairs.specs.Output.{AreAnswers, BeginsAnswers}
 use Rattle.semver_pairs.specs.Pairs.{Pair, both, lines_read, pairs_of, pairs_read}

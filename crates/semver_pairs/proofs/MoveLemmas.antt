@@ -3,7 +3,7 @@ use Rattle.std.proofs.Common.{◌≡◌, ◌≢◌, ℕ, List, [], ◌∷◌, �
 use Rattle.std.proofs.Common.{append-nil}
 use Rattle.std.specs.Io.KnownBytes.{Appends}
 use Rattle.std.specs.Str.Lines.{strip_carriage_return}
-use Rattle.semver_versions.specs.ErrorLocation.{newline}
+use Rattle.semver_texts.specs.Characters.{newline}
 use Rattle.semver_pairs.specs.declared.open_pair.OpenPair.{OpenPair}
 use Rattle.semver_pairs.specs.GaugeValue.{GaugeValue}
 use Rattle.semver_pairs.specs.Output.{AreAnswers}

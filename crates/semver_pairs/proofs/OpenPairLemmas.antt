@@ -1,7 +1,7 @@
 -- The pair that is not wholly read.
 use Rattle.std.proofs.Common.{◌≡◌, ℕ, List, [], ◌∷◌, ◌++◌, true, false, ap, refl, subst, sym, ◌∙◌, append_assoc}
 use Rattle.std.specs.Str.Lines.{strip_carriage_return}
-use Rattle.semver_versions.specs.ErrorLocation.{newline}
+use Rattle.semver_texts.specs.Characters.{newline}
 use Rattle.semver_pairs.specs.declared.open_pair.OpenPair.{OpenPair}
 use Rattle.semver_pairs.specs.Pairs.{pairs_read}
 use Rattle.semver_pairs.specs.Private.OpenPair.{IsOpen, open_bytes}

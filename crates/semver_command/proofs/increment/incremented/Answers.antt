@@ -11,4 +11,4 @@ returns-in-Ok-clause-version c = raised_version c.args.bump (text_value c.args.i
 pub returns-clause-version : goal.returns-clause-version
 returns-clause-version c = no_version c.args.bump (text_value c.args.identifier) c.args.base c.args.version.now
     c.as_ref.result c.in_ok-given.given c.in-Err.error OutOfMemory c.as_ref.ensures.value c.in_ok-given.ensures.given
-    c.in-Err.ensures.refused c.in_ok-refused-in-Err.ensures.refused
+    c.in-Err.ensures.refused c.in_ok-stop_without_memory-in-Err.ensures.refused

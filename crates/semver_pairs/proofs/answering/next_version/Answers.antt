@@ -1,6 +1,6 @@
 use Rattle.std.proofs.Common.{◌∷◌, suc, subst}
 use Rattle.std.specs.Str.{IsAscii}
-use Rattle.semver_versions.specs.ErrorLocation.{newline}
+use Rattle.semver_texts.specs.Characters.{newline}
 use Rattle.semver_pairs.proofs.AsciiLemmas.{ascii-past}
 use Rattle.semver_pairs.proofs.answering.next_version.Goals as goal
 

@@ -169,7 +169,11 @@ impl Admitting {
         match self.call {
             AdmittingCall::Satisfies => satisfies(&self.range, &self.version, self.text.as_str()),
             AdmittingCall::Contains => contains(&self.range, &self.version, self.text.as_str()),
-            AdmittingCall::ReadAnew => satisfies_text(alloc, self.range_text.as_str(), &self.version),
+            AdmittingCall::ReadAnew => satisfies_text(
+                alloc,
+                self.range_text.as_str(),
+                &self.version,
+            ),
         }
     }
 }

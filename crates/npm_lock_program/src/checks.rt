@@ -10,6 +10,7 @@ mod kinds;
 mod list_name;
 mod output;
 mod run_error;
+mod sound;
 mod sync;
 mod wanted;
 mod workspace_problems;

@@ -1,8 +1,7 @@
 -- Why the values of a lock file, of a manifest and of advisories are refused: one of them has a fault, or memory ran
 -- out.
-use Rattle.std.specs.Prelude.{◌≡◌, ◌⊎◌, ℕ, List, Option, None, Some, option_map, string_bytes}
+use Rattle.std.specs.Prelude.{◌≡◌, ◌⊎◌, ℕ, List, Option, Some, option_map, string_bytes}
 use Rattle.serde_json.specs.Data.{Data}
-use Rattle.npm_packages.specs.Faults.{lock_fault}
 use Rattle.npm_lock.specs.Mismatches.{manifest_fault}
 use Rattle.npm_lock.specs.VersionOne.{converted}
 use Rattle.npm_packages.specs.declared.fault.Fault.{Fault}
@@ -49,10 +48,6 @@ abbrev pub IsLockRefused : (text : List ℕ) → (placed : Data) → (manifest :
 IsLockRefused text placed manifest error =
     ((found : FaultPlace) × (error ≡ NoLockFile found) × IsNoLockFile text placed manifest found) ⊎ (error ≡ Memory)
 
--- the lock file that is checked, which has no fault
-abbrev pub IsCheckRefused : (checked : Data) → RunError → Type 0
-IsCheckRefused checked error = lock_fault checked ≡ None → error ≡ Memory
-
 -- the name and the id of the advisory with this fault
 abbrev pub IsNameOf : FaultValue → ListName → Type 0
 IsNameOf fault name = (string_bytes name.text ≡ fault.name)
@@ -70,10 +65,9 @@ AreAdvisoriesRefused checked advisories text error = (kind : FaultKind) × (name
     × (shown : ShownPlace) × (error ≡ NoAdvisories kind name place shown)
     × AreNoAdvisories checked advisories text kind name place shown
 
--- the advisories, or the lock file for them
+-- the advisories beside a lock file without a fault
 abbrev pub IsAuditRefused : (checked : Data) → (advisories : Option Data) → (text : List ℕ) → RunError → Type 0
-IsAuditRefused checked advisories text error =
-    AreAdvisoriesRefused checked advisories text error ⊎ IsCheckRefused checked error
+IsAuditRefused checked advisories text error = AreAdvisoriesRefused checked advisories text error ⊎ (error ≡ Memory)
 
 -- any of them
 abbrev pub IsRefused : (text : List ℕ) → (lock placed : Data) → (linked : List LinkedValue) → WantedValue → RunError

@@ -1,15 +1,12 @@
 //! The check of one lock file.
-ghost use Rattle.std.specs.Prelude.{◌≡◌, List, ℕ, IfErr, IfOk, None, OnOk, filter, map, not, option_map};
+ghost use Rattle.std.specs.Prelude.{◌≡◌, List, ℕ, IfErr, IfOk, filter, map, not};
 ghost use Rattle.std.specs.Fn.{FnOnceReturnsAt};
 ghost use Rattle.serde_json.specs.View.{view};
-ghost use Rattle.npm_packages.specs.Faults.{lock_fault};
-ghost use Rattle.npm_lock.specs.Findings.{IsChecked};
-ghost use Rattle.npm_lock.specs.VersionOne.{any_fault, converted};
 ghost use Rattle.npm_advisories.specs.Audit.{FoundValue};
 ghost use Rattle.npm_lock_program.specs.Kinds.{has};
 ghost use Rattle.npm_lock_program.specs.Check.{IsReported, IsStopped};
 ghost use Rattle.npm_lock_program.specs.Written.{IsOutput};
-ghost use Rattle.npm_lock_program.specs.Private.Refusals.{IsCheckRefused, IsLockRefused, IsRefused};
+ghost use Rattle.npm_lock_program.specs.Private.Refusals.{IsRefused};
 ghost use Rattle.npm_lock_program.specs.Report.{AreLeft, IsReportOf, manifests_of, placed};
 ghost use Rattle.npm_lock_program.specs.Report.{wanted_value};
 ghost use Rattle.npm_manifest_files.specs.Linked.{loaded_value, workspace_value};
@@ -18,17 +15,17 @@ use crate::checks::hits::counted_of;
 use crate::checks::kinds::Kinds;
 use crate::checks::output::Output;
 use crate::checks::run_error::{RunError, StopError};
+use crate::checks::sound::{converted, sound_lock};
 use crate::checks::sync::{all_unread, compare, is_compared, load_compared};
 use crate::checks::wanted::Wanted;
 use crate::checks::workspace_problems::add_workspaces;
 use crate::checks::written::output_of;
 use command_lines::{Watched, read_json_with_text};
-use npm_lock::{CheckError, Problem, Problems, check, convert};
-use npm_lock_faults::{FaultPlace, lock_fault_place};
+use npm_lock::{Problem, Problems, SoundLock, check_sound_lock};
 use npm_lock_reports::{CountedHits, Report, count_of, leave_out_omitted};
 use npm_manifest_files::{LoadError, Loaded, Workspace};
 use serde_json::Value;
-use std::alloc::Global;
+use std::alloc::{AllocError, Global};
 use std::io::Read;
 
 /// Reads a lock file to the end, and returns its report and its output: the mismatches of the manifests, the problems but those of
@@ -96,11 +93,17 @@ fn report_of<'f>(
     let compared = is_compared(&lock, wanted.manifest);
     let mut lock = lock;
     let mismatches = compare(alloc, &mut lock, linked, wanted)?;
-    refuse(alloc, &lock, text, wanted.manifest)?;
-    let lock = converted(alloc, lock, wanted.manifest)?;
+    let lock = converted(alloc, lock, text, wanted.manifest)?;
+    let sound = match sound_lock(alloc, &lock, text) {
+        Ok(sound) => sound,
+        Err(error) => return Err(error),
+    };
     let unread = all_unread(&lock, unread)?;
-    let problems = problems_of(alloc, &lock, &workspaces, wanted)?;
-    let CountedHits { found, excepted } = match counted_of(alloc, &lock, wanted) {
+    let problems = match problems_of(alloc, &sound, &workspaces, wanted) {
+        Ok(problems) => problems,
+        Err(_) => return Err(RunError::Memory),
+    };
+    let CountedHits { found, excepted } = match counted_of(alloc, &sound, wanted) {
         Ok(counted) => counted,
         Err(error) => return Err(error),
     };
@@ -116,86 +119,28 @@ fn report_of<'f>(
         omitted: count_of(wanted.omissions, &lock),
         listed: wanted.unchecked,
     };
+    // While the output is made, the index takes no memory.
+    drop(sound);
     match output_of(alloc, text, &report, &found, wanted) {
         Ok(output) => Ok((report, output)),
         Err(_) => Err(RunError::Memory),
     }
 }
 
-/// Fails if the lock file with this text has a fault, or the manifest beside one of version 1.
-fn refuse(alloc: Global, lock: &Value, text: &str, manifest: Option<&Value>) -> Result<(), RunError>
-    ensures sound { OnOk result
-        (any_fault (view lock.now) (option_map (λ manifest. view manifest.now) manifest.entry) ≡ None) }
-    ensures refused { IfErr result
-        (IsLockRefused text.now (view lock.now) (option_map (λ manifest. view manifest.now) manifest.entry)) }
-{
-    match lock_fault_place(alloc, text, lock, manifest) {
-        Ok(None) => Ok(()),
-        Ok(Some(found)) => Err(RunError::NoLockFile(found)),
-        Err(_) => Err(RunError::Memory),
-    }
-}
-
-/// The lock file as one with `packages`, whose root is the manifest if it is of version 1.
-fn converted(alloc: Global, lock: Value, manifest: Option<&Value>) -> Result<Value, RunError>
-    ensures made { IfOk result (λ made. view made
-        ≡ converted (view lock) (option_map (λ manifest. view manifest.now) manifest.entry)) }
-    ensures sound { OnOk result
-        (lock_fault (converted (view lock) (option_map (λ manifest. view manifest.now) manifest.entry))
-        ≡ any_fault (view lock) (option_map (λ manifest. view manifest.now) manifest.entry)) }
-    ensures memory { IfErr result (λ error.
-        any_fault (view lock) (option_map (λ manifest. view manifest.now) manifest.entry) ≡ None
-        → error ≡ RunError.Memory) }
-{
-    match convert(alloc, lock, manifest) {
-        Ok(made) => Ok(made),
-        Err(CheckError::Refused(fault)) => Err(RunError::NoLockFile(FaultPlace::of_file(
-            alloc, fault,
-        ))),
-        Err(CheckError::Memory) => Err(RunError::Memory),
-    }
-}
-
 /// The problems of workspaces that were found on disk, and those of a lock file, but those of ignored kinds and of what is left out.
 fn problems_of(
     alloc: Global,
-    lock: &Value,
+    lock: &SoundLock<'_>,
     workspaces: &[Workspace],
     wanted: Wanted<'_, '_>,
-) -> Result<Problems, RunError>
-    ensures found { IfOk result (AreLeft (view lock.now) (map workspace_value workspaces.now)
+) -> Result<Problems, AllocError>
+    ensures { IfOk result (AreLeft (view lock.now) (map workspace_value workspaces.now)
         (wanted_value wanted.entry)) }
-    ensures refused { IfErr result (IsCheckRefused (view lock.now)) }
 {
-    match check(alloc, lock, wanted.node) {
-        Ok(problems) => problems_left(alloc, problems, lock, workspaces, wanted),
-        Err(CheckError::Refused(fault)) => Err(RunError::NoLockFile(FaultPlace::of_file(
-            alloc, fault,
-        ))),
-        Err(CheckError::Memory) => Err(RunError::Memory),
-    }
-}
-
-/// These problems after those of workspaces, without those of ignored kinds and those of what is left out.
-fn problems_left(
-    alloc: Global,
-    all: Problems,
-    lock: &Value,
-    workspaces: &[Workspace],
-    wanted: Wanted<'_, '_>,
-) -> Result<Problems, RunError>
-    requires { IsChecked (view lock.now) (wanted_value wanted).node all }
-    ensures found { IfOk result (AreLeft (view lock.now) (map workspace_value workspaces.now)
-        (wanted_value wanted.entry)) }
-    ensures memory { IfErr result (λ error. error ≡ RunError.Memory) }
-{
-    let mut problems = all;
-    match add_workspaces(alloc, &mut problems.list, lock, workspaces) {
-        Ok(()) => {}
-        Err(_) => return Err(RunError::Memory),
-    }
+    let mut problems = check_sound_lock(lock, wanted.node)?;
+    add_workspaces(alloc, &mut problems.list, lock.file(), workspaces)?;
     leave_out(&mut problems.list, wanted.ignored);
-    leave_out_omitted(&mut problems, lock, wanted.omissions);
+    leave_out_omitted(&mut problems, lock.file(), wanted.omissions);
     Ok(problems)
 }
 

@@ -14,8 +14,9 @@ use crate::checks::list_name::ListName;
 use crate::checks::run_error::RunError;
 use crate::checks::wanted::Wanted;
 use json_places::Path;
-use npm_advisories::{AdvisoryId, Fault, Found, LockError, audit_lock, fault_steps};
-use npm_lock_faults::{FaultPlace, ShownPlace};
+use npm_advisories::{AdvisoryId, AuditError, Fault, Found, audit_sound_lock, fault_steps};
+use npm_lock::SoundLock;
+use npm_lock_faults::ShownPlace;
 use npm_lock_reports::{CountedHits, counted_hits};
 use serde_json::Value;
 use std::alloc::{AllocError, Global};
@@ -23,7 +24,7 @@ use std::alloc::{AllocError, Global};
 /// Returns what counts of the hits of a lock file, and what is excepted.
 pub(crate) fn counted_of<'f, 'v>(
     alloc: Global,
-    lock: &'v Value,
+    lock: &SoundLock<'v>,
     wanted: Wanted<'f, '_>,
 ) -> Result<CountedHits<'f, 'v>, RunError>
     ensures found { IfOk result (λ counted. AreCounted (view lock.now) (wanted_value wanted.entry) (counted_value counted)) }
@@ -34,7 +35,13 @@ pub(crate) fn counted_of<'f, 'v>(
         Ok(found) => found,
         Err(error) => return Err(error),
     };
-    match counted_hits(alloc, found, lock, wanted.omissions, wanted.exceptions) {
+    match counted_hits(
+        alloc,
+        found,
+        lock.file(),
+        wanted.omissions,
+        wanted.exceptions,
+    ) {
         Ok(counted) => Ok(counted),
         Err(_) => Err(RunError::Memory),
     }
@@ -43,7 +50,7 @@ pub(crate) fn counted_of<'f, 'v>(
 /// The installed packages that an advisory hits which is not less severe than the level.
 fn hits_of<'f, 'v>(
     alloc: Global,
-    lock: &'v Value,
+    lock: &SoundLock<'v>,
     wanted: Wanted<'f, '_>,
 ) -> Result<Vec<Found<'f, 'v>>, RunError>
     ensures found { IfOk result (λ found. AreHit (view lock.now) (wanted_value wanted.entry).advisories
@@ -54,17 +61,16 @@ fn hits_of<'f, 'v>(
     let Some(file) = wanted.advisories else {
         return Ok(Vec::new(alloc));
     };
-    match audit_lock(alloc, file, wanted.level, lock) {
+    match audit_sound_lock(file, wanted.level, lock) {
         Ok(found) => Ok(found),
-        Err(LockError::Lock(fault)) => Err(RunError::NoLockFile(FaultPlace::of_file(alloc, fault))),
-        Err(LockError::Advisories(fault)) => Err(no_advisories(
+        Err(AuditError::Refused(fault)) => Err(no_advisories(
             alloc,
             file,
             wanted.advisories_text,
-            lock,
+            lock.file(),
             fault,
         )),
-        Err(LockError::Memory) => Err(RunError::Memory),
+        Err(AuditError::Memory) => Err(RunError::Memory),
     }
 }
 

@@ -1,12 +1,16 @@
--- A lock file without a fault is not refused.
-use Rattle.std.proofs.Common.{◌≡◌, ◌∙◌, Some, ap, Err}
-use Rattle.serde_json.specs.View.{view}
-use Rattle.npm_packages.specs.Faults.{lock_fault}
+-- The problems of workspaces come first, and those of ignored kinds and of what is omitted are left out.
 use Rattle.npm_lock_program.proofs.checks.check.problems_of.Goals as goal
 
-pub returns-in-Err-Refused-clause-refused : goal.returns-in-Err-Refused-clause-refused
-returns-in-Err-Refused-clause-refused c =
-    let told : lock_fault (view c.args.lock.now) ≡ Some c.in-Err-Refused.fault =
-    (c.check.ensures.refused c.in-Err-Refused.fault).0
-    (c.in-Err-Refused.is ∙ ap Err c.in-Err-Refused.field-0-is) in
-    λ none. cc
+pub returns : goal.returns
+returns c =
+    let added = rw c.file.ensures.file at c.in_ok-add_workspaces.ensures in
+    record {
+      first = added.0;
+      of_workspaces = added.1;
+      all = c.in_ok-problems.problems;
+      found = c.in_ok-problems.ensures;
+      left = rw (rw added.2 at c.leave_out.ensures, c.file-2.ensures.file) at c.leave_out_omitted.ensures.problems;
+      packages = c.leave_out_omitted.ensures.packages;
+      dependencies = c.leave_out_omitted.ensures.dependencies;
+      unchecked = rw c.file-2.ensures.file at c.leave_out_omitted.ensures.unchecked;
+    }

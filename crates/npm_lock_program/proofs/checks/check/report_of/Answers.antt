@@ -1,10 +1,10 @@
 -- The lock file is refused, or the report is made of its parts.
-use Rattle.std.proofs.Common.{◌∙◌, inl, inr, map, refl, sym}
+use Rattle.std.proofs.Common.{◌∙◌, inl, map, refl, sym}
 use Rattle.serde_json.specs.View.{view}
 use Rattle.npm_advisories.specs.Audit.{found_value}
 use Rattle.npm_manifest_files.specs.Linked.{loaded_value}
 use Rattle.npm_lock_program.specs.Report.{manifests_of, placed, wanted_value}
-use Rattle.npm_lock_program.proofs.Auditing.{length_same, refused_audit, refused_check, refused_lock, some_same}
+use Rattle.npm_lock_program.proofs.Auditing.{length_same, refused_audit, refused_lock, refused_sound, some_same}
 use Rattle.npm_lock_program.proofs.Stopping.{passed_on}
 use Rattle.npm_lock_program.proofs.checks.check.report_of.Goals as goal
 
@@ -13,54 +13,47 @@ returns-in_err-mismatches-clause-refused c =
     passed_on c.from_residual.result _ _ c.from_residual.ensures.1
     (λ error same. rw same (inl c.in_err-mismatches.ensures.refused))
 
-pub returns-in_err-refuse-clause-refused : goal.returns-in_err-refuse-clause-refused
-returns-in_err-refuse-clause-refused c =
+pub returns-in_err-lock-clause-refused : goal.returns-in_err-lock-clause-refused
+returns-in_err-lock-clause-refused c =
     let told = refused_lock c.args.text.now (view c.args.lock) (placed (view c.args.lock)
     (manifests_of (wanted_value c.args.wanted).manifest (loaded_value c.args.loaded).linked))
     (loaded_value c.args.loaded).linked (wanted_value c.args.wanted) _
-    (rw c.in_ok-mismatches.ensures.placed at c.in_err-refuse.ensures.refused) in
-    passed_on c.from_residual-in_err-refuse.result _ _ c.from_residual-in_err-refuse.ensures.1
-    (λ error same. rw same told)
-
-pub returns-in_err-lock-clause-refused : goal.returns-in_err-lock-clause-refused
-returns-in_err-lock-clause-refused c =
+    (rw c.in_ok-mismatches.ensures.placed at c.in_err-lock.ensures.refused) in
     passed_on c.from_residual-in_err-lock.result _ _ c.from_residual-in_err-lock.ensures.1
-    (λ error same. rw same (inr (inr (inr (c.in_err-lock.ensures.memory c.in_ok-refuse.ensures.sound)))))
-
-pub returns-in_err-problems-clause-refused : goal.returns-in_err-problems-clause-refused
-returns-in_err-problems-clause-refused c =
-    let told = refused_check c.args.text.now (view c.args.lock) (placed (view c.args.lock)
-    (manifests_of (wanted_value c.args.wanted).manifest (loaded_value c.args.loaded).linked))
-    (view c.in_ok-lock.lock) (loaded_value c.args.loaded).linked (wanted_value c.args.wanted) _
-    (rw c.in_ok-mismatches.ensures.placed at c.in_ok-lock.ensures.made)
-    (rw c.in_ok-mismatches.ensures.placed at c.in_ok-lock.ensures.sound)
-    (rw c.in_ok-mismatches.ensures.placed at c.in_ok-refuse.ensures.sound) c.in_err-problems.ensures.refused in
-    passed_on c.from_residual-in_err-problems.result _ _ c.from_residual-in_err-problems.ensures.1
     (λ error same. rw same told)
 
 pub returns-in-Err-clause-refused : goal.returns-in-Err-clause-refused
 returns-in-Err-clause-refused c =
+    let all = placed (view c.args.lock)
+    (manifests_of (wanted_value c.args.wanted).manifest (loaded_value c.args.loaded).linked) in
+    refused_lock c.args.text.now (view c.args.lock) all (loaded_value c.args.loaded).linked
+    (wanted_value c.args.wanted) c.in-Err.error
+    (refused_sound c.args.text.now all (view c.in_ok-lock.lock) (wanted_value c.args.wanted).manifest c.in-Err.error
+    c.in_ok-lock.ensures.later (rw c.in_ok-mismatches.ensures.placed at c.in_ok-lock.ensures.made)
+    (rw c.in_ok-mismatches.ensures.placed at c.in_ok-lock.ensures.sound) c.in-Err.ensures.refused)
+
+pub returns-in-Err-counted_of-clause-refused : goal.returns-in-Err-counted_of-clause-refused
+returns-in-Err-counted_of-clause-refused c =
     refused_audit c.args.text.now (view c.args.lock) (placed (view c.args.lock)
     (manifests_of (wanted_value c.args.wanted).manifest (loaded_value c.args.loaded).linked))
-    (view c.in_ok-lock.lock) (loaded_value c.args.loaded).linked (wanted_value c.args.wanted) c.in-Err.error
+    (view c.in_ok-lock.lock) (loaded_value c.args.loaded).linked (wanted_value c.args.wanted) c.in-Err-counted_of.error
     (rw c.in_ok-mismatches.ensures.placed at c.in_ok-lock.ensures.made)
-    (rw c.in_ok-mismatches.ensures.placed at c.in_ok-lock.ensures.sound)
-    (rw c.in_ok-mismatches.ensures.placed at c.in_ok-refuse.ensures.sound) c.in-Err.ensures.refused
+    (rw c.in-Ok.ensures.file at c.in-Err-counted_of.ensures.refused)
 
 pub returns-in-Ok-output_of-clause-found : goal.returns-in-Ok-output_of-clause-found
 returns-in-Ok-output_of-clause-found c =
     let made = rw c.in_ok-mismatches.ensures.placed at c.in_ok-lock.ensures.made in (
-      map found_value c.in-Ok.counted.found.items,
+      map found_value c.in-Ok-counted_of.counted.found.items,
       record {
         compared = c.is_compared-compared.ensures;
         mismatches = c.in_ok-mismatches.ensures.mismatches;
         exact = refl;
         unread = rw made at c.in_ok-unread.ensures.all;
-        problems = rw made at (rw c.deref.ensures.value at c.in_ok-problems.ensures.found);
-        hit = rw made at c.in-Ok.ensures.found;
+        problems = rw made at (rw (c.deref.ensures.value, c.in-Ok.ensures.file) at c.in-Ok-problems_of.ensures);
+        hit = rw made at (rw c.in-Ok.ensures.file at c.in-Ok-counted_of.ensures.found);
         audited = c.is_some.ensures ∙ some_same (λ file. view file.now) c.args.wanted.advisories;
         hits = c.len.ensures ∙ sym (rw c.deref-2.ensures.value at c.deref-2.ensures.len) ∙ length_same found_value
-            c.in-Ok.counted.found.items;
+            c.in-Ok-counted_of.counted.found.items;
         omitted = rw made at c.count_of.ensures;
         listed = refl;
       },

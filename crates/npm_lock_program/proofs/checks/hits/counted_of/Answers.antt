@@ -4,5 +4,8 @@ use Rattle.npm_advisories.specs.Audit.{found_value}
 use Rattle.npm_lock_program.proofs.checks.hits.counted_of.Goals as goal
 
 pub returns-in-Ok-counted_hits-clause-found : goal.returns-in-Ok-counted_hits-clause-found
-returns-in-Ok-counted_hits-clause-found c =
-    (map found_value c.in-Ok.found.items, c.in-Ok.ensures.found, c.in-Ok-counted_hits.ensures)
+returns-in-Ok-counted_hits-clause-found c = (
+  map found_value c.in-Ok.found.items,
+  c.in-Ok.ensures.found,
+  rw c.file.ensures.file at c.in-Ok-counted_hits.ensures,
+)

@@ -7,12 +7,13 @@ use Rattle.npm_lock_program.specs.Report.{wanted_value}
 use Rattle.npm_lock_program.proofs.Auditing.{refused_as}
 use Rattle.npm_lock_program.proofs.checks.hits.hits_of.Goals as goal
 
-pub returns-in-Err-Advisories-clause-refused : goal.returns-in-Err-Advisories-clause-refused
-returns-in-Err-Advisories-clause-refused c =
+pub returns-in-Err-Refused-clause-refused : goal.returns-in-Err-Refused-clause-refused
+returns-in-Err-Refused-clause-refused c =
     let told : IsFileFaultBeside (view c.args.lock.now) (view c.in-Some.file.now)
-    (Some (fault_value c.in-Err-Advisories.fault)) =
-    rw c.in-Err-Advisories.field-0-is at c.in-Err-Advisories.ensures.refused in
+    (Some (fault_value c.in-Err-Refused.fault)) =
+    rw c.in-Err-Refused.field-0-is at c.in-Err-Refused.ensures.refused in
     let there : (wanted_value c.args.wanted).advisories ≡ Some (view c.in-Some.file.now) =
     ap (option_map (λ file. view file.now)) c.in-Some.is in
     refused_as (view c.args.lock.now) (view c.in-Some.file.now) (wanted_value c.args.wanted).advisories
-    (wanted_value c.args.wanted).advisories_text (fault_value c.in-Err-Advisories.fault) c.no_advisories.result there told c.no_advisories.ensures
+    (wanted_value c.args.wanted).advisories_text (fault_value c.in-Err-Refused.fault) c.no_advisories.result there told
+    (rw c.file.ensures.file at c.no_advisories.ensures)

@@ -3,7 +3,7 @@ use Rattle.std.proofs.Common.{◌≡◌, Some, inl, option_map, refl, sym}
 use Rattle.serde_json.specs.View.{view}
 use Rattle.npm_lock.specs.VersionOne.{any_fault}
 use Rattle.npm_lock_faults.specs.FaultPlaces.{IsLockFaultPlace, fault_place_value}
-use Rattle.npm_lock_program.proofs.checks.check.refuse.Goals as goal
+use Rattle.npm_lock_program.proofs.checks.sound.refuse.Goals as goal
 
 pub returns-in-Ok-Some-clause-refused : goal.returns-in-Ok-Some-clause-refused
 returns-in-Ok-Some-clause-refused c =

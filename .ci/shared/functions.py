@@ -2,12 +2,11 @@
 import re
 from dataclasses import dataclass
 
-from public_calls import blanked_in_place, blocks, end_of_block
-
 FUNCTION = re.compile(r"\bfn\s+(\w+)")
 # What ends a signature: a clause, a body, or a `;`. (The `;` of an array's type, as in `[u8; 4]`, ends none.)
 HEAD = re.compile(r"(?:\[[^\[\]{};]*;[^\[\]{};]*\]|[^{;])*?(?:(?:requires|ensures)\*?\s*\w*\s*\{|[{;])")
 CLAUSE = re.compile(r"(?:requires|ensures)\*?\s*\w*\s*\{$")
+BLOCK = re.compile(r"\b(impl|trait)\b([^;{]*)\{")
 
 
 @dataclass
@@ -27,6 +26,40 @@ class Function:
         its type and the trait."""
         trait = self.trait if self.trait not in (None, self.type) else ""
         return "::".join([*([f"{self.type}{trait}"] if self.type else self.module), self.name])
+
+
+def blanked(text):
+    """A source without comments, and without what stands in quotes."""
+    quoted = r'r#"(?:.|\n)*?"#|"(?:\\.|[^"\\])*"|\'(?:\\(?:u\{\w+\}|.)|[^\'\\\n])\''
+    return re.sub(rf"//[^\n]*|/\*(?:.|\n)*?\*/|{quoted}", lambda it: '""' if it[0][0] in "\"'r" else "", text)
+
+
+def blanked_in_place(text):
+    """The same with each letter where it was: blanks stand for what is left out."""
+    quoted = r'r#"(?:.|\n)*?"#|"(?:\\.|[^"\\])*"|\'(?:\\(?:u\{\w+\}|.)|[^\'\\\n])\''
+    return re.sub(rf"//[^\n]*|{quoted}", lambda it: re.sub(r"[^\n]", " ", it[0]), text)
+
+
+def end_of_block(text, at):
+    """Where the block ends that begins at a brace."""
+    depth = 0
+    for place in range(at, len(text)):
+        depth += (text[place] == "{") - (text[place] == "}")
+        if depth == 0:
+            return place + 1
+    raise ValueError("a block has no end")
+
+
+def blocks(text):
+    """The blocks of types and traits: where they begin and end, the type, and the trait if there is one."""
+    for block in BLOCK.finditer(text):
+        head = block[2]
+        while re.search(r"<[^<>]*>", head.replace("->", "")):
+            head = re.sub(r"<[^<>]*>", "", head.replace("->", ""))
+        head = re.sub(r"\bwhere\b(?:.|\n)*", "", head).split(":")[0] if block[1] == "trait" else re.sub(r"\bwhere\b(?:.|\n)*", "", head)
+        words = [part.strip().split("::")[-1].strip() for part in re.split(r"\bfor\b", head)]
+        trait = words[0] if len(words) > 1 or block[1] == "trait" else None
+        yield block.start(), end_of_block(text, block.end() - 1), words[-1].lstrip("&").strip(), trait
 
 
 def module_of(file):

@@ -11,7 +11,7 @@ import re
 
 from contracts import FUNCTION, clauses_at, end_of_block, ghost_members, imported, read
 from crates import is_program, listed
-from public_calls import blanked_in_place, blocks
+from functions import blanked_in_place, blocks
 
 # What no user calls: tests, and what scripts run.
 LEFT_OUT = ("named_calls", "semver_answers", "node_semver_callers")

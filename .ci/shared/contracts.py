@@ -2,6 +2,8 @@
 import os
 import re
 
+from functions import end_of_block
+
 PUBLIC = r"(?:async +|unsafe +|const +|extern \"C\" +)*fn +"
 FUNCTION = re.compile(rf"^[ \t]*(pub(?:\([a-z ]+\))? +)?{PUBLIC}(\w+)", re.M)
 CLAUSE = re.compile(r"\b(requires|ensures)\b(?:\s+(\w+))?\s*\{|[{;]")
@@ -54,16 +56,6 @@ def imported(text, start):
     """What the imports of a text bring that begin so."""
     starts = [it.end() for it in re.finditer(rf"^[ \t]*{start}\s+", text, re.M)]
     return [it for at in starts for it in paths_of_tree(text[at : end_of_import(text, at)])]
-
-
-def end_of_block(text, at):
-    """Where the block ends that begins at a brace."""
-    depth = 0
-    for place in range(at, len(text)):
-        depth += (text[place] == "{") - (text[place] == "}")
-        if depth == 0:
-            return place + 1
-    raise ValueError("a block has no end")
 
 
 def end_of_parameters(text, at):

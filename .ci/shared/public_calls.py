@@ -9,6 +9,7 @@ import os
 import re
 
 from crates import CRATES, is_program, listed
+from functions import blanked, blocks, extent
 
 # Libraries that no user calls, and those of which runs of npm_lock_check, npm_pick_command and npm_resolve_command make each call.
 SCRIPTS = {"named_calls": "makes the calls", "node_semver_callers": "examples",
@@ -90,7 +91,6 @@ NEEDLESS = {"SemverError::out_of_memory", "node_semver_c::node_semver_range_free
             "node_semver_c::node_semver_intervals_free"}
 
 FUNCTION = re.compile(r"\b(pub\s+)?(?:unsafe\s+|const\s+|extern\s+\"\"\s+)*fn\s+(\w+)")
-BLOCK = re.compile(r"\b(impl|trait)\b([^;{]*)\{")
 OUT_OF_MEMORY = re.compile(r"\bGlobal\b|\bAllocGlobal\b|\bAllocError\b|\bAllocator\b|(?<![\w:])Result<(?:[^<>,]|<[^<>]*>|\([^()]*\))*>\s*$")
 
 # A source, and its public functions that can run out of memory.
@@ -139,28 +139,6 @@ pub trait Made {
 ]
 
 
-def blanked(text):
-    """A source without comments, and without what stands in quotes."""
-    quoted = r'r#"(?:.|\n)*?"#|"(?:\\.|[^"\\])*"|\'(?:\\(?:u\{\w+\}|.)|[^\'\\\n])\''
-    return re.sub(rf"//[^\n]*|/\*(?:.|\n)*?\*/|{quoted}", lambda it: '""' if it[0][0] in "\"'r" else "", text)
-
-
-def blanked_in_place(text):
-    """The same with each letter where it was: blanks stand for what is left out."""
-    quoted = r'r#"(?:.|\n)*?"#|"(?:\\.|[^"\\])*"|\'(?:\\(?:u\{\w+\}|.)|[^\'\\\n])\''
-    return re.sub(rf"//[^\n]*|{quoted}", lambda it: re.sub(r"[^\n]", " ", it[0]), text)
-
-
-def end_of_block(text, at):
-    """Where the block ends that begins at a brace."""
-    depth = 0
-    for place in range(at, len(text)):
-        depth += (text[place] == "{") - (text[place] == "}")
-        if depth == 0:
-            return place + 1
-    raise ValueError("a block has no end")
-
-
 def signature(text, at):
     """What stands between a function's name and its clauses or its body."""
     depth = 0
@@ -172,18 +150,6 @@ def signature(text, at):
     raise ValueError("a function has no end")
 
 
-def blocks(text):
-    """The blocks of types and traits: where they begin and end, the type, and the trait if there is one."""
-    for block in BLOCK.finditer(text):
-        head = block[2]
-        while re.search(r"<[^<>]*>", head.replace("->", "")):
-            head = re.sub(r"<[^<>]*>", "", head.replace("->", ""))
-        head = re.sub(r"\bwhere\b(?:.|\n)*", "", head).split(":")[0] if block[1] == "trait" else re.sub(r"\bwhere\b(?:.|\n)*", "", head)
-        words = [part.strip().split("::")[-1].strip() for part in re.split(r"\bfor\b", head)]
-        trait = words[0] if len(words) > 1 or block[1] == "trait" else None
-        yield block.start(), end_of_block(text, block.end() - 1), words[-1].lstrip("&").strip(), trait
-
-
 def calls_of(text, crate):
     """The public functions of a source that can run out of memory, by their names."""
     text, found, after = blanked(text), set(), 0
@@ -192,11 +158,7 @@ def calls_of(text, crate):
         if function.start() < after:
             continue
         said = signature(text, function.end())
-        body = function.end() + len(said)
-        start = re.compile(r"[^{;]*?(?:(?:requires|ensures)\s*\w*\s*\{|[{;])").match(text, body)
-        while start and re.search(r"(?:requires|ensures)\s*\w*\s*\{$", start[0]):
-            start = re.compile(r"[^{;]*?(?:(?:requires|ensures)\s*\w*\s*\{|[{;])").match(text, end_of_block(text, start.end() - 1))
-        after = end_of_block(text, start.end() - 1) if start and start[0].endswith("{") else function.end()
+        _, after = extent(text, function.end())
         owner = next((it for it in within if it[0] < function.start() < it[1]), None)
         is_public = bool(function[1]) or owner is not None and owner[3] not in (None, "From")
         if is_public and OUT_OF_MEMORY.search(said) and "fmt::Result" not in said:

@@ -41,10 +41,15 @@ def lacking(picked, environment):
     with tempfile.NamedTemporaryFile("r", encoding="utf-8") as file:
         subprocess.run(pytests.command(picked or ASKING, "--tb=no", "--assert=plain"), cwd=pytests.TOP, stdin=subprocess.DEVNULL,
                        env={**environment, "DENIMSCREE_ASKED": file.name}, stdout=subprocess.DEVNULL, stderr=subprocess.DEVNULL)
-        lines = list(map(json.loads, dict.fromkeys(file)))
-    for program in (it for it in PROGRAMS if not picked and not parts.is_built(it)):
-        lines += [(program, line) for line in stored(program, "stdin") if line not in known(program)]
-    return {program: [line for name, line in lines if name == program] for program, _ in lines}
+        found = [*map(json.loads, dict.fromkeys(file)), *([] if picked else lacking_stored())]
+    return {program: [line for name, line in found if name == program] for program in dict.fromkeys(name for name, _ in found)}
+
+
+def lacking_stored():
+    """The lines of the stored runs of programs that are not built and that have no answer, each with its program."""
+    for program in (it for it in PROGRAMS if not parts.is_built(it)):
+        answers = known(program)
+        yield from ((program, line) for line in stored(program, "stdin") if line not in answers)
 
 
 def stored(program, name):

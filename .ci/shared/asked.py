@@ -23,6 +23,7 @@ NAME = "what tests ask"
 PROGRAMS = ("semver_answers", "npm_answers")
 ASKING = ("rows", "pages", "memory/refused.calls", "memory/refused.tsv", "memory/takes_none.calls", "memory/takes_none.tsv",
           "models/test_json_places.py")  # The tests that ask them.
+ROWS = (".tsv", ".calls")  # Files whose tests ask the same lines whatever is answered.
 ROUNDS = 4
 LONGEST = 50000  # Longer lines are not asked: the build with checks would take a second for each.
 
@@ -36,10 +37,18 @@ def known(program):
     return kept.passed(key_of(program)) or {}
 
 
-def lacking(picked, environment):
+def asking(picked, is_first):
+    """The tests that may ask a line without an answer: after the first round those alone that are written in Python."""
+    return [test for test in picked or ASKING if is_first or not test.split("::")[0].endswith(ROWS)]
+
+
+def lacking(picked, environment, is_first=True):
     """The lines that tests ask and that have no answer, by the programs."""
+    tests, others = asking(picked, is_first), [] if is_first else [f"--ignore-glob=*{it}" for it in ROWS]
+    if not tests:
+        return {}
     with tempfile.NamedTemporaryFile("r", encoding="utf-8") as file:
-        subprocess.run(pytests.command(picked or ASKING, "--tb=no", "--assert=plain"), cwd=pytests.TOP, stdin=subprocess.DEVNULL,
+        subprocess.run(pytests.command(tests, "--tb=no", "--assert=plain", *others), cwd=pytests.TOP, stdin=subprocess.DEVNULL,
                        env={**environment, "DENIMSCREE_ASKED": file.name}, stdout=subprocess.DEVNULL, stderr=subprocess.DEVNULL)
         found = [*map(json.loads, dict.fromkeys(file)), *([] if picked else lacking_stored())]
     return {program: [line for name, line in found if name == program] for program in dict.fromkeys(name for name, _ in found)}
@@ -89,8 +98,8 @@ def ask(program, lines):
 
 def ask_all(picked, environment):
     """Asks the programs all lines that have no answer, side by side: what is wrong, or nothing."""
-    for _ in range(ROUNDS):
-        lines = lacking(picked, environment)
+    for number in range(ROUNDS):
+        lines = lacking(picked, environment, number == 0)
         with concurrent.futures.ThreadPoolExecutor() as pool:
             said = "\n".join(filter(None, pool.map(ask, lines, lines.values())))
         if said or not lines:

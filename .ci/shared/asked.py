@@ -4,8 +4,10 @@ them once with all these lines. The answers are kept by the sum of what the prog
 The tests say themselves what they ask: they run once with DENIMSCREE_ASKED, and `tests/support/answers.py` then writes the lines that
 have no answer to the file of that name. A line that is made of the answer to another one is found a round later.
 """
+import bisect
 import concurrent.futures
 import functools
+import itertools
 import json
 import os
 import subprocess
@@ -25,6 +27,7 @@ ASKING = ("rows", "pages", "memory/refused.calls", "memory/refused.tsv", "memory
           "models/test_json_places.py")  # The tests that ask them.
 ROWS = (".tsv", ".calls")  # Files whose tests ask the same lines whatever is answered.
 ROUNDS = 4
+MOST = 1500000  # The lines of one round have so many characters: `rt try` returns at most a mebibyte, and answers are shorter than lines.
 LONGEST = 50000  # Longer lines are not asked: the build with checks would take a second for each.
 
 
@@ -96,10 +99,24 @@ def ask(program, lines):
     return said
 
 
+def divided(lines):
+    """The lines of a round by the programs, and the longest ones, which wait for the next round."""
+    now, later = {}, {}
+    for program, asked in lines.items():
+        by_length = sorted(asked, key=len)
+        waiting = by_length[bisect.bisect(list(itertools.accumulate(map(len, by_length))), MOST):]
+        now[program] = [line for line in asked if line not in waiting]
+        if waiting:
+            later[program] = waiting
+    return now, later
+
+
 def ask_all(picked, environment):
     """Asks the programs all lines that have no answer, side by side: what is wrong, or nothing."""
+    waiting = {}
     for number in range(ROUNDS):
-        lines = lacking(picked, environment, number == 0)
+        found = lacking(picked, environment, number == 0)
+        lines, waiting = divided({it: list(dict.fromkeys(found.get(it, []) + waiting.get(it, []))) for it in {**found, **waiting}})
         with concurrent.futures.ThreadPoolExecutor() as pool:
             said = "\n".join(filter(None, pool.map(ask, lines, lines.values())))
         if said or not lines:

@@ -1,8 +1,9 @@
 """What the programs that answer calls return for the lines that tests ask, where these programs are not built: `rt try` runs each of
-them once with all these lines. The answers are kept by the sum of what the program is made of.
+them once with these lines. The answers are kept by the sum of what the program is made of.
 
 The tests say themselves what they ask: they run once with DENIMSCREE_ASKED, and `tests/support/answers.py` then writes the lines that
-have no answer to the file of that name. A line that is made of the answer to another one is found a round later.
+have no answer to the file of that name. A line that is made of the answer to another one is found a round later, and the longest lines
+wait for that round.
 """
 import bisect
 import concurrent.futures

@@ -4,7 +4,7 @@ import shlex
 
 import pytest
 
-from support import call_rows, counts, documents, refused_calls, refused_programs, rows
+from support import call_rows, counts, documents, programs, refused_calls, refused_programs, rows
 
 
 def pytest_collect_file(parent, file_path):
@@ -82,6 +82,14 @@ class RefusedFile(RowsFile):
 
 class ProgramsFile(RowsFile):
     ROW, READ = CallRow, staticmethod(refused_programs.read)
+
+
+@pytest.hookimpl(tryfirst=True)
+def pytest_runtest_makereport(call):
+    """Skips a test whose program is not built. Of such tests there may be 2,000, and to print where one of them ended takes long."""
+    if call.excinfo and call.excinfo.errisinstance(programs.NotBuilt):
+        skipped = pytest.skip.Exception(str(call.excinfo.value))
+        call.excinfo = pytest.ExceptionInfo.from_exc_info((type(skipped), skipped, call.excinfo.tb))
 
 
 def pytest_configure(config):

@@ -1,11 +1,14 @@
 """What the programs that answer calls return for the lines that tests ask, where these programs are not built: `rt try` runs each of
-them once with all these lines. The answers are kept by the sum of what the program is made of.
+them once with these lines. The answers are kept by the sum of what the program is made of.
 
 The tests say themselves what they ask: they run once with DENIMSCREE_ASKED, and `tests/support/answers.py` then writes the lines that
-have no answer to the file of that name. A line that is made of the answer to another one is found a round later.
+have no answer to the file of that name. A line that is made of the answer to another one is found a round later, and the longest lines
+wait for that round.
 """
+import bisect
 import concurrent.futures
 import functools
+import itertools
 import json
 import os
 import subprocess
@@ -23,7 +26,9 @@ NAME = "what tests ask"
 PROGRAMS = ("semver_answers", "npm_answers")
 ASKING = ("rows", "pages", "memory/refused.calls", "memory/refused.tsv", "memory/takes_none.calls", "memory/takes_none.tsv",
           "models/test_json_places.py")  # The tests that ask them.
+ROWS = (".tsv", ".calls")  # Files whose tests ask the same lines whatever is answered.
 ROUNDS = 4
+MOST = 1500000  # The lines of one round have so many characters: `rt try` returns at most a mebibyte, and answers are shorter than lines.
 LONGEST = 50000  # Longer lines are not asked: the build with checks would take a second for each.
 
 
@@ -36,15 +41,28 @@ def known(program):
     return kept.passed(key_of(program)) or {}
 
 
-def lacking(picked, environment):
+def asking(picked, is_first):
+    """The tests that may ask a line without an answer: after the first round those alone that are written in Python."""
+    return [test for test in picked or ASKING if is_first or not test.split("::")[0].endswith(ROWS)]
+
+
+def lacking(picked, environment, is_first=True):
     """The lines that tests ask and that have no answer, by the programs."""
+    tests, others = asking(picked, is_first), [] if is_first else [f"--ignore-glob=*{it}" for it in ROWS]
+    if not tests:
+        return {}
     with tempfile.NamedTemporaryFile("r", encoding="utf-8") as file:
-        subprocess.run(pytests.command(picked or ASKING, "--tb=no", "--assert=plain"), cwd=pytests.TOP, stdin=subprocess.DEVNULL,
+        subprocess.run(pytests.command(tests, "--tb=no", "--assert=plain", *others), cwd=pytests.TOP, stdin=subprocess.DEVNULL,
                        env={**environment, "DENIMSCREE_ASKED": file.name}, stdout=subprocess.DEVNULL, stderr=subprocess.DEVNULL)
-        lines = list(map(json.loads, dict.fromkeys(file)))
-    for program in (it for it in PROGRAMS if not picked and not parts.is_built(it)):
-        lines += [(program, line) for line in stored(program, "stdin") if line not in known(program)]
-    return {program: [line for name, line in lines if name == program] for program, _ in lines}
+        found = [*map(json.loads, dict.fromkeys(file)), *([] if picked else lacking_stored())]
+    return {program: [line for name, line in found if name == program] for program in dict.fromkeys(name for name, _ in found)}
+
+
+def lacking_stored():
+    """The lines of the stored runs of programs that are not built and that have no answer, each with its program."""
+    for program in (it for it in PROGRAMS if not parts.is_built(it)):
+        answers = known(program)
+        yield from ((program, line) for line in stored(program, "stdin") if line not in answers)
 
 
 def stored(program, name):
@@ -82,10 +100,24 @@ def ask(program, lines):
     return said
 
 
+def divided(lines):
+    """The lines of a round by the programs, and the longest ones, which wait for the next round."""
+    now, later = {}, {}
+    for program, asked in lines.items():
+        by_length = sorted(asked, key=len)
+        waiting = by_length[bisect.bisect(list(itertools.accumulate(map(len, by_length))), MOST):]
+        now[program] = [line for line in asked if line not in waiting]
+        if waiting:
+            later[program] = waiting
+    return now, later
+
+
 def ask_all(picked, environment):
     """Asks the programs all lines that have no answer, side by side: what is wrong, or nothing."""
-    for _ in range(ROUNDS):
-        lines = lacking(picked, environment)
+    waiting = {}
+    for number in range(ROUNDS):
+        found = lacking(picked, environment, number == 0)
+        lines, waiting = divided({it: list(dict.fromkeys(found.get(it, []) + waiting.get(it, []))) for it in {**found, **waiting}})
         with concurrent.futures.ThreadPoolExecutor() as pool:
             said = "\n".join(filter(None, pool.map(ask, lines, lines.values())))
         if said or not lines:

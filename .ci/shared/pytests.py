@@ -85,12 +85,12 @@ def names(key, environment):
     return found or [FOLDER]
 
 
-def jobs(environment):
-    """A job for all of them, if there are any."""
+def jobs(environment, are_named=True):
+    """A job for all of them, if there are any. Where none is asked for by its name, they need not be listed."""
     if not is_there():
         return
     read = [path for path in files.below("") if not path.startswith(".ci/wrong/")]
-    listed = names(kept.sum_of(read, ["names", FOLDER]), environment) if python()[0] else [FOLDER]
+    listed = names(kept.sum_of(read, ["names", FOLDER]), environment) if python()[0] and are_named else [FOLDER]
     job = Job(FOLDER, listed, None, kept.sum_of(read, [FOLDER]), 2e6, why_not="" if python()[0] else MISSING)
     job.run = lambda: run([name for name in listed if job.is_asked(name)] if job.words else [], environment)
     yield job

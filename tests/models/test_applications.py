@@ -12,6 +12,7 @@ PACKAGES, VERSIONS = 500, 100
 
 def put(folder, manifest):
     """The folder with the documents and a manifest."""
+    programs.built("npm_resolve")  # (where it is not, they need not be made)
     (folder / "mirror").mkdir()
     for name, document in applications.documents(PACKAGES, VERSIONS).items():
         registry.put(folder / "mirror" / f"{name}.json", document)

@@ -126,6 +126,7 @@ def fault(folder, lock, ran):
 
 
 def test_are_checked_installed_and_kept(record_property, tmp_path):
+    programs.built("npm_resolve")  # (where it is not, no registry need be served)
     r, room = random.Random(11 + making.SEED), str(tmp_path)
     sets = [[f"{letter}{at}" for letter in "abcdefgh"] for at in range(SETS * making.TIMES)]
     with registry.served(room, {name: one for names in sets for name, one in packages(r, names).items()}) as address:

@@ -1,12 +1,11 @@
-// Writes what a function of npm's semver returns, as JSON: node npm.js NAME ARGUMENT.., each argument as JSON; or node npm.js CALL, a
-// call as a page has it. A range is its text, a version has its build, and an error is null.
+// Reads a JSON array a line, the name of a function of npm's semver and its arguments, or a call as a page has it, and writes what it
+// returns as a line of JSON. A range is its text, a version has its build, and an error is null.
 'use strict';
 
+const readline = require('readline');
 const semver = require('../npm/shared.js').npms('semver');
-const [name, ...words] = process.argv.slice(2);
-const values = words.map((word) => JSON.parse(word));
 
-function result() {
+function result(name, ...values) {
     try {
         const found = name.endsWith(')') ? new Function('semver', `return semver.${name}`)(semver)
             : name === 'Range' ? new semver.Range(...values).range : semver[name](...values);
@@ -16,4 +15,4 @@ function result() {
     }
 }
 
-console.log(JSON.stringify(result()));
+readline.createInterface({ input: process.stdin }).on('line', (line) => console.log(JSON.stringify(result(...JSON.parse(line)))));

@@ -1,5 +1,6 @@
 """The tables that have a column for npm and one for what is here: the first is what npm's own code returns, and the second what the
 library or the program does."""
+import atexit
 import functools
 import json
 import os
@@ -9,19 +10,26 @@ import subprocess
 
 import pytest
 
-from support import calls, pages, programs
+from support import answers, calls, pages, programs
 
 HERE = os.path.dirname(os.path.abspath(__file__))
 DIFFERENCES = pages.page("docs/DIFFERENCES.md")
 
 
 @functools.cache
+def node():
+    """A process that answers for npm, until the tests end."""
+    ran = subprocess.Popen(["node", os.path.join(HERE, "npm.js")], env=programs.environment(), stdin=subprocess.PIPE, stdout=subprocess.PIPE,
+                           encoding="utf-8")
+    atexit.register(answers.end, ran)
+    return ran
+
+
+@functools.cache
 def npm(name, *values):
     """What npm's function returns; options are passed as a tuple of those that are true."""
-    given = [json.dumps({it: True for it in value} if isinstance(value, tuple) else value) for value in values]
-    ran = subprocess.run(["node", os.path.join(HERE, "npm.js"), name, *given], env=programs.environment(), capture_output=True,
-                         encoding="utf-8", check=True)
-    return json.loads(ran.stdout)
+    print(json.dumps([name, *({it: True for it in value} if isinstance(value, tuple) else value for value in values)]), file=node().stdin, flush=True)
+    return json.loads(node().stdout.readline())
 
 
 # ---- npm_semver::parse_range

@@ -38,15 +38,15 @@ def is_refused(text):
 
 
 def admits_all(text, *versions):
-    return all(calls.is_admitted(text, version) for version in versions)
+    return all(calls.admitted(text, *versions))
 
 
 def admits_but_the_last(text, *versions):
-    return admits_all(text, *versions[:-1]) and not calls.is_admitted(text, versions[-1])
+    return calls.admitted(text, *versions) == [True] * len(versions[:-1]) + [False]
 
 
 def admits_none_above(text, *, above=("1.0.0-a", "1.0.0-a.0", "1.0.0", "0.9.9")):
-    return calls.range_of(text) is not None and not any(calls.is_admitted(text, version) for version in above)
+    return calls.range_of(text) is not None and not any(calls.admitted(text, *above))
 
 
 def is_common(version, one, other):
@@ -67,14 +67,13 @@ def adds_none(one, other):
 
 def covers_but_does_not_admit(one, other, version):
     """Nothing of the other is left where the one is taken away, although the one does not admit the version."""
-    return calls.call("Range::difference", other, one) == "nothing" and not calls.is_admitted(one, version)
+    return [calls.call("Range::difference", other, one), calls.is_admitted(one, version)] == ["nothing", False]
 
 
 def intersection_admits(one, other, version, end, triple, refusing):
     """The sentence names an end, its triple, and which range refuses the version."""
-    both = calls.call("Range::intersect", one, other)
-    return (calls.is_admitted(both, version) and not calls.is_admitted(refusing, version)
-            and both.startswith(f">={end} ") and end.startswith(f"{triple}-"))
+    both, is_refused = calls.call("Range::intersect", one, other), not calls.is_admitted(refusing, version)
+    return is_refused and calls.is_admitted(both, version) and both.startswith(f">={end} ") and end.startswith(f"{triple}-")
 
 
 def is_divided(text, first, second):
@@ -107,7 +106,8 @@ def is_one(number):
 
 
 def has_the_patch(text, *, patch="34"):
-    return calls.call("Version::parse", text) == text and calls.call("npm_semver::inc", text, "patch", "", "0").endswith(f".{int(patch) + 1}")
+    read, following = calls.call("Version::parse", text), calls.call("npm_semver::inc", text, "patch", "", "0")
+    return read == text and following.endswith(f".{int(patch) + 1}")
 
 
 def has_the_prerelease_of_a_partial(text, *, prerelease="3"):

@@ -10,6 +10,7 @@ from support import programs
 
 @pytest.fixture(autouse=True)
 def room(tmp_path, monkeypatch):
+    programs.built("npm_lock_check")  # (where it is not, thousands of files need not be written)
     monkeypatch.chdir(tmp_path)
 
 

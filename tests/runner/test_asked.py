@@ -84,6 +84,14 @@ def test_all_lines_are_asked_in_rounds(room, monkeypatch):
     assert asked.known("made") == dict.fromkeys([LINE, '["g"]', '["h"]'], '"b"')
 
 
+def test_the_longest_lines_wait_for_the_next_round(room, monkeypatch):
+    rounds = []
+    asks(monkeypatch, [LINE, '["g"]', '["h"]'], ['["i"]'], written=lambda lines: rounds.append(lines) or "".join('"b"\n' for _ in lines))
+    monkeypatch.setattr(asked, "MOST", 15)
+    assert asked.ask_all([], {}) == ""
+    assert rounds == [['["g"]', '["h"]'], ['["i"]', LINE]]
+
+
 def test_a_program_that_ends_early_is_told(room, monkeypatch):
     asks(monkeypatch, [LINE, '["g"]'], written=lambda lines: '"b"\n', status=3)
     said = asked.ask_all([], {})

@@ -27,8 +27,12 @@ def npm_range_of(text, *options):
     return result("npm_semver::parse_range", text, " ".join(options))
 
 
+def admitted(text, *versions):
+    """Whether the range of a text admits each version."""
+    found = [call("Range::satisfies", text, version) for version in versions]
+    assert {"true", "false"}.issuperset(found), found
+    return [it == "true" for it in found]
+
+
 def is_admitted(text, version):
-    """Whether the range of a text admits a version."""
-    found = call("Range::satisfies", text, version)
-    assert found in ("true", "false"), found
-    return found == "true"
+    return admitted(text, version) == [True]

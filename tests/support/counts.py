@@ -52,7 +52,7 @@ class Counts:
     @pytest.hookimpl(tryfirst=True)
     def pytest_sessionfinish(self, session):
         self.lacking = list(self.faults()) if is_whole(self.config) else []
-        if self.lacking and not session.exitstatus:
+        if (self.lacking or self.failed) and not session.exitstatus:
             session.exitstatus = pytest.ExitCode.TESTS_FAILED
 
     def pytest_terminal_summary(self, terminalreporter):

@@ -85,6 +85,7 @@ class Large:
         return call_rows.case_of(*self.given)
 
     def faults(self):
+        programs.built(self.given[2])  # (where it is not, the texts need not be made)
         case = Case(self.row, True)
         ((_, wanted),) = case.row.wanted
         if (lines := case.run(0, 0)) != ["0", wanted, AFTER, wanted]:

@@ -1,11 +1,12 @@
 """The gate: proves each crate and its tests, tries wrong bodies, and runs all parts of `.ci/checks.tsv`.
 
-The parts that read the repository alone run beside the proofs, the others after them, in lanes side by side, and then pytest, which
-takes all processors.
+The parts that read the repository alone run beside the proofs, and so do wrong bodies, each as soon as what it needs is proved. The others
+run after them, in lanes side by side, and then pytest, which takes all processors.
 """
 # See docs/DECISIONS.md, "Wrong bodies are tried in two ways".
 import collections
 import concurrent.futures
+import contextlib
 import os
 import re
 import signal
@@ -22,6 +23,7 @@ import pytests
 from results import Result
 
 TESTED = "rt ci: tests of the crates"
+PROVED = re.compile(r"^rt: (\w+) (?:proved$|is kept: )")
 TOLD = re.compile(r"^test (\S+) \.\.\. (\w+)$")
 CRATE = re.compile(r"^rt: (\w+): its tests (?:passed|FAILED)$")
 
@@ -41,14 +43,15 @@ class Gate:
         self.passed = self.failed = 0
         self.environment = environment
         self.counts, self.times, self.results = {}, [], []
+        self.beside = []  # What runs beside the proofs.
         self.lock = threading.RLock()  # What is written at once, and what is counted.
 
     def say(self, text):
         with self.lock:
             print(text, flush=True)
 
-    def run(self, words, folder=files.ROOT, is_shown=False):
-        """Runs a command, and shows what it writes as it comes, or else holds it."""
+    def run(self, words, folder=files.ROOT, is_shown=False, see=None, is_beside=False):
+        """Runs a command, and shows what it writes as it comes, or else holds it. `see` is called with each line."""
         with tempfile.TemporaryFile() as errors:
             try:
                 run = subprocess.Popen(words, cwd=folder, env=self.environment, stdin=subprocess.DEVNULL, stdout=subprocess.PIPE,
@@ -56,20 +59,23 @@ class Gate:
             except OSError as error:  # (there is no such script, say)
                 return Ran(f"WRONG: {error}", "", 127, 0.0)
             said = []
+            self.beside += [run] * is_beside
             with run.stdout:
                 for line in run.stdout:
                     said.append(line.decode(errors="replace"))
                     if is_shown:
                         self.say(said[-1].rstrip("\n"))
+                    if see:
+                        see(said[-1])
             _, status, used = os.wait4(run.pid, 0)
             run.returncode = os.waitstatus_to_exitcode(status)
             errors.seek(0)
             return Ran("".join(said), errors.read().decode(errors="replace"), run.returncode, used.ru_utime + used.ru_stime)
 
-    def part(self, name, words, is_shown=False):
+    def part(self, name, words, is_shown=False, see=None, is_beside=False):
         """Runs a part, adds up its last line, and says what it took."""
         began = time.monotonic()
-        ran = self.run(words, is_shown=is_shown)
+        ran = self.run(words, is_shown=is_shown, see=see, is_beside=is_beside)
         passed, failed, why = parts.total_of(ran.said, ran.status, name)
         clock = time.monotonic() - began
         told = f"{why}{parts.telling(ran.said)}\n{ran.errors[-1500:]}" if failed else ""
@@ -187,13 +193,20 @@ def jobs():
     return str(min(4, len(os.sched_getaffinity(0))))
 
 
+def library_in(line):
+    """The library that a line of `rt ci` says to be proved and built, or None."""
+    found = PROVED.match(line)
+    return found[1] if found and found[1] in crates.listed() and not crates.is_program(found[1]) else None
+
+
 def prove(gate, log, sampled):
-    """Proves all crates from nothing."""
-    gate.environment = {**gate.environment, "RT_JOBS": jobs()}
+    """Proves all crates from nothing, and keeps of each library as it is built that it was built of these sources."""
     before = crates.is_built("--sources", *crates.listed()).stdout.strip()
-    with subprocess.Popen([os.path.join(crates.CI, "shared", "sample.py"), str(os.getpid()), sampled]) as sampler:
+    with subprocess.Popen([os.path.join(crates.CI, "shared", "sample.py"), str(os.getpid()), sampled]) as sampler, \
+            concurrent.futures.ThreadPoolExecutor(1) as notes:
         try:
-            said = gate.part("rt ci", ["rt", "ci"], is_shown=True)
+            said = gate.part("rt ci", ["rt", "ci"], is_shown=True,
+                             see=lambda line: library_in(line) and notes.submit(keep_built, before, [library_in(line)]))
         finally:
             sampler.send_signal(signal.SIGTERM)
     with open(log, "w", encoding="utf-8") as file:
@@ -220,12 +233,45 @@ def compare_counts(gate, is_proved):
     parts.note(gate.counts)
 
 
-def prove_and_read(gate, rows, log, sampled):
+def forget_built():
+    """Forgets of what sources libraries were built: they are built anew."""
+    for name in crates.listed():
+        with contextlib.suppress(OSError):
+            os.remove(os.path.join(files.ROOT, "crates", name, "out", "rlib", f"{name}.rlib.sources"))
+
+
+def run_beside(gate, lane, proving):
+    """Runs parts that try what is proved, as far as it is, while the file `proving` is there. What is proved comes first."""
+    for part in lane:
+        settings = [f"RT_JOBS={max(1, int(jobs()) // 2)}", f"DENIMSCREE_PROVING={proving}"]
+        gate.part(part.name, ["nice", "env", *settings, *part.command()], is_beside=True)
+
+
+def prove_and_read(gate, rows, log, sampled, proving):
     """Proves all crates, and beside that runs the parts that read the repository alone: whether all is proved."""
     with concurrent.futures.ThreadPoolExecutor(1) as pool:
         reads = pool.submit(run_lane, gate, [part for part in rows if part.needs in ("sources", "gate")], log)
-        is_proved = prove(gate, log, sampled)
+        try:
+            is_proved = prove(gate, log, sampled)
+        finally:
+            os.remove(proving)
         reads.result()
+    return is_proved
+
+
+def prove_and_try(gate, rows, room):
+    """Proves all crates, and runs all parts but pytest: whether all is proved."""
+    log, sampled, proving = (os.path.join(room, name) for name in ("log", "sampled", "proving"))
+    open(proving, "w").close()
+    forget_built()
+    with concurrent.futures.ThreadPoolExecutor(1) as pool:
+        tries = pool.submit(run_beside, gate, [part for part in rows if part.needs == "proofs" and part.name != TESTED], proving)
+        is_proved = prove_and_read(gate, rows, log, sampled, proving)
+        for it in () if is_proved else gate.beside:
+            it.terminate()
+        after = ("programs", "packages", "release", "log") if is_proved else ("log",)
+        side_by_side(gate, [part for part in rows if part.needs in after], log)
+        tries.result()
     return is_proved
 
 
@@ -238,22 +284,18 @@ def tell_failures(gate):
 
 def run(environment):
     """Runs the gate: its results. The last line is 'N passed, M failed'."""
-    gate = Gate(environment)
+    gate = Gate({**environment, "RT_JOBS": jobs()})
     with tempfile.TemporaryDirectory() as room:
-        log, sampled = os.path.join(room, "log"), os.path.join(room, "sampled")
-        open(sampled, "w").close()
+        open(os.path.join(room, "sampled"), "w").close()
         rows = [part for part in parts.listed() if part.needs != "pytest" or pytests.is_there()]
         for part in (part for part in rows if part.needs == "first"):
             gate.part(part.name, part.command())
         if gate.failed == 0:
-            is_proved = prove_and_read(gate, rows, log, sampled)
-            after = ("programs", "packages", "release", "proofs", "log") if is_proved else ("log",)
-            gate.environment["RT_JOBS"] = str(max(1, int(jobs()) // 2))  # (wrong bodies leave room for what runs beside them)
-            side_by_side(gate, [part for part in rows if part.needs in after and part.name != TESTED], log)
+            is_proved = prove_and_try(gate, rows, room)
             if is_proved:
-                run_lane(gate, [part for part in rows if part.needs == "pytest"], log)
+                run_lane(gate, [part for part in rows if part.needs == "pytest"], "")
             compare_counts(gate, is_proved)
-            tell_times(gate, sampled)
+            tell_times(gate, os.path.join(room, "sampled"))
             tell_failures(gate)
     gate.say(f"{gate.passed} passed, {gate.failed} failed")
     return gate.results, gate.failed

@@ -44,7 +44,7 @@ def descends(process, top, above):
 
 
 def crate_of(process):
-    """The crate that a prover works on, and whether it is its tests or an edit."""
+    """The crate that a prover works on, and whether it is its tests, an edit or wrong bodies."""
     words = read(f"/proc/{process}/cmdline").decode(errors="replace").split("\0")
     if len(words) < 3 or not words[0].endswith("/rattle") or words[1] not in ("check", "build") or "--crate-name" not in words:
         return None
@@ -53,6 +53,8 @@ def crate_of(process):
         where = os.readlink(f"/proc/{process}/cwd")
     except OSError:
         where = ""
+    if "wrong-bodies-" in where:
+        return f"{name}, its wrong bodies"
     return f"{name}, its edits" if "rt-edit" in where else f"{name}, its tests" if "--test" in words else name
 
 

@@ -1,4 +1,5 @@
 """The gate's runner: what fails is told, and counted, and packages are built one after another."""
+import concurrent.futures
 import os
 
 import gate
@@ -56,3 +57,24 @@ def test_processor_seconds_are_those_of_the_part(tmp_path, capfd):
     found, _ = ran([made(tmp_path, "busy", busy), made(tmp_path, "idle", "sleep 0.3; echo 1 passed, 0 failed")], capfd)
     used = {os.path.basename(name): seconds for _, seconds, name in found.times}
     assert used["busy"] > 0.05 > used["idle"]
+
+
+def test_what_runs_beside_the_proofs_knows_when_they_have_ended(tmp_path, capfd):
+    proving = tmp_path / "proving"
+    proving.touch()
+    found = gate.Gate(dict(os.environ))
+    part = made(tmp_path, "beside", 'while [ -e "$DENIMSCREE_PROVING" ]; do sleep 0.1; done; echo 1 passed, 0 failed', "proofs")
+    with concurrent.futures.ThreadPoolExecutor(1) as pool:
+        ran_beside = pool.submit(gate.run_beside, found, [part], str(proving))
+        assert not concurrent.futures.wait([ran_beside], 0.5).done
+        proving.unlink()
+        ran_beside.result()
+    assert (found.passed, found.failed) == (1, 0)
+    assert len(found.beside) == 1
+
+
+def test_a_library_is_built_when_rt_says_so():
+    assert gate.library_in("rt: semver_cuts proved\n") == "semver_cuts"
+    assert gate.library_in("rt: semver_cuts is kept: an earlier run on this machine proved the same files\n") == "semver_cuts"
+    for line in ("rt: semver_cuts NOT PROVED", "rt: semver_pairs proved", "rt: semver_cuts: its tests are proved", "semver_cuts proved"):
+        assert gate.library_in(line) is None

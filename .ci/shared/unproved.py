@@ -17,7 +17,6 @@ TEST = re.compile(r"#\[test\]\s+(?:pub )?(?:async )?fn (\w+)")
 MODULE = re.compile(r"^mod (\w+) \{$(.*?)^\}$", re.M | re.S)
 TOLD = re.compile(r"^test (\S+) \.\.\. (\w+)", re.M)
 SECONDS = "600"  # The most that a test or a run may take, of a clock, on a slow machine too.
-WITHOUT_HINTS = os.path.join(files.ROOT, ".ci", "shared", "without_hints")  # The folder of a `sh` that saves nearly half of a run.
 
 
 def tests_in(path, module):
@@ -53,9 +52,9 @@ def lines_of(crate):
 
 def tried(crate, words, given=b""):
     """Runs `rt try` in the folder of a crate: the status, standard output and standard error, and the seconds."""
-    began, environment = time.monotonic(), {**os.environ, "PATH": f"{WITHOUT_HINTS}:{os.environ['PATH']}"}
-    with subprocess.Popen(["rt", "try", "--seconds", SECONDS, *words], cwd=os.path.join(crates.CRATES, crate), env=environment,
-                          stdin=subprocess.PIPE, stdout=subprocess.PIPE, stderr=subprocess.PIPE) as run:
+    began = time.monotonic()
+    with subprocess.Popen(["rt", "try", "--seconds", SECONDS, *words], cwd=os.path.join(crates.CRATES, crate), stdin=subprocess.PIPE,
+                          stdout=subprocess.PIPE, stderr=subprocess.PIPE) as run:
         output, error = (text.decode(errors="replace") for text in run.communicate(given))
     return run.returncode, output, error, time.monotonic() - began
 

@@ -260,7 +260,7 @@ def prove_and_read(gate, rows, log, sampled, proving):
 
 
 def prove_and_try(gate, rows, room):
-    """Proves all crates, and runs all parts but pytest: whether all is proved."""
+    """Proves all crates, and runs all parts: whether all is proved."""
     log, sampled, proving = (os.path.join(room, name) for name in ("log", "sampled", "proving"))
     open(proving, "w").close()
     forget_built()
@@ -271,6 +271,7 @@ def prove_and_try(gate, rows, room):
             it.terminate()
         after = ("programs", "packages", "release", "log") if is_proved else ("log",)
         side_by_side(gate, [part for part in rows if part.needs in after], log)
+        run_lane(gate, [part for part in rows if part.needs == "pytest" and is_proved], log)
         tries.result()
     return is_proved
 
@@ -292,8 +293,6 @@ def run(environment):
             gate.part(part.name, part.command())
         if gate.failed == 0:
             is_proved = prove_and_try(gate, rows, room)
-            if is_proved:
-                run_lane(gate, [part for part in rows if part.needs == "pytest"], "")
             compare_counts(gate, is_proved)
             tell_times(gate, os.path.join(room, "sampled"))
             tell_failures(gate)

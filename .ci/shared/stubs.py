@@ -5,6 +5,7 @@ and on no more of them, so what is proved of the others stays as it was. What th
 """
 import os
 import re
+import shutil
 
 from functions import functions, module_of
 
@@ -77,6 +78,8 @@ def leave_bodies(room, crate, stays):
             for name in ("Invariants.antt", "Answers.antt"):
                 if os.path.exists(os.path.join(folder, name)):
                     os.remove(os.path.join(folder, name))
+            # (the proof of a function that calls itself)
+            shutil.rmtree(os.path.join(os.path.dirname(folder), f"+{function.name}"), ignore_errors=True)
             write(os.path.join(folder, "Proof.antt"), PROOF.format(crate=crate, path=path.replace("::", "."), name=function.name))
         write(os.path.join(room, file), text)
         texts[file] = text

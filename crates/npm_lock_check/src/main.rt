@@ -65,7 +65,7 @@ struct Beside<'a, 'e> {
 fn main(rt: HostRuntime) -> ExitCode {
     let words = words_of(rt.alloc(), &rt);
     let outcome = match &words {
-        Ok(words) => answered(&rt, words),
+        Ok(words) => run_words(&rt, words),
         Err(error) => Err(ProgramError::Words(error)),
     };
     let status = match &outcome {
@@ -78,16 +78,16 @@ fn main(rt: HostRuntime) -> ExitCode {
 }
 
 /// Does what the words say. Returns the exit status.
-fn answered<'a>(rt: &HostRuntime, words: &'a [String]) -> Result<u8, ProgramError<'a>> {
+fn run_words<'a>(rt: &HostRuntime, words: &'a [String]) -> Result<u8, ProgramError<'a>> {
     let asked = read_arguments(words).map_err(ProgramError::Argument)?;
     if let Some(shown) = asked.shown {
         return match show(rt, shown) {
             Ok(()) => Ok(0),
-            Err(error) => Err(stopped(asked, error)),
+            Err(error) => Err(stop_error(asked, error)),
         };
     }
-    let node = node_asked(rt, asked)?;
-    let files = files_of(rt.alloc(), words).map_err(|_| stopped(asked, RunError::Memory))?;
+    let node = asked_node(rt, asked)?;
+    let files = files_of(rt.alloc(), words).map_err(|_| stop_error(asked, RunError::Memory))?;
     let writing = Writing {
         format: format_of(rt, asked),
         asked,
@@ -112,7 +112,7 @@ fn answered<'a>(rt: &HostRuntime, words: &'a [String]) -> Result<u8, ProgramErro
         advisories,
         exceptions: exceptions_of(&excepting),
     };
-    checked_all(rt, beside, &files).map_err(|error| stopped(asked, error))
+    check_all(rt, beside, &files).map_err(|error| stop_error(asked, error))
 }
 
 /// The exceptions, if there is a file of them.
@@ -155,7 +155,7 @@ fn write_stop(rt: &HostRuntime, writing: Writing<'_>, error: &StopError) {
 
 /// Checks the lock files, and writes the output and the lines. Returns the exit status. What they are checked with is dropped after
 /// the last one is checked, before the output is written.
-fn checked_all(rt: &HostRuntime, beside: Beside<'_, '_>, files: &[&str]) -> Result<u8, RunError> {
+fn check_all(rt: &HostRuntime, beside: Beside<'_, '_>, files: &[&str]) -> Result<u8, RunError> {
     let writing = beside.writing;
     let exceptions = beside.exceptions;
     let mut writer = Watched::new(rt.stdout());
@@ -164,15 +164,15 @@ fn checked_all(rt: &HostRuntime, beside: Beside<'_, '_>, files: &[&str]) -> Resu
         &mut writer,
         files,
         writing,
-        move |file| opened(rt, &beside, file),
+        move |file| check_file(rt, &beside, file),
     )?;
-    let is_said = said(rt, writing.asked, files, &outcomes, exceptions);
+    let is_said = write_lines(rt, writing.asked, files, &outcomes, exceptions);
     Ok(status_of(&outcomes, is_said))
 }
 
 /// Writes the lines of each lock file on standard error, and then those of exceptions that applied to nothing. Returns `true` if all were
 /// written.
-fn said(
+fn write_lines(
     rt: &HostRuntime,
     asked: Arguments<'_>,
     files: &[&str],
@@ -198,17 +198,17 @@ fn said(
             } else {
                 None
             };
-            is_said = said_excepted(rt, file, report, exceptions) && is_said;
+            is_said = write_excepted(rt, file, report, exceptions) && is_said;
         }
     }
     match exceptions {
-        Some(exceptions) => said_unused(rt, outcomes, exceptions) && is_said,
+        Some(exceptions) => write_unused(rt, outcomes, exceptions) && is_said,
         None => is_said,
     }
 }
 
 /// Writes a line for each hit of a lock file that is excepted. Returns `true` if all were written.
-fn said_excepted(
+fn write_excepted(
     rt: &HostRuntime,
     file: Option<&str>,
     report: &Report,
@@ -235,7 +235,7 @@ fn said_excepted(
 }
 
 /// Writes a line for each exception that is over or applied to nothing. Returns `true` if all were written.
-fn said_unused(
+fn write_unused(
     rt: &HostRuntime,
     outcomes: &[Result<Report, StopError>],
     exceptions: Exceptions<'_>,
@@ -253,7 +253,7 @@ fn said_unused(
 }
 
 /// The error of a run that stopped, which is about no lock file.
-fn stopped<'a>(asked: Arguments<'a>, error: RunError) -> ProgramError<'a> {
+fn stop_error<'a>(asked: Arguments<'a>, error: RunError) -> ProgramError<'a> {
     let error = StopError::Check(error);
     ProgramError::Stopped(subject_of(asked, "-", &error), error)
 }
@@ -268,7 +268,7 @@ fn show(rt: &HostRuntime, shown: Shown) -> Result<(), RunError> {
 }
 
 /// The version of Node that the arguments name.
-fn node_asked<'a>(
+fn asked_node<'a>(
     rt: &HostRuntime,
     asked: Arguments<'a>,
 ) -> Result<Option<Version>, ProgramError<'a>> {
@@ -278,27 +278,27 @@ fn node_asked<'a>(
     match node_of(rt.alloc(), text) {
         Ok(Some(version)) => Ok(Some(version)),
         Ok(None) => Err(ProgramError::Argument(ArgumentError::NodeVersion(Quoted { text }))),
-        Err(_) => Err(stopped(asked, RunError::Memory)),
+        Err(_) => Err(stop_error(asked, RunError::Memory)),
     }
 }
 
 /// Opens a lock file and checks it.
-fn opened<'f>(
+fn check_file<'f>(
     rt: &HostRuntime,
     beside: &Beside<'_, '_>,
     file: &'f str,
 ) -> Result<(Report, Output<'f>), StopError> {
     if file == "-" {
-        return checked(rt, rt.stdin(), beside, file);
+        return check_reader(rt, rt.stdin(), beside, file);
     }
     match File::open(rt, file) {
-        Ok(reader) => checked(rt, reader, beside, file),
+        Ok(reader) => check_reader(rt, reader, beside, file),
         Err(error) => Err(StopError::Check(RunError::Input(open_error(error)))),
     }
 }
 
 /// Checks a lock file.
-fn checked<'f, R: Read + Drop>(
+fn check_reader<'f, R: Read + Drop>(
     rt: &HostRuntime,
     reader: R,
     beside: &Beside<'_, '_>,

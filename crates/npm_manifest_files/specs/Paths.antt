@@ -1,15 +1,16 @@
 -- Parts of a path.
-use Rattle.std.specs.Prelude.{◌≡◌, ◌≢◌, ◌==◌, ◌++◌, ℕ, Bool, List, [], ◌∷◌, if◌then◌else◌, codes}
+use Rattle.std.specs.Prelude.{◌≡◌, ◌≢◌, ◌++◌, ℕ, Bool, List, [], ◌∷◌, if◌then◌else◌, codes}
 use Rattle.std.specs.List.{list_any}
+use Rattle.npm_texts.specs.SpecGrammar.{is_slash}
 use Rattle.npm_texts.specs.Texts.{without_end}
 
 abbrev pub has_slash : (path : List ℕ) → Bool
-has_slash path = list_any (λ b. b == 47) path
+has_slash path = list_any is_slash path
 
 -- what comes after the last `/` of a path: `w` of `/p/w`, and all of `w`
 abbrev pub last_part : (path : List ℕ) → List ℕ
 last_part [] = []
-last_part (b ∷ path) = if has_slash path then last_part path else (if b == 47 then path else b ∷ path)
+last_part (b ∷ path) = if has_slash path then last_part path else (if is_slash b then path else b ∷ path)
 
 -- what comes before it: `/p` of `/p/w`, and nothing of `w`
 abbrev pub above_part : (path : List ℕ) → List ℕ

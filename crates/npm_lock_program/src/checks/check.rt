@@ -27,6 +27,7 @@ use npm_manifest_files::{LoadError, Loaded, Workspace};
 use serde_json::Value;
 use std::alloc::{AllocError, Global};
 use std::io::Read;
+use std::mem::forget;
 
 /// Reads a lock file to the end, and returns its report and its output: the mismatches of the manifests, the problems but those of
 /// ignored kinds, the packages that an advisory hits which is not excepted, and the dependencies that are not checked if they are
@@ -42,7 +43,8 @@ use std::io::Read;
 ///
 /// # Memory
 ///
-/// Allocates the report and the output, and for the time of the call the lock file with its text.
+/// Allocates the report and the output, and for the time of the call the lock file with its text. A lock file that is not one of several
+/// is not freed.
 pub fn checked_in<'f, R: Read, F: FnOnce(&Value) -> Result<Loaded, LoadError>>(
     alloc: Global,
     reader: &mut Watched<R>,
@@ -121,9 +123,19 @@ fn report_of<'f>(
     };
     // While the output is made, the index takes no memory.
     drop(sound);
-    match output_of(alloc, text, &report, &found, wanted) {
+    let output = output_of(alloc, text, &report, &found, wanted);
+    drop(found);
+    free(lock, wanted.named);
+    match output {
         Ok(output) => Ok((report, output)),
         Err(_) => Err(RunError::Memory),
+    }
+}
+
+/// Frees a lock file that is one of several. The only one stays: the program ends, and to free each member takes a seventh of the time.
+fn free(lock: Value, is_one_of_many: bool) {
+    if !is_one_of_many {
+        forget(lock);
     }
 }
 

@@ -32,6 +32,6 @@ pub struct Wanted<'a, 'f> {
     pub format: Format,
     /// The path of the lock file, as findings name it.
     pub file: &'f str,
-    /// Each line names the lock file.
+    /// The lock file is one of several, and each line names it.
     pub named: bool,
 }

@@ -40,8 +40,8 @@ returns-in-Err-counted_of-clause-refused c =
     (rw c.in_ok-mismatches.ensures.placed at c.in_ok-lock.ensures.made)
     (rw c.in-Ok.ensures.file at c.in-Err-counted_of.ensures.refused)
 
-pub returns-in-Ok-output_of-clause-found : goal.returns-in-Ok-output_of-clause-found
-returns-in-Ok-output_of-clause-found c =
+pub returns-in-Ok-output-clause-found : goal.returns-in-Ok-output-clause-found
+returns-in-Ok-output-clause-found c =
     let made = rw c.in_ok-mismatches.ensures.placed at c.in_ok-lock.ensures.made in (
       map found_value c.in-Ok-counted_of.counted.found.items,
       record {
@@ -57,5 +57,5 @@ returns-in-Ok-output_of-clause-found c =
         omitted = rw made at c.count_of.ensures;
         listed = refl;
       },
-      rw c.deref-2.ensures.value at c.in-Ok-output_of.ensures,
+      rw c.deref-2.ensures.value at c.in-Ok-output.ensures,
     )

@@ -172,9 +172,10 @@ def tell_times(gate, sampled):
     gate.say(f"{total:9}             the longest chain of provers, in seconds of a processor: {', '.join(way) if total else 'nothing was proved'}")
 
 
-def keep_built(before, names):
-    """Notes of what `rt ci` has built of these crates that it was built of these sources, if they are those from before."""
-    if crates.is_built("--sources", *names).stdout.strip() != before:
+def keep_built(before, names, read=None):
+    """Notes of what `rt ci` has built of these crates that it was built of these sources, if the crates that it read, or else these, still
+    have those from before."""
+    if crates.is_built("--sources", *(read or names)).stdout.strip() != before:
         return
     for name in names:
         out = os.path.join("crates", name, "out")
@@ -201,12 +202,13 @@ def library_in(line):
 
 def prove(gate, log, sampled):
     """Proves all crates from nothing, and keeps of each library as it is built that it was built of these sources."""
-    before = crates.is_built("--sources", *crates.listed()).stdout.strip()
+    every = list(crates.listed())
+    before = crates.is_built("--sources", *every).stdout.strip()
     with subprocess.Popen([os.path.join(crates.CI, "shared", "sample.py"), str(os.getpid()), sampled]) as sampler, \
             concurrent.futures.ThreadPoolExecutor(1) as notes:
         try:
             said = gate.part("rt ci", ["rt", "ci"], is_shown=True,
-                             see=lambda line: library_in(line) and notes.submit(keep_built, before, [library_in(line)]))
+                             see=lambda line: library_in(line) and notes.submit(keep_built, before, [library_in(line)], every))
         finally:
             sampler.send_signal(signal.SIGTERM)
     with open(log, "w", encoding="utf-8") as file:
@@ -216,7 +218,7 @@ def prove(gate, log, sampled):
     gate.results += [Result(name, 0, int(said == "ok"), int(said != "ok"), said) for name, said in sorted(tests)]
     is_proved = all(it.failed == 0 for it in gate.results if it.name == "rt ci")
     if is_proved:
-        keep_built(before, list(crates.listed()))
+        keep_built(before, every)
     return is_proved
 
 

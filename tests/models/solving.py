@@ -152,14 +152,20 @@ def compare(program, make, fault_of, count, seed):
     """Makes cases, and compares the line of each. Returns how many there are. Few with a selection, or without, would compare little."""
     r, count = random.Random(seed + made.SEED), count * made.TIMES
     cases = [make(r) for _ in range(count)]
-    ran = subprocess.run([program], input="".join(map(line_of, cases)), capture_output=True, encoding="utf-8")
-    lines = ran.stdout.splitlines()
-    assert (ran.returncode, len(lines)) == (0, count), ran.stderr
+    lines = said_of_all(program, cases)
     for case, line in zip(cases, lines):
         fault = fault_of(case, line)
         assert fault is None, f"{line}: {fault}: {line_of(case)}"
     assert count // 10 <= sum(line.startswith("none") for line in lines) <= count - count // 10
     return count
+
+
+def said_of_all(program, cases):
+    """The line that a program writes of each case."""
+    ran = subprocess.run([program], input="".join(map(line_of, cases)), capture_output=True, encoding="utf-8")
+    lines = ran.stdout.splitlines()
+    assert (ran.returncode, len(lines)) == (0, len(cases)), ran.stderr
+    return lines
 
 
 def said_of(program, case):

@@ -106,7 +106,8 @@ def divided(lines):
     for program, asked in lines.items():
         by_length = sorted(asked, key=len)
         waiting = by_length[bisect.bisect(list(itertools.accumulate(map(len, by_length))), MOST):]
-        now[program] = [line for line in asked if line not in waiting]
+        are_late = set(waiting)
+        now[program] = [line for line in asked if line not in are_late]
         if waiting:
             later[program] = waiting
     return now, later

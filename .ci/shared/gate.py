@@ -59,7 +59,8 @@ class Gate:
             except OSError as error:  # (there is no such script, say)
                 return Ran(f"WRONG: {error}", "", 127, 0.0)
             said = []
-            self.beside += [run] * is_beside
+            if is_beside:
+                self.beside.append(run)
             with run.stdout:
                 for line in run.stdout:
                     said.append(line.decode(errors="replace"))
@@ -204,11 +205,16 @@ def prove(gate, log, sampled):
     """Proves all crates from nothing, and keeps of each library as it is built that it was built of these sources."""
     every = list(crates.listed())
     before = crates.is_built("--sources", *every).stdout.strip()
+
+    def note(line):
+        library = library_in(line)
+        if library:
+            notes.submit(keep_built, before, [library], every)
+
     with subprocess.Popen([os.path.join(crates.CI, "shared", "sample.py"), str(os.getpid()), sampled]) as sampler, \
             concurrent.futures.ThreadPoolExecutor(1) as notes:
         try:
-            said = gate.part("rt ci", ["rt", "ci"], is_shown=True,
-                             see=lambda line: library_in(line) and notes.submit(keep_built, before, [library_in(line)], every))
+            said = gate.part("rt ci", ["rt", "ci"], is_shown=True, see=note)
         finally:
             sampler.send_signal(signal.SIGTERM)
     with open(log, "w", encoding="utf-8") as file:

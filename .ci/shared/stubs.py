@@ -53,10 +53,10 @@ def taken_from(file, text, stays, homes):
     """The functions of a source whose bodies are taken away, with their paths: each but methods of traits and those that stay."""
     found, after = [], 0
     for function in functions(file, text):
-        path = whole_path(function, file, homes)
+        path, before = whole_path(function, file, homes), text[after : function.start]
         is_inner = function.start < after or function.body == function.end
         after = max(after, function.end)
-        if not (is_inner or function.trait or path is None or function.path() in stays or STAYS.search(text[:function.start])):
+        if not (is_inner or function.trait or path is None or function.path() in stays or STAYS.search(before)):
             found.append((function, path))
     return found
 

@@ -37,17 +37,18 @@ def text_of(name):
 
 
 class Recipe:
-    """A section of the page and the file of Python that it names, in a folder of its own."""
+    """A section of the page, with the script and the file of Python that it names, in a folder of its own."""
 
     def __init__(self, title, room):
         self.title, self.room, self.began = title, room, []
         section = re.search(rf"^## {title}.*?(?=^## |\Z)", text_of("README.md"), re.M | re.S).group(0)
-        self.starts, self.stops = re.findall(r"^```sh\n(.*?)^```$", section, re.M | re.S)
+        self.starts = text_of(*re.findall(r"\]\((\w+\.sh)\)", section))
+        self.stops, = re.findall(r"^```sh\n(.*?)^```$", section, re.M | re.S)
         self.python = text_of(*re.findall(r"\]\((\w+\.py)\)", section))
         self.names = {}
 
     def shell(self, text):
-        """Runs a block as a person pastes it, as another user than root. What it leaves running is ended in `end`."""
+        """Runs a script, or a block as a person pastes it, as another user than root. What it leaves running is ended in `end`."""
         as_user = ["setpriv", "--reuid=nobody", "--regid=nogroup", "--clear-groups"] if os.getuid() == 0 else []
         with open(os.path.join(self.room, "said"), "ab") as said:
             ran = subprocess.Popen([*as_user, "bash", "-c", text], cwd=self.room, env={**os.environ, "HOME": self.room, "LC_ALL": "C"},

@@ -1,4 +1,18 @@
-"""The files `rows/*.calls`, for calls whose arguments have several lines. README.md says how they are written."""
+"""The files `rows/*.calls`, for calls whose arguments have several lines, a case a paragraph. A paragraph with a call and no result has
+what the cases below share; an argument that a case lacks is the one above:
+
+    $ npm_lock::check_any, its problems
+    @ lock                         the name of an argument, and below it its lines; or `@ NAME = PATH`, a file of `rows`
+    | {"lockfileVersion": 1, "dependencies": {…}}
+    @ manifest
+
+    # the name of the case; without it the call and its arguments are the name
+    | "a": {"version": "1.0.0"}    lines of the first argument, here in the place of `…`
+    @ manifest
+    | {"dependencies": {"a": "^2"}}
+    > invalid a                    a line of the result, or an item of a list
+
+A paragraph of lines that begin with `#` is about the cases below it. The first line of a file names the program."""
 from dataclasses import dataclass, field
 
 from support import call_rows, rows, shared_texts

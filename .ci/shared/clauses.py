@@ -31,13 +31,10 @@ HEAD = """# Clauses
 `.ci/promises --write` writes this page and those of the crates from the contracts of the code, and the gate compares them.
 [PROMISES](PROMISES.md) says in plain words what is proved.
 
-The page of a crate has its public calls, each below the file that it is in. First come the clauses of a call, each with its label, as
-the code has them: `requires` is what a caller has to prove, and all others are what the call ensures. After an arrow are the definitions
-that the clauses name, with the words above them in `specs/`; a contract that is one record has the parts of it as clauses. At the end are
-the wrong bodies of the crate: edits that the prover must refuse, each with the function that it is in.
+The page of a crate has its public calls by file, each with its clauses by their labels: `requires` is what a caller has to prove, all
+others are what the call ensures; a contract that is one record has its parts as clauses. After an arrow are the definitions that the
+clauses name, with the words above them in `specs/`. At the end are the crate's wrong bodies: edits that the prover must refuse.
 
-crate | calls | wrong bodies
----|---|---
 """
 COMMON = """
 Many clauses name these definitions, which the pages do not repeat:
@@ -250,13 +247,13 @@ def common_of(calls):
 
 def pages():
     """The pages by their paths: that of each crate with calls or wrong bodies, and the one that has a link to each."""
-    calls, wrong = {crate: entries(crate) for crate in crates()}, {crate: len(list(wrong_bodies(crate))) for crate in crates()}
+    calls, wrong = {crate: entries(crate) for crate in crates()}, {crate: any(wrong_bodies(crate)) for crate in crates()}
     common = common_of([call for of_crate in calls.values() for call in of_crate.values()])
     told = [f"- `{short_of(at)}.{name}`: {FILES[at].words[name]}" for at, name in common if FILES[at].words[name]]
     listed_crates = [crate for crate in crates() if calls[crate] or wrong[crate]]
-    rows = "".join(f"[{crate}](../crates/{crate}/CLAUSES.md) | {len(calls[crate])} | {wrong[crate]}\n" for crate in listed_crates)
+    links = "".join(f"- [{crate}](../crates/{crate}/CLAUSES.md)\n" for crate in listed_crates)
     found = {f"crates/{crate}/CLAUSES.md": "\n".join(section(crate, common)) for crate in listed_crates}
-    return {INDEX: HEAD + rows + COMMON + "\n" + "\n".join(told) + "\n", **found}
+    return {INDEX: HEAD + links + COMMON + "\n" + "\n".join(told) + "\n", **found}
 
 
 def stale(wanted):

@@ -15,7 +15,6 @@ version_solving, which makes all selections:
   comparison has it.
 """
 # See docs/DECISIONS.md, "An optional dependency of a version only limits".
-# See docs/DECISIONS.md, "A name without a document is a name without versions".
 import solving
 from support import programs
 

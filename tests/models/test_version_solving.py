@@ -1,6 +1,5 @@
 """version_solving and solving_reasons beside their definitions on small instances, on long instances, and with each request for memory
 refused."""
-# See docs/DECISIONS.md, "The search for versions that fit together knows numbers alone".
 # See docs/DECISIONS.md, "What the search for versions keeps is checked where it is used".
 # See docs/DECISIONS.md, "Reasons are checked after they are found".
 import os

@@ -3,8 +3,6 @@
  * A value of the type npm_version: two bytes, the key of the version, and its text as it was written. The two bytes are a number,
  * the high byte first: twice the length of the key, and one more if the version is a prerelease. So two values are compared by
  * the bytes of their keys, and nothing is read or allocated.
- *
- * See docs/DECISIONS.md, "A value in PostgreSQL holds its keys".
  */
 #ifndef DENIMSCREE_VERSION_H
 #define DENIMSCREE_VERSION_H

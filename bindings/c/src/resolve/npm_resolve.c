@@ -4,8 +4,10 @@
  * and a length that nobody reads take the place of a null pointer. The Makefile gives the proved call the name that is
  * declared here.
  *
- * See docs/DECISIONS.md, "An answer for C is written to the caller's array".
- * See docs/DECISIONS.md, "A lock file is an answer in the place of the object".
+ * An answer is written to the caller's array, as a key is: a text of the library's own would need the steps of a handle. If the
+ * array is too short, a second call searches again. A lock file takes the place of the JSON object. In the object it would be an
+ * escaped string, which C needs a reader of JSON for, or an object, of which JavaScript puts names that are numbers first. It
+ * begins with a brace and a newline, so it needs no status of its own.
  */
 #include "npm_resolve.h"
 

@@ -80,10 +80,6 @@ THROUGH = {
     "Dependents::of_sound_lock": "npm_advisories::audit_lock",
     "npm_advisories::audit": "npm_advisories::audit_lock",
     "Found::to_json": "npm_advisories::audit_lock",
-    **{name: "npm_advisories::audit_lock" for name in (
-        "Advisory::sets", "Index::add", "Index::new", "Names::add", "Names::new", "npm_advisories::add_osv", "npm_advisories::has_fault",
-        "npm_advisories::have_fault", "npm_advisories::is_refused", "npm_advisories::npm_advisory", "npm_advisories::range_of",
-        "npm_advisories::spans_of_range", "npm_advisories::spans_of_ranges", "npm_advisories::spans_of_versions")},
 }
 
 # A function that returns nothing but an error, and one that frees.

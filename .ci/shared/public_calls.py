@@ -5,11 +5,11 @@ A script that has to call each of them in a row gives the names of its rows to `
 stands in no row which call makes it, with all that it is given. A name is the type and the function, or the crate and a
 function that has no type.
 """
-import os
 import re
 
-from crates import CRATES, is_program, listed
-from functions import blanked, blocks, extent
+import files
+from crates import is_program, listed
+from rattle import Source, source
 
 # Libraries that no user calls, and those of which runs of npm_lock_check, npm_pick_command and npm_resolve_command make each call.
 SCRIPTS = {"named_calls": "makes the calls", "node_semver_callers": "examples",
@@ -90,7 +90,6 @@ THROUGH = {
 NEEDLESS = {"SemverError::out_of_memory", "node_semver_c::node_semver_range_free", "node_semver_c::node_semver_version_free",
             "node_semver_c::node_semver_intervals_free"}
 
-FUNCTION = re.compile(r"\b(pub\s+)?(?:unsafe\s+|const\s+|extern\s+\"\"\s+)*fn\s+(\w+)")
 OUT_OF_MEMORY = re.compile(r"\bGlobal\b|\bAllocGlobal\b|\bAllocError\b|\bAllocator\b|(?<![\w:])Result<(?:[^<>,]|<[^<>]*>|\([^()]*\))*>\s*$")
 
 # A source, and its public functions that can run out of memory.
@@ -139,30 +138,14 @@ pub trait Made {
 ]
 
 
-def signature(text, at):
-    """What stands between a function's name and its clauses or its body."""
-    depth = 0
-    for place in range(at, len(text)):
-        letter = text[place]
-        depth += (letter in "([") - (letter in ")]")
-        if depth == 0 and (letter in "{;" or re.match(r"\b(?:requires|ensures|where)\b", text[place:])):
-            return text[at:place]
-    raise ValueError("a function has no end")
-
-
-def calls_of(text, crate):
+def calls_of(source, crate):
     """The public functions of a source that can run out of memory, by their names."""
-    text, found, after = blanked(text), set(), 0
-    within = list(blocks(text))
-    for function in FUNCTION.finditer(text):
-        if function.start() < after:
-            continue
-        said = signature(text, function.end())
-        _, after = extent(text, function.end())
-        owner = next((it for it in within if it[0] < function.start() < it[1]), None)
-        is_public = bool(function[1]) or owner is not None and owner[3] not in (None, "From")
+    found = set()
+    for function in (it for it in source.functions if not it.is_inner):
+        is_public = function.is_public or function.trait not in (None, "From")
+        said = re.split(r"\bwhere\b", function.signature)[0]
         if is_public and OUT_OF_MEMORY.search(said) and "fmt::Result" not in said:
-            found.add(f"{owner[2] if owner else crate}::{function[2]}")
+            found.add(f"{function.type or crate}::{function.name}")
     return found
 
 
@@ -173,13 +156,7 @@ def libraries():
 
 
 def of_crate(crate):
-    found = set()
-    for at, _, names in os.walk(os.path.join(CRATES, crate, "src")):
-        for name in sorted(names):
-            if name.endswith(".rt"):
-                with open(os.path.join(at, name), encoding="utf-8") as file:
-                    found |= calls_of(file.read(), crate)
-    return found
+    return {call for path in files.sources(crate) for call in calls_of(source(path), crate)}
 
 
 def lacking(rows, crates):
@@ -197,6 +174,6 @@ def lacking(rows, crates):
 def unseen():
     """What is read wrongly in the made-up sources: a line for each."""
     for text, wanted in MADE_UP:
-        found = calls_of(text, "made_up")
+        found = calls_of(Source(text), "made_up")
         if found != wanted:
             yield f"of a made-up source these calls were found: {sorted(found)}, and these wanted: {sorted(wanted)}"

@@ -1,8 +1,9 @@
 """Copies in which only some functions have bodies: what is taken away, what stays, and where the holes are."""
 from support import programs  # (it makes the runner's own modules known)
 
-import functions
+import files
 import stubs
+from rattle import Source, function_at
 
 LIB = '''//! fn none() {}
 pub mod below;
@@ -46,13 +47,14 @@ impl Thing {
 def made(tmp_path):
     for file, text in {"src/lib.rt": LIB, "src/below.rt": BELOW, "proofs/taken/Answers.antt": "", "proofs/below/Thing/+again/Invariants.antt": "",
                        "proofs/kept/Answers.antt": ""}.items():
-        stubs.write(str(tmp_path / file), text)
+        files.write(str(tmp_path / file), text)
     return stubs.leave_bodies(str(tmp_path), "made", ["kept", "Thing::kept"])
 
 
 def test_bodies_are_taken_away_but_for_those_that_stay(tmp_path):
     texts = made(tmp_path)
-    bodies = {function.path(): text[function.body:function.end] for file, text in texts.items() for function in functions.functions(file, text)}
+    found = [(function, text) for file, text in texts.items() for function in Source(text, file).functions]
+    bodies = {function.path(): text[function.body:function.end] for function, text in found}
     assert sorted(path for path, body in bodies.items() if body == stubs.BODY) == ["Thing::again", "Thing::there", "taken"]
     assert bodies["kept"] == "{ taken([0; 4]) }" and bodies["Thing::kept"] == "{}" and bodies["ThingClone::clone"] == "{ Thing }"
     assert "requires { IsSome { first: 1 } }\n    ensures some { result ≡ { 2 } }\n{\n    unreachable!()" in texts["src/lib.rt"]
@@ -67,7 +69,7 @@ def test_a_hole_stands_for_each_proof(tmp_path):
 
 
 def test_the_innermost_function_around_a_place():
-    at = functions.function_at("src/lib.rt", LIB, LIB.index("let brace"))
+    at = function_at("src/lib.rt", LIB, LIB.index("let brace"))
     assert at.path() == "taken"
-    assert functions.function_at("src/lib.rt", LIB, LIB.index("fn inner") + 1).path() == "inner"
-    assert functions.function_at("src/lib.rt", LIB, LIB.index("use below")) is None
+    assert function_at("src/lib.rt", LIB, LIB.index("fn inner") + 1).path() == "inner"
+    assert function_at("src/lib.rt", LIB, LIB.index("use below")) is None

@@ -54,8 +54,6 @@ def needed(part):
     if part.needs not in ("programs", "packages") or not os.path.isfile(os.path.join(files.ROOT, part.path)):
         return []
     words = set(re.findall(r"\w+", code_of(part.path)))
-    if part.needs == "packages":
-        words.update(re.findall(r"crate=\$\{1:-(\w+)\}", code_of(".ci/packages/library")))
     return [name for name, (_, static) in crates.listed().items() if name in words and (static or crates.is_program(name))]
 
 

@@ -139,8 +139,7 @@ def tests_in(log):
 
 def dear_provers(sampled):
     """The rows of what `sample.py` wrote: seconds of a processor, megabytes, and a crate, its tests or its edits."""
-    with open(sampled, encoding="utf-8") as file:
-        rows = [line.rstrip("\n").split(None, 2) for line in file]
+    rows = [line.split(None, 2) for line in files.read(sampled).splitlines()]
     return [(int(seconds), int(megabytes), name) for seconds, megabytes, name in rows]
 
 
@@ -217,8 +216,7 @@ def prove(gate, log, sampled):
             said = gate.part("rt ci", ["rt", "ci"], is_shown=True, see=note)
         finally:
             sampler.send_signal(signal.SIGTERM)
-    with open(log, "w", encoding="utf-8") as file:
-        file.write(said)
+    files.write(log, said)
     tests = tests_in(said)
     gate.counts[TESTED] = len({name for name, _ in tests})
     gate.results += [Result(name, 0, int(said == "ok"), int(said != "ok"), said) for name, said in sorted(tests)]

@@ -10,8 +10,7 @@ import rattle
 WORD = re.compile(r"(?<![\w'.])[^\W\d][\w']*(?:\.[^\W\d][\w']*)*")
 BEFORE = r"(?:(?:pub|abbrev|unfoldable|opaque|irreducible|def|rec)\s+)*"
 DECLARED = re.compile(rf"{BEFORE}(data|record)?\s*(?:pub\s+)?([\w'◌<=>≤≡+*-]+)")
-# What stands before definitions that are indented: the head of a group that refers to one another, or that has parameters
-# in common.
+# The head of a group: its definitions are indented, and refer to one another, or have parameters in common.
 GROUP = re.compile(r"(abbrev )?mutual$|module\b.*\bwhere$")
 OTHER = re.compile(r"(pub )?(use|mod)\b")
 COMMENT = re.compile(r"--.*")
@@ -112,8 +111,8 @@ def file(path):
 
 
 def located(way):
-    """Where a path such as semver_sets, specs, Meaning, IsRefused leads: the file of definitions, and the names after it;
-    no file if the path leads to none of this repository."""
+    """Where a path such as semver_sets, specs, Meaning, IsRefused leads: the file, and the names after it; no file if
+    the path leads to none of this repository."""
     for length in range(len(way), 2, -1) if way[1:2] == ["specs"] else ():
         path = os.path.join("crates", *way[:length]) + ".antt"
         if os.path.isfile(os.path.join(files.ROOT, path)):

@@ -113,8 +113,8 @@ def result_of(name, seconds, status, output, errors):
 def run(part, environment):
     """Runs a part, and keeps what it writes until it ends."""
     began = time.monotonic()
-    done = subprocess.run(part.command(), cwd=files.ROOT, env=environment, stdin=subprocess.DEVNULL, capture_output=True,
-                          encoding="utf-8", errors="replace")
+    done = subprocess.run(part.command(), cwd=files.ROOT, env=environment, stdin=subprocess.DEVNULL,
+                          capture_output=True, encoding="utf-8", errors="replace")
     found = result_of(part.short, time.monotonic() - began, done.returncode, done.stdout, done.stderr)
     few = too_few(part, found.passed + found.failed)
     found.failed, found.said = found.failed + bool(few), found.said + few

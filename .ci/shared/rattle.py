@@ -45,18 +45,19 @@ class Function:
     is_inner: bool = False  # Whether it is within another function.
 
     def path(self):
-        """A path below its crate, or of a method the end of it: its type may be in another module, and a method of a trait
-        stands below its type and the trait."""
+        """A path below its crate, or of a method the end of it: its type may be in another module, and a method of a
+        trait stands below its type and the trait."""
         trait = self.trait if self.trait not in (None, self.type) else ""
         return "::".join([*([f"{self.type}{trait}"] if self.type else self.module), self.name])
 
 
 class Source:
-    """A source: its code without comments, and `plain`, without what stands in quotes too. In both each letter is where it
-    was."""
+    """A source: its `code` without comments, and `plain`, without what stands in quotes too. In both each letter stands
+    where it was."""
 
     def __init__(self, text, file=""):
-        self.code, self.plain = without_comments(text), TOKEN.sub(blank, text)
+        self.code = TOKEN.sub(lambda it: blank(it) if it[0].startswith("//") else it[0], text)
+        self.plain = TOKEN.sub(blank, text)
         self.blocks = list(blocks_of(self.plain))
         self.functions = [self.function(found, module_of(file)) for found in FUNCTION.finditer(self.plain)]
         ends = itertools.accumulate((it.end for it in self.functions), max, initial=0)
@@ -98,10 +99,6 @@ def source(path):
 def blank(token):
     """Blanks in place of a token."""
     return re.sub(r"[^\n]", " ", token[0])
-
-
-def without_comments(text):
-    return TOKEN.sub(lambda it: blank(it) if it[0].startswith("//") else it[0], text)
 
 
 def module_of(file):

@@ -4,22 +4,23 @@ import json
 
 import pytest
 
-from support import programs  # (it makes the runner's own modules known)
-import sarif
+from support import sarif
 
 LOG = {
     "$schema": "https://json.schemastore.org/sarif-2.1.0.json",
     "version": "2.1.0",
     "runs": [{
         "tool": {"driver": {"name": "checker", "version": "1.0.0", "rules": [
-            {"id": "invalid", "shortDescription": {"text": "a version outside"}, "defaultConfiguration": {"level": "error"}}]}},
+            {"id": "invalid", "shortDescription": {"text": "a version outside"},
+             "defaultConfiguration": {"level": "error"}}]}},
         "invocations": [{"executionSuccessful": False}],
         "columnKind": "unicodeCodePoints",
         "results": [{
             "ruleId": "invalid", "ruleIndex": 0, "level": "error",
             "message": {"text": "b 1.0.0 is outside: a{{0}}, [0], \\\\x, \\[b\\](1)"},
             "locations": [{"physicalLocation": {
-                "artifactLocation": {"uri": "a%20b/package-lock.json"}, "region": {"startLine": 3, "startColumn": 7}}}]}],
+                "artifactLocation": {"uri": "a%20b/package-lock.json"},
+                "region": {"startLine": 3, "startColumn": 7}}}]}],
     }],
 }
 
@@ -81,6 +82,9 @@ def test_nothing_is_found_in_a_log_without_a_fault():
     assert sarif.faults(json.dumps(LOG)) == []
 
 
-@pytest.mark.parametrize("where, what", CHANGES, ids=[f"{'.'.join(map(str, where))} is {what!r}" for where, what in CHANGES])
+NAMES = [f"{'.'.join(map(str, where))} is {what!r}" for where, what in CHANGES]
+
+
+@pytest.mark.parametrize("where, what", CHANGES, ids=NAMES)
 def test_a_fault_is_found(where, what):
     assert sarif.faults(changed(where, what)) != []

@@ -12,6 +12,7 @@ import xml.etree.ElementTree
 
 import html5lib
 
+from support import programs  # (it makes the runner's own modules known)
 import files
 
 PARTS = ["Problems", "Advisories: critical", "Advisories: high", "Advisories: moderate", "Advisories: low", "Advisories: info",
@@ -118,8 +119,8 @@ class Wanted:
 # ---- what is read
 
 class Page:
-    """A page, as a browser reads it: its paragraphs before the sections, the files that were refused, the sections of the
-    others, and what is wrong with it."""
+    """A page, as a browser reads it: its paragraphs before the sections, the files that were refused, the sections of
+    the others, and what is wrong with it."""
 
     def __init__(self, text):
         parser = html5lib.HTMLParser(namespaceHTMLElements=False)

@@ -7,6 +7,7 @@ function that has no type.
 """
 import re
 
+from support import programs  # (it makes the runner's own modules known)
 import files
 from crates import is_program, listed
 from rattle import Source, source

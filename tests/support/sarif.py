@@ -14,9 +14,10 @@ import importlib
 import json
 import re
 
+from support import programs  # (it makes the runner's own modules known)
 import files
 
-SCHEMA = ".ci/shared/sarif.schema.json"
+SCHEMA = "tests/support/sarif.schema.json"
 
 # Where a member is an object, or a list of objects, of another class: the class and the member, and the class that is there.
 INSIDE = {

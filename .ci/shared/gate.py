@@ -145,16 +145,12 @@ def dear_provers(sampled):
 
 def longest_chain(rows):
     """The dearest way from a crate that uses none to a crate, its tests or its edits, each proved after what it uses."""
-    seconds = collections.Counter({name: taken for taken, _, name in rows})
-    best, listed = {}, crates.listed()
-
-    def chain(crate):
-        if crate not in best:
-            found = max((chain(it) for it in listed[crate][0] if it in listed), default=(0, []))
-            best[crate] = found[0] + seconds[crate], [*found[1], crate]
-        return best[crate]
-
-    ends = [(total + seconds[f"{crate}, {of}"], [*way, of]) for crate in listed for total, way in [chain(crate)] for of in ("its tests", "its edits")]
+    seconds, best = collections.Counter({name: taken for taken, _, name in rows}), {}
+    for crate, (uses, _) in crates.listed().items():  # (crates come after those that they use)
+        total, way = max((best[it] for it in uses if it in best), default=(0, []))
+        best[crate] = total + seconds[crate], [*way, crate]
+    ends = [(total + seconds[f"{way[-1]}, {of}"], [*way, of]) for of in ("its tests", "its edits")
+            for total, way in best.values()]
     total, way = max(ends, default=(0, []))
     return total, [f"{name} {seconds[name]}" for name in way[:-1]] + [f"{way[-1]} {seconds[', '.join(way[-2:])]}"] * bool(way)
 

@@ -47,8 +47,7 @@ LIBRARIES = {"node_semver": "node_semver_c", "npm_pick": "npm_pick_c", "npm_reso
 
 def libraries():
     """Builds the libraries for C over the exports that the gate has proved."""
-    for crate in LIBRARIES.values():
-        run(os.path.join(ROOT, ".ci", "packages", "library"), crate)
+    run(os.path.join(ROOT, ".ci", "packages", "library"), *LIBRARIES.values())
     run("make", "-C", os.path.join(BINDINGS, "c"), "all", "pick", "resolve")
 
 

@@ -8,8 +8,9 @@ import sys
 from versions import ROOT, version
 
 sys.path.insert(0, os.path.join(ROOT, ".ci", "shared"))
-import contracts
 import crates
+import files
+import rattle
 
 
 def gate_of(path):
@@ -28,11 +29,9 @@ def gate_of(path):
 
 def counts(name):
     """How many functions and clauses the sources of a crate have. What `derive` writes is not counted."""
-    functions = clauses = 0
-    for text in contracts.sources(os.path.join(crates.CRATES, name)):
-        functions += len(contracts.FUNCTION.findall(text))
-        clauses += sum(kind == "ensures" for _, _, kind, _, _ in contracts.labelled_clauses(text))
-    return {"functions": functions, "clauses": clauses}
+    functions = [it for path in files.sources(name) for it in rattle.source(path).functions]
+    clauses = sum(kind == "ensures" for it in functions for kind, _, _ in it.clauses)
+    return {"functions": len(functions), "clauses": clauses}
 
 
 def statement(gate):

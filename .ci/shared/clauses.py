@@ -5,13 +5,13 @@ counts, and what `main.rt` has. A call has its clauses, and the definitions of t
 above it in `specs/`.
 """
 import collections
-import glob
 import os
 import re
 
-from contracts import FUNCTION, clauses_at, end_of_block, ghost_members, imported, read
+import definitions
+import files
+import rattle
 from crates import is_program, listed
-from functions import blanked_in_place, blocks
 
 # What no user calls: tests, and what scripts run.
 LEFT_OUT = ("named_calls", "semver_answers", "node_semver_callers")
@@ -19,9 +19,6 @@ LEFT_OUT = ("named_calls", "semver_answers", "node_semver_callers")
 # made of them.
 ALSO = ("judgement_of", "dependency_of", "find", "asked_of", "verdict_of_both", "overridden", "workspace_of", "is_contained",
         "engine_problem", "path_of", "read_error", "json_error", "is_package_name")
-NAME = re.compile(r"^(?:(?:pub|abbrev|unfoldable|opaque|irreducible|def|rec|data|record)\s+)*([^\W\d][\w']*)")
-FIELD = re.compile(r"^ +(?:pub )?([\w']+)(?: +[^:]*)? :")
-WORD = re.compile(r"(?<![\w'.])[^\W\d][\w']*(?:\.[^\W\d][\w']*)*")
 # Ghost members that say nothing of a call, or of private fields alone.
 UNSEEN = ("laws", "invariant", "Value", "view")
 MANY = 8
@@ -50,109 +47,43 @@ def crates():
     return [name for name in listed() if not name.endswith(("_tests", "_answers")) and name not in LEFT_OUT]
 
 
-class Definitions:
-    """The definitions of a file of `specs/`: the words above each, and the fields of a record with theirs."""
-
-    def __init__(self, path):
-        self.words, self.fields, self.imports = {}, {}, {}
-        with open(path, encoding="utf-8") as file:
-            text = file.read()
-        self.imports = {name: way for start in ("use", "pub use") for name, way in imported(read(path), start)}
-        said, at, is_record = [], None, False
-        for line in text.split("\n"):
-            comment = re.match(r"^(\s*)-- ?(.*)$", line)
-            field = FIELD.match(line)
-            if comment:
-                said = (said if len(comment[1]) == (0 if at is None or not said else len(comment[1])) else []) + [comment[2]]
-            elif not line.strip():
-                said, at, is_record = [], None, False
-            elif line[:1].strip() and (found := NAME.match(line)) and not re.match(r"(pub )?(use|mod)\b|\}", line):
-                at, is_record = found[1], "record " in line
-                self.words.setdefault(at, " ".join(said).strip())
-                said = []
-            elif is_record and field:
-                self.fields.setdefault(at, {})[field[1]] = " ".join(said).strip()
-                said = []
-
-
-FILES = {}
-
-
-def file_of(crate, path):
-    """The file of definitions that a path begins with, and the names after it."""
-    for length in range(len(path), 0, -1):
-        at = os.path.join("crates", crate, "specs", *path[:length]) + ".antt"
-        if os.path.isfile(at):
-            if at not in FILES:
-                FILES[at] = Definitions(at)
-            return at, path[length:]
-    return None, path
-
-
-def definition(way):
-    """The definition of a path such as semver_sets, specs, Meaning, IsRefused: its file and its name, wherever it is handed on
-    from; None for what is no definition of this repository."""
-    for _ in range(6):
-        crate, rest = way[0], way[2:]
-        if way[1:2] != ["specs"] or not os.path.isdir(os.path.join("crates", crate)) or "Lemmas" in way:
-            return None
-        at, names = file_of(crate, rest)
-        if not at or not names:
-            return None
-        if names[0] in FILES[at].words:
-            return at, names[0]
-        if names[0] not in FILES[at].imports:
-            return None
-        way = FILES[at].imports[names[0]] + names[1:]
-    return None
-
-
 def named(clause, brought):
     """The definitions that a clause names, in its order, each once."""
-    found = []
-    for word in WORD.findall(clause):
-        first, *more = word.split(".")
-        one = definition(brought[first] + more) if first in brought else None
-        if one and one not in found:
-            found.append(one)
-    return found
+    words = [word.split(".") for word in definitions.WORD.findall(clause)]
+    ways = [brought[first] + more for first, *more in words if first in brought]
+    return list(dict.fromkeys(filter(None, map(definitions.found, ways))))
 
 
 def handed(crate):
     """The names that a library hands on, and the modules that it has as public ones; None for a program."""
     if is_program(crate):
         return None, None
-    text = read(f"crates/{crate}/src/lib.rt")
-    names = {path[-1] for _, path in imported(text, "pub use")} | set(re.findall(r"^pub (?:unsafe |const )?(?:extern \"C\" )?fn (\w+)", text, re.M))
-    names |= set(re.findall(r"^pub (?:trait|struct|enum) (\w+)", text, re.M))
-    modules = set(re.findall(r"^pub mod (\w+);", text, re.M))
-    return names | {path[-1] for module in modules for _, path in imported(read(f"crates/{crate}/src/{module}.rt"), "pub use")}, modules
+    front = rattle.source(f"crates/{crate}/src/lib.rt")
+    modules = set(re.findall(r"^pub mod (\w+);", front.code, re.M))
+    fronts = [front, *(rattle.source(f"crates/{crate}/src/{module}.rt") for module in modules)]
+    names = {path[-1] for source in fronts for _, path in source.imported("pub use")}
+    names |= {it.name for it in front.functions if it.is_public}
+    return names | set(re.findall(r"^pub (?:trait|struct|enum) (\w+)", front.code, re.M)), modules
 
 
 def sources(crate):
-    return sorted(path for path in glob.glob(f"crates/{crate}/src/**/*.rt", recursive=True) if not re.search(r"/tests?(/|\.rt$)", path))
+    return [path for path in files.sources(crate) if not re.search(r"/tests?(/|\.rt$)", path)]
 
 
-def owner_of(at, within):
-    """The type that a place is in a block of, and the trait."""
-    found = next((it for it in within if it[0] < at < it[1]), None)
-    return (found[2], found[3]) if found else (None, None)
-
-
-def is_public(crate, path, is_pub, name, owner, trait, front):
+def is_public(crate, path, function, front):
     """Whether users of the crate can make a call."""
-    names, modules = front
+    (names, modules), name, owner, trait = front, function.name, function.type, function.trait
     if name in ALSO and crate.startswith(("npm_", "command_lines")):
         return True
     if names is None:
-        return is_pub or trait not in (None, "From") or path.endswith("/main.rt")
+        return function.is_public or trait not in (None, "From") or path.endswith("/main.rt")
     parts = path[len(f"crates/{crate}/src/"):-3].split("/")
     in_module = parts[0] in modules or not trait and parts == ["lib"]
     if crate in ("node_semver_c", "npm_pick_c", "npm_resolve_c"):
-        return is_pub and name.startswith(("node_semver_", "npm_pick_", "npm_resolve_")) or is_pub and in_module
+        return function.is_public and (name.startswith(("node_semver_", "npm_pick_", "npm_resolve_")) or in_module)
     if owner:
-        return (is_pub or trait is not None) and (owner in names or in_module)
-    return is_pub and (name in names or in_module)
+        return (function.is_public or trait is not None) and (owner in names or in_module)
+    return function.is_public and (name in names or in_module)
 
 
 def label_of(kind, label):
@@ -171,42 +102,37 @@ class Call:
         for one in named(clause, brought):
             self.named += [] if one in self.named else [one]
             if not label and kind == "ensures":
-                self.parts[one] = FILES[one[0]].fields.get(one[1], {})
+                self.parts[one] = one.fields()
 
     def lines(self, common):
         out = [f"- {label}: `{clause}`" for label, clause in self.clauses]
-        for at, name in self.named:
-            parts, words = self.parts.get((at, name), {}), FILES[at].words[name]
-            known = "; ".join(f"`{part}`" + (f" ({said})" if said else "") for part, said in parts.items())
-            if (at, name) not in common and (words or known):
-                out.append(f"- → `{short_of(at)}.{name}`" + (f": {words}" if words else "") + (f". Its parts: {known}" if known else ""))
+        for one in self.named:
+            parts = self.parts.get(one, {}).items()
+            known = "; ".join(f"`{part}`" + (f" ({said})" if said else "") for part, said in parts)
+            told = (f": {one.said}" if one.said else "") + (f". Its parts: {known}" if known else "")
+            out += [f"- → `{one.short()}`{told}"] if told and one not in common else []
         return out
-
-
-def short_of(at):
-    """The name of a file of definitions, after its crate."""
-    parts = at.split("/")
-    return parts[1] + "." + ".".join(parts[3:])[:-5]
 
 
 def entries(crate):
     """The public calls of a crate, by the file and the name."""
     front, found = handed(crate), {}
     for path in sources(crate):
-        text = read(path)
-        within, brought = list(blocks(blanked_in_place(text))), dict(imported(text, "ghost use"))
-        short = path[len(f"crates/{crate}/src/"):-3]
-        for at, is_pub, name, kind, label, clause in clauses_at(text):
-            owner, trait = owner_of(at + len(text[at:]) - len(text[at:].lstrip()), within)
-            if is_public(crate, path, is_pub, name, owner, trait, front):
-                whole = f"{owner}::{name}" if owner else name
-                found.setdefault((short, whole), Call()).add(kind, label, clause, brought)
-        for start, end, owner, trait in within:
-            is_seen = trait and (front[0] is None or owner in front[0])
-            for name, clause in ghost_members(text[start:end]) if is_seen else ():
+        source, short = rattle.source(path), path[len(f"crates/{crate}/src/"):-3]
+        brought = dict(source.imported("ghost use"))
+
+        def add(whole, *clause):
+            found.setdefault((short, whole), Call()).add(*clause, brought)
+
+        for function in source.functions:
+            for clause in function.clauses if is_public(crate, path, function, front) else ():
+                add(f"{function.type}::{function.name}" if function.type else function.name, *clause)
+        for block in source.blocks:
+            is_seen = block.trait and (front[0] is None or block.type in front[0])
+            whole = f"{block.trait} for {block.type}" if block.trait != block.type else block.trait
+            for name, clause in source.ghost_members(block) if is_seen else ():
                 if name not in UNSEEN:
-                    whole = f"{trait} for {owner}" if trait != owner else trait
-                    found.setdefault((short, whole), Call()).add("ensures", name, clause, brought)
+                    add(whole, "ensures", name, clause)
     return found
 
 
@@ -218,13 +144,12 @@ def lost():
 
 def wrong_bodies(crate):
     """The edits of a crate that the prover must refuse: the name, the file, and the function that each is in."""
-    for path in sorted(glob.glob(f"crates/{crate}/must-fail/*.edit") + glob.glob(f".ci/wrong/{crate}/*.edit")):
-        with open(path, encoding="utf-8") as file:
-            parts = dict(line.split(": ", 1) for line in file.read().split("\n") if ": " in line and line.split(": ")[0] in ("file", "old"))
-        with open(f"crates/{crate}/{parts['file']}", encoding="utf-8") as file:
-            text = file.read()
-        before = list(FUNCTION.finditer(text, 0, max(text.find(parts["old"]), 0) + len(parts["old"])))
-        yield os.path.basename(path)[:-5], parts["file"][4:-3], before[-1][2] if before else None
+    for path in files.matching(f"crates/{crate}/must-fail/*.edit", f".ci/wrong/{crate}/*.edit"):
+        parts = dict(line.split(": ", 1) for line in files.lines(path) if line.startswith(("file: ", "old: ")))
+        source, text = rattle.source(f"crates/{crate}/{parts['file']}"), files.read(f"crates/{crate}/{parts['file']}")
+        end = max(text.find(parts["old"]), 0) + len(parts["old"])
+        before = [it.name for it in source.functions if it.start < end]
+        yield os.path.basename(path)[:-5], parts["file"][4:-3], before[-1] if before else None
 
 
 def section(crate, common):
@@ -242,14 +167,15 @@ def section(crate, common):
 def common_of(calls):
     """The definitions that many calls name, in the order of their names."""
     counts = collections.Counter(one for call in calls for one in call.named)
-    return sorted((one for one, count in counts.items() if count > MANY), key=lambda one: (short_of(one[0]), one[1]))
+    common = [one for one, count in counts.items() if count > MANY]
+    return sorted(common, key=lambda one: (definitions.short(one.path), one.name))
 
 
 def pages():
     """The pages by their paths: that of each crate with calls or wrong bodies, and the one that has a link to each."""
     calls, wrong = {crate: entries(crate) for crate in crates()}, {crate: any(wrong_bodies(crate)) for crate in crates()}
     common = common_of([call for of_crate in calls.values() for call in of_crate.values()])
-    told = [f"- `{short_of(at)}.{name}`: {FILES[at].words[name]}" for at, name in common if FILES[at].words[name]]
+    told = [f"- `{one.short()}`: {one.said}" for one in common if one.said]
     listed_crates = [crate for crate in crates() if calls[crate] or wrong[crate]]
     links = "".join(f"- [{crate}](../crates/{crate}/CLAUSES.md)\n" for crate in listed_crates)
     found = {f"crates/{crate}/CLAUSES.md": "\n".join(section(crate, common)) for crate in listed_crates}
@@ -258,4 +184,4 @@ def pages():
 
 def stale(wanted):
     """The pages of crates that are there and should not be."""
-    return sorted(set(glob.glob("crates/*/CLAUSES.md")) - set(wanted))
+    return sorted(set(files.matching("crates/*/CLAUSES.md")) - set(wanted))

@@ -13,6 +13,7 @@ import threading
 import time
 
 import crates
+import files
 import stubs
 
 PARTS = ("src", "specs", "proofs")
@@ -97,7 +98,7 @@ class Copy:
             if os.path.isdir(os.path.join(crates.CRATES, self.crate, part)):
                 shutil.copytree(os.path.join(crates.CRATES, self.crate, part), os.path.join(folder, part))
         for file, text in texts.items():
-            stubs.write(os.path.join(folder, file), text)
+            files.write(os.path.join(folder, file), text)
         shown = stubs.leave_bodies(folder, self.crate, self.paths)
         rtlib, guard = toolchain()
         only = [word for path in asked for word in ("--only", path if path[0].isupper() else f"{self.crate}::{path}")]

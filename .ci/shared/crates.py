@@ -3,20 +3,23 @@
 
     .ci/shared/crates.py CRATE..    prints these crates and those of this repository below them, a line each
 """
+import functools
 import os
 import re
 import subprocess
 import sys
 
-CI = os.path.join(os.path.dirname(os.path.abspath(__file__)), "..")
-ROOT = os.path.normpath(os.path.join(CI, ".."))
+import files
+
+ROOT = files.ROOT
+CI = os.path.join(ROOT, ".ci")
 CRATES = os.path.join(ROOT, "crates")
 
 
+@functools.cache
 def listed():
     """Each crate with what it uses, and whether it is a static library."""
-    with open(os.path.join(ROOT, "crates.txt"), encoding="utf-8") as file:
-        lines = re.findall(r"^(\w+)( staticlib)?:(.*)$", file.read(), re.M)
+    lines = re.findall(r"^(\w+)( staticlib)?:(.*)$", files.read("crates.txt"), re.M)
     return {name: (uses.split(), bool(static)) for name, static, uses in lines}
 
 
@@ -46,10 +49,7 @@ def is_built(*words):
 def arguments(name):
     """What `rt run` passes to a program in its stored run, whose file `args` has a line each."""
     path = os.path.join(CRATES, name, "args")
-    if not os.path.isfile(path):
-        return []
-    with open(path, encoding="utf-8") as file:
-        return ["--", *file.read().splitlines()]
+    return ["--", *files.lines(path)] if os.path.isfile(path) else []
 
 
 def program(name):

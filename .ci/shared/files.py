@@ -3,12 +3,41 @@
 
     .ci/shared/files.py    prints them, each ended by a byte 0
 """
+import glob
 import os
 import subprocess
 import sys
 
 ROOT = os.path.normpath(os.path.join(os.path.dirname(os.path.abspath(__file__)), "..", ".."))
 BUILT = {"build", "dist", "env", "node_modules", "__pycache__", ".git", ".mypy_cache", ".pytest_cache"}
+
+
+def read(path, errors="strict"):
+    """The text of a file, by its path from the top of the repository."""
+    with open(os.path.join(ROOT, path), encoding="utf-8", errors=errors) as file:
+        return file.read()
+
+
+def lines(path):
+    """The lines of a file."""
+    return read(path).rstrip("\n").split("\n")
+
+
+def write(path, text):
+    """Writes a file, and makes its folder if there is none."""
+    path = os.path.join(ROOT, path)
+    os.makedirs(os.path.dirname(path), exist_ok=True)
+    with open(path, "w", encoding="utf-8") as file:
+        file.write(text)
+
+
+def matching(*patterns, top=ROOT):
+    """The files whose paths from the top match, sorted. `**` stands for any number of folders."""
+    return sorted(path for pattern in patterns for path in glob.glob(pattern, root_dir=top, recursive=True))
+
+
+def sources(crate):
+    return matching(f"crates/{crate}/src/**/*.rt")
 
 
 def is_built(at, name):

@@ -41,6 +41,7 @@ def fault_of(said):
     return None if tells_of_a_clause(said[len(REFUSED) :]) else "the log names no clause that is not proved"
 
 
-def misjudged():
-    """The samples that are not judged as they must be."""
-    return [text for text, is_right in SAMPLES if (fault_of(text) is None) != is_right]
+def check_samples(checks):
+    """Whether each sample is judged as it must be."""
+    for text, is_right in SAMPLES:
+        checks.check((fault_of(text) is None) == is_right, f"this sample is not judged as it must be: {text}")

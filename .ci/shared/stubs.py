@@ -7,7 +7,8 @@ import os
 import re
 import shutil
 
-from functions import functions, module_of
+import files
+from rattle import Source, module_of
 
 # What stays before a name: functions that are run while a crate is built, and those in a cycle of calls, which have one proof.
 STAYS = re.compile(r"\bconst\s+(?:unsafe\s+)?$|#\[cycle\(\w+\)\]\s*(?:#\[[^\]]*\]\s*)*(?:pub(?:\([a-z ]+\))?\s+)?$")
@@ -18,17 +19,6 @@ PROOF = """use Rattle.{crate}.proofs.{path}.Statement.{{statement}}
 pub {name}_spec : {{M : Type 1}} → statement M
 {name}_spec = ?
 """
-
-
-def sources(room):
-    """The sources of a copy, by their paths."""
-    found = {}
-    for at, _, names in os.walk(os.path.join(room, "src")):
-        for name in names:
-            if name.endswith(".rt"):
-                with open(os.path.join(at, name), encoding="utf-8") as file:
-                    found[os.path.relpath(os.path.join(at, name), room)] = file.read()
-    return found
 
 
 def homes_of(texts):
@@ -51,28 +41,20 @@ def whole_path(function, file, homes):
 
 def taken_from(file, text, stays, homes):
     """The functions of a source whose bodies are taken away, with their paths: each but methods of traits and those that stay."""
-    found, after = [], 0
-    for function in functions(file, text):
-        path, before = whole_path(function, file, homes), text[after : function.start]
-        is_inner = function.start < after or function.body == function.end
-        after = max(after, function.end)
-        if not (is_inner or function.trait or path is None or function.path() in stays or STAYS.search(before)):
-            found.append((function, path))
-    return found
-
-
-def write(path, text):
-    os.makedirs(os.path.dirname(path), exist_ok=True)
-    with open(path, "w", encoding="utf-8") as file:
-        file.write(text)
+    for function in Source(text, file).functions:
+        path = whole_path(function, file, homes)
+        has_body = not function.is_inner and function.body != function.end
+        does_stay = function.trait or function.path() in stays or STAYS.search(text[: function.start])
+        if has_body and path and not does_stay:
+            yield function, path
 
 
 def leave_bodies(room, crate, stays):
     """Takes away the bodies of all functions of a copy but those of these paths: the texts that its sources then have."""
-    texts = sources(room)
+    texts = {file: files.read(os.path.join(room, file)) for file in files.matching("src/**/*.rt", top=room)}
     homes = homes_of(texts)
     for file, text in texts.items():
-        for function, path in reversed(taken_from(file, text, stays, homes)):
+        for function, path in reversed(list(taken_from(file, text, stays, homes))):
             text = text[: function.body] + BODY + text[function.end :]
             folder = os.path.join(room, "proofs", *path.split("::"))
             for name in ("Invariants.antt", "Answers.antt"):
@@ -80,7 +62,8 @@ def leave_bodies(room, crate, stays):
                     os.remove(os.path.join(folder, name))
             # (the proof of a function that calls itself)
             shutil.rmtree(os.path.join(os.path.dirname(folder), f"+{function.name}"), ignore_errors=True)
-            write(os.path.join(folder, "Proof.antt"), PROOF.format(crate=crate, path=path.replace("::", "."), name=function.name))
-        write(os.path.join(room, file), text)
+            proof = PROOF.format(crate=crate, path=path.replace("::", "."), name=function.name)
+            files.write(os.path.join(folder, "Proof.antt"), proof)
+        files.write(os.path.join(room, file), text)
         texts[file] = text
     return texts

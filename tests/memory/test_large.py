@@ -10,10 +10,9 @@ import functools
 import os
 import subprocess
 
-import public_calls
 import pytest
 from large import exports, lock_files, picks, resolutions, rows, runs
-from support import call_rows, programs
+from support import call_rows, programs, public_calls
 from support.refused_calls import AFTER
 from support.refused_programs import told
 

@@ -3,10 +3,9 @@ import glob
 import os
 import re
 
-import public_calls
 import pytest
 import unproved
-from support import programs, refused_calls
+from support import programs, public_calls, refused_calls
 from support.call_rows import Case
 
 HERE = os.path.dirname(os.path.abspath(__file__))

@@ -7,8 +7,7 @@ import subprocess
 
 import pytest
 
-from support import programs
-import report_pages
+from support import programs, report_pages
 
 # Names that look like markup, or that a reader must not take for another text: tags, references, quotation marks, the end of a comment
 # and of CDATA, control characters, a text from right to left, a line separator, and letters that are no ASCII.

@@ -6,8 +6,7 @@ import re
 import shlex
 from dataclasses import dataclass
 
-import report_pages
-from support import call_rows, escapes, programs, refused
+from support import call_rows, escapes, programs, refused, report_pages
 
 FILES = os.path.join(programs.TESTS, "memory", "files")
 # The line on standard error of a run that is out of memory. Some programs name the file that they read.

@@ -1,7 +1,8 @@
 """Reads the page and the JUnit report of npm_lock_check by standard parsers. `compare` compares both with what it writes as JSON and for
 GitHub, on the same lock files: of its arguments one is --unchecked, and none is --format. `browse` opens a page in Chromium, 360 pixels
 wide: light and dark, and without a script that ran. Each gives checks: a name, whether it is so, and what there is."""
-import html.parser
+import html
+import itertools
 import json
 import os
 import re
@@ -9,11 +10,17 @@ import subprocess
 import tempfile
 import xml.etree.ElementTree
 
+import html5lib
+
+from support import programs  # (it makes the runner's own modules known)
+import files
+
 PARTS = ["Problems", "Advisories: critical", "Advisories: high", "Advisories: moderate", "Advisories: low", "Advisories: info",
          "Advisories: severity not known", "Mismatches with a manifest", "Not checked"]
 SEVERITIES = ["critical", "high", "moderate", "low", "info", "unknown"]
 COUNTS = ["packages", "dependencies", "problems", "hit by advisories", "mismatches", "not checked", "not read"]
 TAGS = {"html", "head", "meta", "title", "style", "body", "h1", "p", "section", "h2", "div", "h3", "h4", "small", "b"}
+ATTRIBUTES = {"class", "lang", "charset", "name", "content", "http-equiv"}
 ANNOTATION = re.compile(r"::(error|warning|notice) file=([^,]*),line=(\d+),col=(\d+)::(.*)")
 
 
@@ -111,89 +118,63 @@ class Wanted:
 
 # ---- what is read
 
-class Page(html.parser.HTMLParser):
-    """A page, as a browser reads it."""
+class Page:
+    """A page, as a browser reads it: its paragraphs before the sections, the files that were refused, the sections of
+    the others, and what is wrong with it."""
 
     def __init__(self, text):
-        super().__init__(convert_charrefs=True)
-        self.faults, self.open, self.refused, self.sections, self.head = [], [], [], [], []
-        self.text, self.small, self.part, self.group, self.kind = "", None, None, None, None
-        self.feed(text)
-        self.close()
-        if self.open:
-            self.faults.append(f"these tags are open at the end: {self.open}")
+        parser = html5lib.HTMLParser(namespaceHTMLElements=False)
+        root = parser.parse(text)
+        self.faults = [f"{code} at {place}" for place, code, _ in parser.errors]
+        self.faults += [f"a tag that is no page's: {it.tag} {it.attrib}" for it in root.iter()
+                        if it.tag not in TAGS or set(it.attrib) - ATTRIBUTES]
+        self.head = [it.text for it in root.findall("body/p")]
+        self.refused, self.sections = [], []
+        for section in root.findall("body/section"):
+            self.read(section.findtext("h2"), section)
 
-    def handle_starttag(self, tag, attributes):
-        if tag not in TAGS or {name for name, _ in attributes} - {"class", "lang", "charset", "name", "content", "http-equiv"}:
-            self.faults.append(f"a tag that is no page's: {tag} {attributes}")
-        if tag == "section":
-            self.sections.append([None, [], []])
-        if tag in ("h2", "h3", "h4", "p", "b", "small"):
-            if tag == "small":
-                self.message = self.text
-            if tag not in ("b", "small"):
-                self.kind = dict(attributes).get("class")
-            self.text = ""
-        if tag != "meta":
-            self.open.append(tag)
+    def read(self, name, section):
+        """A section: its counts, and its rows with the headings above them; or why the file was refused."""
+        counts, rows, part, group, refused = [], [], None, None, []
+        for it in section:
+            said, kind = "".join(it.itertext()), it.get("class")
+            if it.tag == "div":
+                counts += map(count_in, it)
+            elif it.tag == "h3":
+                part = said
+            elif it.tag == "h4":
+                group = said
+            elif it.find("small") is not None:
+                rows.append((part, group, it.text or "", it.findtext("small"), kind == "row"))
+            elif kind == "row":
+                refused.append((name, said))
+            elif it.tag != "h2" and (kind, said) not in (("fine", "Nothing was found."), ("bad", "Not checked")):
+                self.faults.append(f"a paragraph: {said}")
+        self.refused += refused
+        self.sections += [] if refused else [(name, counts, rows)]
 
-    def handle_endtag(self, tag):
-        if not self.open or self.open.pop() != tag:
-            self.faults.append(f"a tag that ends another: {tag}")
-        said, self.text = self.text, ""
-        if tag == "h2":
-            self.sections[-1][0], self.part, self.group = said, None, None
-        elif tag == "h3":
-            self.part = said
-        elif tag == "h4":
-            self.group = said
-        elif tag == "b":
-            self.number = said
-        elif tag == "small":
-            self.small = said
-        elif tag == "p" and self.sections:
-            self.end_paragraph(said)
-        elif tag == "p":
-            self.head.append(said)
 
-    def end_paragraph(self, said):
-        """What a paragraph of a section says: a count, a row, or that the file was not checked."""
-        name, counts, rows = self.sections[-1]
-        if "div" in self.open:
-            unknown = said.endswith(": not looked for") and self.number == "\u2013"
-            counts.append((said.removesuffix(": not looked for"), None) if unknown else (said, int(self.number)))
-        elif self.small is not None:
-            rows.append((self.part, self.group, self.message, self.small, self.kind == "row"))
-            self.small = None
-        elif self.kind == "row":
-            self.sections.pop()
-            self.refused.append((name, said))
-        elif (self.kind, said) not in (("fine", "Nothing was found."), ("bad", "Not checked")):
-            self.faults.append(f"a paragraph: {said}")
-
-    def handle_data(self, data):
-        self.text += data
-
-    def handle_comment(self, data):
-        self.faults.append(f"a comment: {data}")
+def count_in(paragraph):
+    """What is counted, and how many; None is what was not looked for."""
+    number, what = paragraph.findtext("b"), paragraph.find("b").tail
+    if number == "\u2013" and what.endswith(": not looked for"):
+        return what.removesuffix(": not looked for"), None
+    return what, int(number)
 
 
 def suites_of(text):
     """The suites of a JUnit report."""
     root = xml.etree.ElementTree.fromstring(text)
     assert (root.tag, root.attrib) == ("testsuites", {"name": "npm_lock_check"}), root.attrib
-    suites = []
     for suite in root:
         assert suite.tag == "testsuite" and list(suite.attrib) == ["name", "tests", "failures", "errors", "skipped"], suite.attrib
         name, *numbers = suite.attrib.values()
         cases = []
         for case in suite:
-            inner = list(case)
-            assert case.tag == "testcase" and len(inner) <= 1, case.attrib
-            cases.append((case.attrib, *((one.tag, one.attrib, one.text) for one in inner)) if not inner
-                         else (case.attrib, inner[0].tag, inner[0].attrib, inner[0].text))
-        suites.append((name, " ".join(numbers), [one if len(one) == 4 else (*one, None, None, None) for one in cases]))
-    return suites
+            assert case.tag == "testcase" and len(case) <= 1, case.attrib
+            (inner,) = [(it.tag, it.attrib, it.text) for it in case] or [(None, None, None)]
+            cases.append((case.attrib, *inner))
+        yield name, " ".join(numbers), cases
 
 
 # ---- both together
@@ -219,10 +200,9 @@ def compare(program, arguments):
             yield f"{name}: whether every file was checked", page.head[1:] == [complete], page.head
             refused, sections = wanted.page()
             yield f"{name}: the files that were refused", page.refused == refused, (page.refused, refused)
-            read = [(file, counts, rows) for file, counts, rows in page.sections]
-            yield f"{name}: the sections", read == sections, (read, sections)
+            yield f"{name}: the sections", page.sections == sections, (page.sections, sections)
         else:
-            read = suites_of(text)
+            read = list(suites_of(text))
             yield f"{name}: the suites", read == wanted.report(), (read, wanted.report())
 
 
@@ -251,8 +231,7 @@ Promise.all(["light", "dark"].map(read)).then((said) => {
 def browse(path):
     """Opens a page in Chromium, in frames of another page."""
     with tempfile.TemporaryDirectory() as room:
-        with open(f"{room}/frames.html", "w", encoding="utf-8") as file:
-            file.write(FRAMES.replace("PAGE", json.dumps("file://" + os.path.abspath(path))))
+        files.write(f"{room}/frames.html", FRAMES.replace("PAGE", json.dumps("file://" + os.path.abspath(path))))
         words = ["chromium", "--headless", "--no-sandbox", "--disable-gpu", "--hide-scrollbars", "--allow-file-access-from-files", f"--user-data-dir={room}/profile",
                  "--virtual-time-budget=10000", "--dump-dom", f"file://{room}/frames.html"]
         done = subprocess.run(words, stdin=subprocess.DEVNULL, capture_output=True, check=False, timeout=120)
@@ -261,15 +240,8 @@ def browse(path):
     if not found:
         return
     light, dark = json.loads(html.unescape(found.group(1)))
-    with open(path, encoding="utf-8") as file:
-        page = Page(file.read())
-    groups = []
-    for _, _, rows in page.sections:
-        before = (None, None)
-        for part, group, *_ in rows:
-            if (part, group) != before:
-                groups.append(group)
-            before = part, group
+    page = Page(files.read(os.path.abspath(path)))
+    groups = [group for _, _, rows in page.sections for (_, group), _ in itertools.groupby(rows, lambda row: row[:2])]
     yield "no script ran", light["ran"] == "undefined" and light["title"] == "Lock files", light
     yield "each tag is one of a page", set(light["tags"]) <= TAGS, light["tags"]
     yield "the names are texts", light["groups"] == groups, (light["groups"], groups)

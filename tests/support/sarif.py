@@ -8,19 +8,16 @@ Two readers, neither of them ours, and both have to find nothing:
   programs write: types, words and least numbers. The schema is our own, after the text of the standard; `schema_faults` holds its names
   against the classes.
 
-    /usr/bin/python3 .ci/shared/sarif.py FILE..     each file's faults, a line each; the last line is 'N passed, M failed'
-    /usr/bin/python3 .ci/shared/sarif.py            tries made up logs: one without a fault, and others with one that has to be found
-
-It is Debian's Python that has both packages.
+It is Debian's Python that has both packages. tests/runner has logs with a fault, which have to be found.
 """
-import copy
 import importlib
 import json
-import os
 import re
-import sys
 
-SCHEMA = os.path.join(os.path.dirname(os.path.abspath(__file__)), "sarif.schema.json")
+from support import programs  # (it makes the runner's own modules known)
+import files
+
+SCHEMA = "tests/support/sarif.schema.json"
 
 # Where a member is an object, or a list of objects, of another class: the class and the member, and the class that is there.
 INSIDE = {
@@ -69,8 +66,7 @@ def member_faults(value, name="SarifLog", path="$"):
 
 
 def schema():
-    with open(SCHEMA, encoding="utf-8") as file:
-        return json.load(file)
+    return json.loads(files.read(SCHEMA))
 
 
 def schema_faults(part=None, name="SarifLog", path="$"):
@@ -145,97 +141,3 @@ def faults(text):
     checker = jsonschema.Draft7Validator(schema(), format_checker=jsonschema.FormatChecker())
     found += [f"{it.json_path}: {it.message}" for it in checker.iter_errors(log)]
     return found or index_faults(log) + message_faults(log)
-
-
-MADE_UP = {
-    "$schema": "https://json.schemastore.org/sarif-2.1.0.json",
-    "version": "2.1.0",
-    "runs": [{
-        "tool": {"driver": {"name": "checker", "version": "1.0.0", "rules": [
-            {"id": "invalid", "shortDescription": {"text": "a version outside"}, "defaultConfiguration": {"level": "error"}}]}},
-        "invocations": [{"executionSuccessful": False}],
-        "columnKind": "unicodeCodePoints",
-        "results": [{
-            "ruleId": "invalid", "ruleIndex": 0, "level": "error", "message": {"text": "b 1.0.0 is outside: a{{0}}, [0], \\\\x, \\[b\\](1)"},
-            "locations": [{"physicalLocation": {
-                "artifactLocation": {"uri": "a%20b/package-lock.json"}, "region": {"startLine": 3, "startColumn": 7}}}]}],
-    }],
-}
-
-RESULT = ("runs", 0, "results", 0)
-REGION = (*RESULT, "locations", 0, "physicalLocation", "region")
-# Changes of the log above: where, and the new value there, or `None` if there is none.
-CHANGES = [
-    (("version",), "2.1"),
-    (("version",), None),
-    (("runs",), None),
-    (("run",), []),
-    (("runs", 0, "tool"), None),
-    (("runs", 0, "tool", "driver", "name"), None),
-    (("runs", 0, "tool", "driver", "rules", 0, "id"), None),
-    (("runs", 0, "tool", "driver", "rules", 0, "level"), "error"),
-    (("runs", 0, "tool", "driver", "rules", 0, "defaultConfiguration", "level"), "fatal"),
-    (("runs", 0, "invocations"), {"executionSuccessful": False}),
-    (("runs", 0, "invocations", 0, "executionSuccessful"), None),
-    (("runs", 0, "invocations", 0, "executionSuccessful"), "false"),
-    (("runs", 0, "invocations", 0, "successful"), True),
-    (("runs", 0, "columnKind"), "bytes"),
-    ((*RESULT, "message"), "text"),
-    ((*RESULT, "message", "text"), "a{0} is outside"),
-    ((*RESULT, "message", "text"), "a} is outside"),
-    ((*RESULT, "message", "text"), "see [the fix](https://a.example)"),
-    ((*RESULT, "message", "text"), "see \\\\[the fix](1)"),
-    ((*RESULT, "message"), None),
-    ((*RESULT, "level"), "fatal"),
-    ((*RESULT, "ruleId"), "missing"),
-    ((*RESULT, "ruleIndex"), 1),
-    ((*RESULT, "ruleIndex"), -2),
-    ((*RESULT, "place"), {}),
-    ((*RESULT, "fingerprints"), {"a": {}}),
-    ((*REGION, "startLine"), 0),
-    ((*REGION, "startColumn"), "7"),
-    ((*REGION, "line"), 7),
-    ((*RESULT, "locations", 0, "physicalLocation", "artifactLocation", "uri"), "a b"),
-]
-
-
-def changed(log, where, what):
-    log = copy.deepcopy(log)
-    at = log
-    for step in where[:-1]:
-        at = at[step]
-    if what is None:
-        del at[where[-1]]
-    else:
-        at[where[-1]] = what
-    return log
-
-
-def trials():
-    """The trials of the two readers: how many passed, and a line for each that failed."""
-    failed = schema_faults()
-    failed += [f"the log without a fault: {it}" for it in faults(json.dumps(MADE_UP))]
-    for where, what in CHANGES:
-        if not faults(json.dumps(changed(MADE_UP, where, what))):
-            failed.append(f"nothing is found where {'.'.join(map(str, where))} is {what!r}")
-    return 2 + len(CHANGES) - len(failed), failed
-
-
-def main(files):
-    if not files:
-        passed, failed = trials()
-    else:
-        failed = []
-        for name in files:
-            with open(name, encoding="utf-8") as file:
-                found = faults(file.read())
-            failed += [f"{name}: {'; '.join(found)}"] if found else []
-        passed = len(files) - len(failed)
-    for line in failed:
-        print(line)
-    print(f"{passed} passed, {len(failed)} failed")
-    return 1 if failed else 0
-
-
-if __name__ == "__main__":
-    sys.exit(main(sys.argv[1:]))

@@ -50,35 +50,11 @@ def crates():
     return [name for name in listed() if not name.endswith(("_tests", "_answers")) and name not in LEFT_OUT]
 
 
-def definition(way):
-    """The definition of a path such as semver_sets, specs, Meaning, IsRefused: its file and its name, wherever it is handed on
-    from; None for what is no definition of this repository."""
-    while "Lemmas" not in way:
-        path, names = definitions.located(way)
-        if not names:
-            return None
-        if names[0] in definitions.file(path).named:
-            return path, names[0]
-        if names[0] not in definitions.file(path).imports:
-            return None
-        way = definitions.file(path).imports[names[0]] + names[1:]
-    return None
-
-
-def said_of(one):
-    """The words above a definition."""
-    return definitions.file(one[0]).named[one[1]].said
-
-
 def named(clause, brought):
     """The definitions that a clause names, in its order, each once."""
-    found = []
-    for word in definitions.WORD.findall(clause):
-        first, *more = word.split(".")
-        one = definition(brought[first] + more) if first in brought else None
-        if one and one not in found:
-            found.append(one)
-    return found
+    words = [word.split(".") for word in definitions.WORD.findall(clause)]
+    ways = [brought[first] + more for first, *more in words if first in brought]
+    return list(dict.fromkeys(filter(None, map(definitions.found, ways))))
 
 
 def handed(crate):
@@ -129,21 +105,16 @@ class Call:
         for one in named(clause, brought):
             self.named += [] if one in self.named else [one]
             if not label and kind == "ensures":
-                self.parts[one] = definitions.file(one[0]).named[one[1]].fields()
+                self.parts[one] = one.fields()
 
     def lines(self, common):
         out = [f"- {label}: `{clause}`" for label, clause in self.clauses]
         for one in self.named:
-            words, parts = said_of(one), self.parts.get(one, {}).items()
+            parts = self.parts.get(one, {}).items()
             known = "; ".join(f"`{part}`" + (f" ({said})" if said else "") for part, said in parts)
-            told = (f": {words}" if words else "") + (f". Its parts: {known}" if known else "")
-            out += [f"- → `{short_of(one)}`{told}"] if told and one not in common else []
+            told = (f": {one.said}" if one.said else "") + (f". Its parts: {known}" if known else "")
+            out += [f"- → `{one.short()}`{told}"] if told and one not in common else []
         return out
-
-
-def short_of(one):
-    """The name of a definition, after its crate and its file."""
-    return f"{definitions.short(one[0])}.{one[1]}"
 
 
 def entries(crate):
@@ -200,14 +171,14 @@ def common_of(calls):
     """The definitions that many calls name, in the order of their names."""
     counts = collections.Counter(one for call in calls for one in call.named)
     common = [one for one, count in counts.items() if count > MANY]
-    return sorted(common, key=lambda one: (definitions.short(one[0]), one[1]))
+    return sorted(common, key=lambda one: (definitions.short(one.path), one.name))
 
 
 def pages():
     """The pages by their paths: that of each crate with calls or wrong bodies, and the one that has a link to each."""
     calls, wrong = {crate: entries(crate) for crate in crates()}, {crate: len(list(wrong_bodies(crate))) for crate in crates()}
     common = common_of([call for of_crate in calls.values() for call in of_crate.values()])
-    told = [f"- `{short_of(one)}`: {said_of(one)}" for one in common if said_of(one)]
+    told = [f"- `{one.short()}`: {one.said}" for one in common if one.said]
     listed_crates = [crate for crate in crates() if calls[crate] or wrong[crate]]
     rows = "".join(f"[{crate}](../crates/{crate}/CLAUSES.md) | {len(calls[crate])} | {wrong[crate]}\n" for crate in listed_crates)
     found = {f"crates/{crate}/CLAUSES.md": "\n".join(section(crate, common)) for crate in listed_crates}

@@ -1,5 +1,12 @@
 """For the scripts of the gate in Python that count their checks, as `counting.sh` is for those in bash."""
+import collections
 import sys
+
+
+def differing(ones, others):
+    """What only one of two lists has, each once for each time that it is there."""
+    ones, others = collections.Counter(ones), collections.Counter(others)
+    return [*(ones - others).elements(), *(others - ones).elements()]
 
 
 class Checks:

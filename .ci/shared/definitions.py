@@ -29,12 +29,17 @@ def said_in(comments):
     return " ".join(re.sub(r"^ *-- ?", "", line) for line in comments).strip()
 
 
-@dataclass
+@dataclass(eq=False)
 class Definition:
     name: str
+    path: str  # The file that it is in.
     kind: str  # `data` or `record`, or nothing.
     said: str  # The words above it.
     lines: list = field(default_factory=list)  # With those of comments, but without blank ones.
+
+    def short(self):
+        """Its name, after its crate and its file."""
+        return f"{short(self.path)}.{self.name}"
 
     def words(self):
         """What it names."""
@@ -84,7 +89,7 @@ class File:
         name = found[2] if found[1] else self.of.get(found[2], found[2])
         self.of[found[2]] = name
         said = said_in(it for it in above if it.startswith("--"))
-        at = self.named.setdefault(name, Definition(name, found[1] or "", said))
+        at = self.named.setdefault(name, Definition(name, path, found[1] or "", said))
         at.lines += above
         return at
 
@@ -114,6 +119,18 @@ def located(way):
         if os.path.isfile(os.path.join(files.ROOT, path)):
             return path, way[length:]
     return None, []
+
+
+def found(way):
+    """The definition that such a path leads to, wherever it is handed on from; None for a lemma, and for what is no
+    definition of this repository."""
+    path, names = located(way)
+    if not names or "Lemmas" in way:
+        return None
+    if names[0] in file(path).named:
+        return file(path).named[names[0]]
+    handed_on = file(path).imports.get(names[0])
+    return found(handed_on + names[1:]) if handed_on else None
 
 
 def short(path):

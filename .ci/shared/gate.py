@@ -77,13 +77,9 @@ class Gate:
         """Runs a part, adds up its last line, and says what it took."""
         began = time.monotonic()
         ran = self.run(words, is_shown=is_shown, see=see, is_beside=is_beside)
-        passed, failed, why = parts.total_of(ran.said, ran.status, name)
         clock = time.monotonic() - began
-        told = f"{why}{parts.telling(ran.said)}\n{ran.errors[-1500:]}" if failed else ""
-        with self.lock:
-            self.say(f"{ran.errors}{'' if is_shown else ran.said}{why}{name} took {clock:.0f} seconds, and {ran.processor:.0f} of a processor")
-            self.times.append((clock, ran.processor, name))
-            self.count(name, passed, failed, [Result(name, clock, passed, failed, told)])
+        found = parts.result_of(name, clock, ran.status, ran.said, ran.errors)
+        self.add(name, ran, [found], "" if is_shown else ran.said, clock)
         return ran.said
 
     def pytest(self):
@@ -93,17 +89,21 @@ class Gate:
             report = os.path.join(room, "report.xml")
             ran = self.run(pytests.running([], report) or ["echo", pytests.MISSING], pytests.TOP)
             found = pytests.results_of(report, ran.status, ran.said)
-        passed, clock = sum(it.passed for it in found), time.monotonic() - began
-        with self.lock:
-            self.say(f"{ran.errors}{ran.said}{passed} passed, {len(found) - passed} failed\n"
-                     f"{pytests.FOLDER} took {clock:.0f} seconds, and {ran.processor:.0f} of a processor")
-            self.times.append((clock, ran.processor, pytests.FOLDER))
-            self.count(pytests.FOLDER, passed, len(found) - passed, found)
+        for it in found:
+            it.failed = int(not it.passed)  # (a test that was not run has failed too)
+        passed = sum(it.passed for it in found)
+        said = f"{ran.said}{passed} passed, {len(found) - passed} failed\n"
+        self.add(pytests.FOLDER, ran, found, said, time.monotonic() - began)
 
-    def count(self, name, passed, failed, results):
-        self.passed, self.failed = self.passed + passed, self.failed + failed
-        self.counts[name] = passed + failed
-        self.results += results
+    def add(self, name, ran, results, said, clock):
+        """Counts the results of a part, and says what it took."""
+        passed, failed = sum(it.passed for it in results), sum(it.failed for it in results)
+        with self.lock:
+            self.say(f"{ran.errors}{said}{name} took {clock:.0f} seconds, and {ran.processor:.0f} of a processor")
+            self.times.append((clock, ran.processor, name))
+            self.passed, self.failed = self.passed + passed, self.failed + failed
+            self.counts[name] = passed + failed
+            self.results += results
 
 
 def lanes(rows):
@@ -139,8 +139,7 @@ def tests_in(log):
 
 def dear_provers(sampled):
     """The rows of what `sample.py` wrote: seconds of a processor, megabytes, and a crate, its tests or its edits."""
-    with open(sampled, encoding="utf-8") as file:
-        rows = [line.rstrip("\n").split(None, 2) for line in file]
+    rows = [line.split(None, 2) for line in files.read(sampled).splitlines()]
     return [(int(seconds), int(megabytes), name) for seconds, megabytes, name in rows]
 
 
@@ -217,8 +216,7 @@ def prove(gate, log, sampled):
             said = gate.part("rt ci", ["rt", "ci"], is_shown=True, see=note)
         finally:
             sampler.send_signal(signal.SIGTERM)
-    with open(log, "w", encoding="utf-8") as file:
-        file.write(said)
+    files.write(log, said)
     tests = tests_in(said)
     gate.counts[TESTED] = len({name for name, _ in tests})
     gate.results += [Result(name, 0, int(said == "ok"), int(said != "ok"), said) for name, said in sorted(tests)]

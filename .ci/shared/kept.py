@@ -44,10 +44,8 @@ def sum_of(paths, words):
 def passed(key):
     """What passed under this sum, or None."""
     try:
-        path = os.path.join(FOLDER, key)
-        with open(path, encoding="utf-8") as file:
-            found = json.load(file)
-        os.utime(path)
+        found = json.loads(files.read(os.path.join(FOLDER, key)))
+        os.utime(os.path.join(FOLDER, key))
         return found
     except (OSError, ValueError):
         return None

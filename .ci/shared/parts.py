@@ -1,4 +1,5 @@
 """The parts of `.ci/checks.tsv`: scripts that count their checks, and end with a line 'N passed, M failed'."""
+import contextlib
 import functools
 import os
 import re
@@ -11,8 +12,8 @@ import files
 import kept
 from results import Job, Result
 
-LIST = os.path.join(files.ROOT, ".ci", "checks.tsv")
-LAST = os.path.join(files.ROOT, "out", "check", "counts.tsv")  # What each part counted when it last ran.
+LIST = ".ci/checks.tsv"
+LAST = "out/check/counts.tsv"  # What each part counted when it last ran.
 PACKAGES = ("packages", "release")  # Parts that build the packages: one of them runs at a time.
 TOTAL = re.compile(r"^(\d+) passed, (\d+) failed$")
 
@@ -37,16 +38,14 @@ class Part:
 
 def listed():
     """All rows of the list, in order."""
-    with open(LIST, encoding="utf-8") as file:
-        rows = [line.rstrip("\n").split("\t") for line in file if line.strip() and not line.startswith("#")]
+    rows = [line.split("\t") for line in files.lines(LIST) if line and not line.startswith("#")]
     return [Part(name, needs, int(least)) for name, needs, least in rows]
 
 
 @functools.lru_cache(maxsize=None)
 def code_of(path):
     """A script without the lines that are comments."""
-    with open(os.path.join(files.ROOT, path), encoding="utf-8") as file:
-        return "\n".join(line for line in file.read().split("\n") if not line.lstrip().startswith(("#", "//")))
+    return "\n".join(line for line in files.lines(path) if not line.lstrip().startswith(("#", "//")))
 
 
 def needed(part):
@@ -105,15 +104,21 @@ def telling(text):
     return "\n".join(lines[i] for i in shown)
 
 
+def result_of(name, seconds, status, output, errors):
+    """The result of a part that has ended."""
+    passed, failed, why = total_of(output, status, name)
+    return Result(name, seconds, passed, failed, f"{why}{telling(output)}\n{errors[-1500:]}" if failed else "")
+
+
 def run(part, environment):
     """Runs a part, and keeps what it writes until it ends."""
     began = time.monotonic()
-    done = subprocess.run(part.command(), cwd=files.ROOT, env=environment, stdin=subprocess.DEVNULL, stdout=subprocess.PIPE, stderr=subprocess.PIPE)
-    output, error = done.stdout.decode(errors="replace"), done.stderr.decode(errors="replace")
-    passed, failed, said = total_of(output, done.returncode, part.short)
-    said += f"{telling(output)}\n{error[-1500:]}" if failed else ""
-    few = too_few(part, passed + failed)
-    return [Result(part.short, time.monotonic() - began, passed, failed + bool(few), said + few)]
+    done = subprocess.run(part.command(), cwd=files.ROOT, env=environment, stdin=subprocess.DEVNULL, capture_output=True,
+                          encoding="utf-8", errors="replace")
+    found = result_of(part.short, time.monotonic() - began, done.returncode, done.stdout, done.stderr)
+    few = too_few(part, found.passed + found.failed)
+    found.failed, found.said = found.failed + bool(few), found.said + few
+    return [found]
 
 
 def too_few(part, count):
@@ -141,31 +146,22 @@ def note(counts):
     """Keeps what parts counted, for `write`."""
     known = noted()
     known.update(counts)
-    try:
-        os.makedirs(os.path.dirname(LAST), exist_ok=True)
-        with open(LAST, "w", encoding="utf-8") as file:
-            file.write("".join(f"{name}\t{count}\n" for name, count in sorted(known.items())))
-    except OSError:
-        pass
+    with contextlib.suppress(OSError):
+        files.write(LAST, "".join(f"{name}\t{count}\n" for name, count in sorted(known.items())))
 
 
 def noted():
-    try:
-        with open(LAST, encoding="utf-8") as file:
-            return {name: int(count) for name, count in (line.rstrip("\n").split("\t") for line in file)}
-    except OSError:
-        return {}
+    rows = (line.split("\t") for path in files.matching(LAST) for line in files.lines(path))
+    return {name: int(count) for name, count in rows}
 
 
 def write():
     """Raises the numbers of the list to those of the last run of each part. None is made smaller."""
     known = noted()
-    with open(LIST, encoding="utf-8") as file:
-        lines = file.read().split("\n")
+    lines = files.read(LIST).split("\n")
     for i, line in enumerate(lines):
         name, needs, least = (*line.split("\t"), "", "")[:3]
         if not line.startswith("#") and known.get(name, 0) > int(least or 0):
             lines[i] = f"{name}\t{needs}\t{known[name]}"
             print(f"{name}: {known[name]}, and not {least}")
-    with open(LIST, "w", encoding="utf-8") as file:
-        file.write("\n".join(lines))
+    files.write(LIST, "\n".join(lines))

@@ -12,10 +12,8 @@ import gate
 
 def copied(names, asked, room):
     """Makes a repository of these crates alone. Wrong edits are tried of those that were asked for."""
-    with open(os.path.join(files.ROOT, "crates.txt"), encoding="utf-8") as file:
-        lines = [line for line in file if re.match(r"\w+", line) and re.match(r"\w+", line)[0] in names]
-    with open(os.path.join(room, "crates.txt"), "w", encoding="utf-8") as file:
-        file.writelines(lines)
+    lines = [line for line in files.lines("crates.txt") if re.match(r"\w*", line)[0] in names]
+    files.write(os.path.join(room, "crates.txt"), "\n".join([*lines, ""]))
     shutil.copy(os.path.join(files.ROOT, "HANDLES"), room)
     for path in files.below(*(f"crates/{name}" for name in names)):
         _, name, folder = path.split("/")[:3]

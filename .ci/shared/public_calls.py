@@ -11,80 +11,55 @@ import files
 from crates import is_program, listed
 from rattle import Source, source
 
-# Libraries that no user calls, and those of which runs of npm_lock_check, npm_pick_command and npm_resolve_command make each call.
-SCRIPTS = {"named_calls": "makes the calls", "node_semver_callers": "examples",
-           "json_places": "runs with --format github and sarif", "findings": "runs with --format github, sarif, html and junit",
-           "npm_lock_findings": "runs with --format github, sarif, html and junit, with each kind of finding",
-           "command_lines": "all runs",
-           "npm_lock_faults": "runs on lock files and manifests with faults", "npm_lock_reports": "all runs",
-           "npm_manifest_files": "runs with --manifest",
-           "npm_lock_program": "all runs",
-           "advisory_exceptions": "runs with --exceptions",
-           "advisory_exception_files": "runs with --exceptions",
-           "npm_pick_reports": "all runs of npm_pick_command",
-           "version_solving": "runs of tests/models", "solving_reasons": "runs of tests/models",
-           "npm_candidates": "runs of tests/models", "npm_resolve": "runs of tests/models",
-           "npm_resolve_reports": "runs of tests/programs",
-           "npm_flat_locks": "runs of tests/programs", "npm_resolve_laws": "does not allocate"}
-
-# A function, and the call that makes it.
-THROUGH = {
-    "Gather::gather": "Range::intersect",
-    "MergedSpans::common_with": "Range::intersect",
-    "MergedSpans::subtract_from": "Range::difference",
-    "Places::none": "Range::parse",
-    "Places::of": "Range::parse",
-    "Places::clone": "Range::clone",
-    "Stepped::least": "Version::least",
-    "Stepped::next": "Version::next",
-    "EndVersion::with_extras": "Range::parse",
-    "EndVersion::with_copies": "npm_semver::range_from_sets",
-    "EndVersion::copy": "Range::clone",
-    "semver_texts::copies_of": "Version::clone",
-    "semver_texts::copies_with_zero": "Version::next",
-    "semver_texts::copy_of": "Version::parse",
-    "semver_texts::to_vec_inline": "Identifiers::to_vec",
-    "HasKey::add_prerelease_key": "semver_keys::version_key",
-    "Version::add_prerelease_key": "semver_keys::version_key",
-    "VersionRef::add_prerelease_key": "semver_keys::add_version_key",
-    "CommonSpan::narrow": "Range::parse",
-    "Sets::read": "Range::parse",
-    "Sets::copy": "Range::clone",
-    "Sets::union": "Range::union",
-    "Gathered::new": "npm_semver::range_from_sets",
-    "Gathered::add": "npm_semver::range_from_sets",
-    "Gathered::gather": "Range::intersect",
-    "Range::of_gathered": "Range::intersect",
-    "Gathered::into_sets": "Range::intersect",
-    "npm_sets::read_npm": "npm_semver::parse_range",
-    "npm_sets::read_npm_text": "npm_semver::parse_range",
-    "npm_sets::refused_offset": "npm_semver::parse_range",
-    "npm_pick::is_engine_for": "npm_pick::pick",
-    "npm_pick::text_of": "npm_pick::pick",
-    "npm_pick::up_to": "npm_pick::pick",
-    "npm_texts::range_of": "npm_lock::check",
-    "npm_texts::copied": "npm_lock::check",
-    "npm_texts::put_text": "npm_lock::check",
-    "npm_packages::lock_of": "npm_lock::check",
-    "Index::of_lock": "npm_lock::check",
-    "SoundLock::of": "npm_lock::check",
-    "npm_lock::check_sound_lock": "npm_lock::check",
-    "Lock::find": "npm_lock::check",
-    "npm_packages::asked_of": "npm_lock::check",
-    "npm_packages::rules_of": "npm_lock::check",
-    "npm_packages::rules_in": "npm_lock::check",
-    "npm_packages::place_text": "npm_lock::check_any",
-    "Mismatch::to_json": "npm_lock::mismatches_of",
-    "Problem::to_json": "npm_lock::check",
-    "Unchecked::to_json": "npm_lock::check",
-    "Dependents::of_sound_lock": "npm_advisories::audit_lock",
-    "npm_advisories::audit": "npm_advisories::audit_lock",
-    "Found::to_json": "npm_advisories::audit_lock",
-    **{name: "npm_advisories::audit_lock" for name in (
-        "Advisory::sets", "Index::add", "Index::new", "Names::add", "Names::new", "npm_advisories::add_osv", "npm_advisories::has_fault",
-        "npm_advisories::have_fault", "npm_advisories::is_refused", "npm_advisories::npm_advisory", "npm_advisories::range_of",
-        "npm_advisories::spans_of_range", "npm_advisories::spans_of_ranges", "npm_advisories::spans_of_versions")},
+# Libraries that no user calls, and those of which runs of npm_lock_check, npm_pick_command and npm_resolve_command make
+# each call: by what does.
+SCRIPTS = {
+    "makes the calls": "named_calls",
+    "examples": "node_semver_callers",
+    "runs with --format github and sarif": "json_places",
+    "runs with --format github, sarif, html and junit": "findings",
+    "runs with --format github, sarif, html and junit, with each kind of finding": "npm_lock_findings",
+    "all runs": "command_lines npm_lock_reports npm_lock_program",
+    "runs on lock files and manifests with faults": "npm_lock_faults",
+    "runs with --manifest": "npm_manifest_files",
+    "runs with --exceptions": "advisory_exceptions advisory_exception_files",
+    "all runs of npm_pick_command": "npm_pick_reports",
+    "runs of tests/models": "version_solving solving_reasons npm_candidates npm_resolve",
+    "runs of tests/programs": "npm_resolve_reports npm_flat_locks",
+    "does not allocate": "npm_resolve_laws",
 }
+
+# The calls that make other functions, each with these functions.
+MAKES = {
+    "Range::intersect": """
+        Gather::gather MergedSpans::common_with Gathered::gather Range::of_gathered Gathered::into_sets""",
+    "Range::difference": "MergedSpans::subtract_from",
+    "Range::parse": "Places::none Places::of EndVersion::with_extras CommonSpan::narrow Sets::read",
+    "Range::clone": "Places::clone EndVersion::copy Sets::copy",
+    "Version::least": "Stepped::least",
+    "Version::next": "Stepped::next semver_texts::copies_with_zero",
+    "npm_semver::range_from_sets": "EndVersion::with_copies Gathered::new Gathered::add",
+    "Version::clone": "semver_texts::copies_of",
+    "Version::parse": "semver_texts::copy_of",
+    "Identifiers::to_vec": "semver_texts::to_vec_inline",
+    "semver_keys::version_key": "HasKey::add_prerelease_key Version::add_prerelease_key",
+    "semver_keys::add_version_key": "VersionRef::add_prerelease_key",
+    "Range::union": "Sets::union",
+    "npm_semver::parse_range": "npm_sets::read_npm npm_sets::read_npm_text npm_sets::refused_offset",
+    "npm_pick::pick": "npm_pick::is_engine_for npm_pick::text_of npm_pick::up_to",
+    "npm_lock::check": """
+        npm_texts::range_of npm_texts::copied npm_texts::put_text npm_packages::lock_of Index::of_lock
+        SoundLock::of npm_lock::check_sound_lock Lock::find npm_packages::asked_of npm_packages::rules_of
+        npm_packages::rules_in Problem::to_json Unchecked::to_json""",
+    "npm_lock::check_any": "npm_packages::place_text",
+    "npm_lock::mismatches_of": "Mismatch::to_json",
+    "npm_advisories::audit_lock": """
+        Dependents::of_sound_lock npm_advisories::audit Found::to_json Advisory::sets Index::add Index::new
+        Names::add Names::new npm_advisories::add_osv npm_advisories::has_fault npm_advisories::have_fault
+        npm_advisories::is_refused npm_advisories::npm_advisory npm_advisories::range_of
+        npm_advisories::spans_of_range npm_advisories::spans_of_ranges npm_advisories::spans_of_versions""",
+}
+THROUGH = {name: call for call, names in MAKES.items() for name in names.split()}
 
 # A function that returns nothing but an error, and one that frees.
 NEEDLESS = {"SemverError::out_of_memory", "node_semver_c::node_semver_range_free", "node_semver_c::node_semver_version_free",
@@ -151,8 +126,8 @@ def calls_of(source, crate):
 
 def libraries():
     """The libraries that users call."""
-    given = listed()
-    return [name for name in given if not is_program(name) and not name.endswith("_tests") and name not in SCRIPTS]
+    left_out = " ".join(SCRIPTS.values()).split()
+    return [name for name in listed() if not is_program(name) and not name.endswith("_tests") and name not in left_out]
 
 
 def of_crate(crate):

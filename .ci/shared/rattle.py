@@ -147,22 +147,24 @@ def function_at(file, text, place):
     return max(around, key=lambda it: it.start, default=None)
 
 
+def path_of(text):
+    """The names of a path such as `Rattle.a.b` or `a::b`."""
+    path = [name for name in re.split(r"\s*(?:::|\.)\s*", text.strip()) if name]
+    return path[1:] if path[:1] == ["Rattle"] else path
+
+
 def paths_of_tree(tree):
     """The names that an import brings, each with the path of what it names: `a.{b, c as d}` brings b and d."""
-    alias = re.search(r"\s+as\s+([^\s{}]+)$", tree.strip())
-    tree = tree.strip()[: alias.start()] if alias else tree.strip()
-    if not tree.endswith("}"):
-        path = [name for name in re.split(r"\s*(?:::|\.)\s*", tree) if name]
-        path = path[1:] if path[0] == "Rattle" else path
-        return [(alias[1] if alias else path[-1], path)]
-    start, depth, word, found = tree.index("{"), 0, "", []
-    for letter in tree[start + 1 : -1] + ",":
-        depth += (letter == "{") - (letter == "}")
-        if letter == "," and depth == 0:
-            found += paths_of_tree(tree[:start] + word.strip()) if word.strip() else []
-            word = ""
-        else:
-            word += letter
+    heads, found = [""], []
+    for words, mark in re.findall(r"([^{},]*)([{},]|$)", tree):
+        path, _, alias = words.partition(" as ")
+        if mark == "{":
+            heads.append(heads[-1] + words)
+        elif words.strip():
+            whole = path_of(heads[-1] + path)
+            found.append((alias.strip() or whole[-1], whole))
+        if mark == "}":
+            heads.pop()
     return found
 
 

@@ -12,6 +12,8 @@ import xml.etree.ElementTree
 
 import html5lib
 
+import files
+
 PARTS = ["Problems", "Advisories: critical", "Advisories: high", "Advisories: moderate", "Advisories: low", "Advisories: info",
          "Advisories: severity not known", "Mismatches with a manifest", "Not checked"]
 SEVERITIES = ["critical", "high", "moderate", "low", "info", "unknown"]
@@ -228,8 +230,7 @@ Promise.all(["light", "dark"].map(read)).then((said) => {
 def browse(path):
     """Opens a page in Chromium, in frames of another page."""
     with tempfile.TemporaryDirectory() as room:
-        with open(f"{room}/frames.html", "w", encoding="utf-8") as file:
-            file.write(FRAMES.replace("PAGE", json.dumps("file://" + os.path.abspath(path))))
+        files.write(f"{room}/frames.html", FRAMES.replace("PAGE", json.dumps("file://" + os.path.abspath(path))))
         words = ["chromium", "--headless", "--no-sandbox", "--disable-gpu", "--hide-scrollbars", "--allow-file-access-from-files", f"--user-data-dir={room}/profile",
                  "--virtual-time-budget=10000", "--dump-dom", f"file://{room}/frames.html"]
         done = subprocess.run(words, stdin=subprocess.DEVNULL, capture_output=True, check=False, timeout=120)
@@ -238,8 +239,7 @@ def browse(path):
     if not found:
         return
     light, dark = json.loads(html.unescape(found.group(1)))
-    with open(path, encoding="utf-8") as file:
-        page = Page(file.read())
+    page = Page(files.read(os.path.abspath(path)))
     groups = [group for _, _, rows in page.sections for (_, group), _ in itertools.groupby(rows, lambda row: row[:2])]
     yield "no script ran", light["ran"] == "undefined" and light["title"] == "Lock files", light
     yield "each tag is one of a page", set(light["tags"]) <= TAGS, light["tags"]

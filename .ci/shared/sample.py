@@ -6,6 +6,7 @@
 FILE has a line a crate: seconds of a processor, the greatest memory of one prover in megabytes, and the name, the dearest
 first. A prover's last second may be missing.
 """
+import glob
 import os
 import re
 import signal
@@ -23,24 +24,12 @@ def read(path):
         return b""
 
 
-def parents():
-    """The parent of each process."""
-    found = {}
-    for name in os.listdir("/proc"):
-        if name.isdigit():
-            after = read(f"/proc/{name}/stat").rpartition(b")")[2].split()
-            if after:
-                found[int(name)] = int(after[1])
-    return found
-
-
-def descends(process, top, above):
-    """Whether a process was started by another, or by one that it started."""
-    for _ in range(100):
-        if process == top:
-            return True
-        process = above.get(process, 0)
-    return False
+def descendants(process):
+    """The processes that a process has started, and those that these have."""
+    for thread in glob.glob(f"/proc/{process}/task/*/children"):
+        for child in map(int, read(thread).split()):
+            yield child
+            yield from descendants(child)
 
 
 def crate_of(process):
@@ -66,9 +55,8 @@ def taken(process):
 
 
 def sample(top, seen):
-    above = parents()
-    for process in above:
-        crate = crate_of(process) if descends(process, top, above) else None
+    for process in descendants(top):
+        crate = crate_of(process)
         if crate:
             seconds, memory = taken(process)
             # (a process may get the number of one that has ended)

@@ -12,10 +12,11 @@ It is Debian's Python that has both packages. tests/runner has logs with a fault
 """
 import importlib
 import json
-import os
 import re
 
-SCHEMA = os.path.join(os.path.dirname(os.path.abspath(__file__)), "sarif.schema.json")
+import files
+
+SCHEMA = ".ci/shared/sarif.schema.json"
 
 # Where a member is an object, or a list of objects, of another class: the class and the member, and the class that is there.
 INSIDE = {
@@ -64,8 +65,7 @@ def member_faults(value, name="SarifLog", path="$"):
 
 
 def schema():
-    with open(SCHEMA, encoding="utf-8") as file:
-        return json.load(file)
+    return json.loads(files.read(SCHEMA))
 
 
 def schema_faults(part=None, name="SarifLog", path="$"):

@@ -3,6 +3,7 @@
 The stored run of a program is in the files `stdin`, `args`, `stdout` and `status` beside `src`, and in the folder `data`.
 """
 import os
+import pathlib
 import re
 import subprocess
 import time
@@ -10,6 +11,7 @@ import time
 import crates
 import files
 import kept
+import rattle
 from results import Job, Result
 
 STORED = ("stdin", "args", "stdout", "status", "data")
@@ -19,24 +21,17 @@ TOLD = re.compile(r"^test (\S+) \.\.\. (\w+)", re.M)
 SECONDS = "600"  # The most that a test or a run may take, of a clock, on a slow machine too.
 
 
-def tests_in(path, module):
+def tests_in(text, module):
     """The names of the tests in a source, which is this module of its crate."""
-    with open(path, encoding="utf-8") as file:
-        text = file.read()
     inside = [f"{module}{found[1]}::{name}" for found in MODULE.finditer(text) for name in TEST.findall(found[2])]
     return inside + [f"{module}{name}" for name in TEST.findall(MODULE.sub("", text))]
 
 
 def tests_of(crate):
     """The names of the tests of a crate, as `rt try --test` prints them."""
-    top = os.path.join(crates.CRATES, crate, "src")
-    for at, folders, names in os.walk(top):
-        folders.sort()
-        for name in sorted(names):
-            parts = os.path.relpath(os.path.join(at, name), top).removesuffix(".rt").split(os.sep)
-            parts = parts[:-1] if parts[-1] in ("lib", "main", "mod") else parts
-            if name.endswith(".rt"):
-                yield from tests_in(os.path.join(at, name), "".join(f"{part}::" for part in parts))
+    for path in files.sources(crate):
+        module = rattle.module_of(path.split("/", 2)[2])
+        yield from tests_in(files.read(path), "".join(f"{part}::" for part in module))
 
 
 def sources(crate):
@@ -82,11 +77,9 @@ def run_tests(crate, names):
 
 
 def stored(crate, name):
-    path = os.path.join(crates.CRATES, crate, name)
-    if not os.path.isfile(path):
-        return b""
-    with open(path, "rb") as file:
-        return file.read()
+    """The content of a file of a program's stored run, or nothing."""
+    path = pathlib.Path(crates.CRATES, crate, name)
+    return path.read_bytes() if path.is_file() else b""
 
 
 def beside(wanted, got):
@@ -98,10 +91,8 @@ def beside(wanted, got):
 
 
 def run_stored(crate):
-    folder = os.path.join(crates.CRATES, crate, "data")
-    data = [os.path.relpath(os.path.join(at, name), folder) for at, _, names in os.walk(folder) for name in names]
-    words = [word for name in sorted(data) for word in ("--data", f"{name}={os.path.join('data', name)}")]
-    words += crates.arguments(crate)
+    data = [path.split("/", 3)[3] for path in files.below(f"crates/{crate}/data")]
+    words = [word for name in data for word in ("--data", f"{name}=data/{name}")] + crates.arguments(crate)
     status, output, error, seconds = tried(crate, words, stored(crate, "stdin"))
     wanted, text = int(stored(crate, "status") or 0), stored(crate, "stdout").decode()
     said = "" if output == text else f"standard output differs: {beside(text, output)}\n"

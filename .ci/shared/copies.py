@@ -15,6 +15,7 @@ import time
 import crates
 import files
 import stubs
+from twins import add
 
 PARTS = ("src", "specs", "proofs")
 # The verdict on a function that is proved: its own proof has no hole, and it may call what has lost its body.
@@ -91,15 +92,18 @@ class Copy:
         self.built = build_below(crate)
         os.mkdir(os.path.join(room, "checked"))
 
-    def said_of(self, asked, texts):
-        """What the prover says of some of them, where the crate has some texts in place of its own, and the texts that it reads."""
+    def said_of(self, asked, texts, twins=()):
+        """What the prover says of some of them and of twins, where the crate has some texts in place of its own, and the texts that it
+        reads."""
+        asked = [*asked, *(twin.path() for twin in twins)]
         folder = tempfile.mkdtemp(dir=self.room)
         for part in PARTS:
             if os.path.isdir(os.path.join(crates.CRATES, self.crate, part)):
                 shutil.copytree(os.path.join(crates.CRATES, self.crate, part), os.path.join(folder, part))
         for file, text in texts.items():
             files.write(os.path.join(folder, file), text)
-        shown = stubs.leave_bodies(folder, self.crate, self.paths)
+        add(folder, self.crate, twins)
+        shown = stubs.leave_bodies(folder, self.crate, [*self.paths, *asked])
         rtlib, guard = toolchain()
         only = [word for path in asked for word in ("--only", path if path[0].isupper() else f"{self.crate}::{path}")]
         words = self.built.words(["--jobs", "1", "--allow-holes", *only], keeps=False)

@@ -21,6 +21,11 @@ pub {name}_spec : {{M : Type 1}} → statement M
 """
 
 
+def sources(room):
+    """The sources of a crate in a folder, by their paths."""
+    return {file: files.read(os.path.join(room, file)) for file in files.matching("src/**/*.rt", top=room)}
+
+
 def homes_of(texts):
     """The files that declare a type of a name."""
     found = {}
@@ -51,7 +56,7 @@ def taken_from(file, text, stays, homes):
 
 def leave_bodies(room, crate, stays):
     """Takes away the bodies of all functions of a copy but those of these paths: the texts that its sources then have."""
-    texts = {file: files.read(os.path.join(room, file)) for file in files.matching("src/**/*.rt", top=room)}
+    texts = sources(room)
     homes = homes_of(texts)
     for file, text in texts.items():
         for function, path in reversed(list(taken_from(file, text, stays, homes))):

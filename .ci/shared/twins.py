@@ -1,0 +1,62 @@
+"""Twins of functions, in a copy of a crate: each has a name of its own, and the text and the proof of a function but for what is
+changed. So the prover is asked once for all that is tried in a crate, though much of it changes the same function."""
+import os
+import re
+from dataclasses import dataclass, field
+from typing import Callable
+
+import files
+import stubs
+from rattle import Source
+
+PROOFS = ("Invariants.antt", "Answers.antt", "Proof.antt")
+
+
+@dataclass
+class Twin:
+    of: str  # The path of the function.
+    file: str
+    name: str
+    changed: Callable = field(default=str)  # From the function's text to that of the twin.
+
+    def path(self):
+        return "::".join([*self.of.split("::")[:-1], self.name])
+
+
+def whole(text, function):
+    """The text of a function, from the beginning of its line on."""
+    return text[text.rfind("\n", 0, function.start) + 1 : function.end]
+
+
+def can_have_twins(folder, file, function):
+    """Whether a function of a crate in this folder can have twins: a method of a trait, or what calls itself, can have none."""
+    text = files.read(os.path.join(folder, file))
+    path = stubs.whole_path(function, file, stubs.homes_of(stubs.sources(folder)))
+    if not path or function.trait or function.is_inner or stubs.STAYS.search(text[: function.start]):
+        return False
+    return not os.path.isdir(os.path.join(folder, "proofs", *path.split("::")[:-1], f"+{function.name}"))
+
+
+def copy_proof(room, crate, path, name):
+    """Gives a twin the proof of the function of a path."""
+    *above, own = path.split("::")
+    here, there = (os.path.join(room, "proofs", *above, it) for it in (own, name))
+    within = {it: f"Rattle.{crate}.proofs.{'.'.join([*above, it])}." for it in (own, name)}
+    for file in PROOFS:
+        if os.path.exists(os.path.join(here, file)):
+            text = files.read(os.path.join(here, file)).replace(within[own], within[name])
+            files.write(os.path.join(there, file), re.sub(rf"\b{own}_spec\b", f"{name}_spec", text))
+
+
+def add(room, crate, twins):
+    """Puts twins behind their functions in a copy of a crate."""
+    texts = stubs.sources(room)
+    homes = stubs.homes_of(texts)
+    for file in {it.file for it in twins}:
+        text = texts[file]
+        for function in reversed(Source(text, file).functions):
+            for twin in (it for it in twins if (it.file, it.of) == (file, function.path())):
+                made = re.sub(rf"\bfn\s+{function.name}\b", f"fn {twin.name}", twin.changed(whole(text, function)), count=1)
+                text = f"{text[: function.end]}\n\n{made}{text[function.end :]}"
+                copy_proof(room, crate, stubs.whole_path(function, file, homes), twin.name)
+        files.write(os.path.join(room, file), text)

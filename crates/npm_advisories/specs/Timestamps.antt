@@ -2,10 +2,11 @@
 use Rattle.std.specs.Prelude.{◌==◌, ◌||◌, ℕ, List, [], ◌∷◌, Bool, false, if◌then◌else◌, Option, Some, None, bytes_eq, codes}
 use Rattle.std.specs.Char.{is_ascii_digit}
 use Rattle.std.specs.Option.{option_map_or}
+use Rattle.semver_texts.specs.Characters.{digit_zero}
 
 -- the character of a form that this one fits: `0` for any digit, and else itself
 abbrev pub form_of : (c : ℕ) → ℕ
-form_of c = if is_ascii_digit c then 48 else c
+form_of c = if is_ascii_digit c then digit_zero else c
 
 -- what follows a text of this form: `Z` of `2022-01-31Z` for `0000-00-00`
 abbrev pub after : (form text : List ℕ) → Option (List ℕ)

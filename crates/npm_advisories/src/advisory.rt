@@ -34,7 +34,7 @@ pub struct About<'v> {
 
 /// An advisory about some versions of a package.
 #[derive(Drop)]
-pub struct Advisory<'v> {
+pub(crate) struct Advisory<'v> {
     /// The name of the package.
     pub name: &'v str,
     pub about: About<'v>,
@@ -44,7 +44,7 @@ pub struct Advisory<'v> {
 
 impl<'v> Advisory<'v> {
     /// Returns `true` if the advisory is about the version.
-    pub fn is_about(&self, version: &VersionRef<'_>) -> bool
+    pub(crate) fn is_about(&self, version: &VersionRef<'_>) -> bool
         ensures { IsTrue result ↔ RangeContains (sets_of_answer self.now.range) version.now }
     {
         match &self.range {
@@ -54,7 +54,7 @@ impl<'v> Advisory<'v> {
     }
 
     /// Returns the sets of its range.
-    pub fn sets(&self, alloc: Global) -> Result<Vec<Span<Version>>>
+    pub(crate) fn sets(&self, alloc: Global) -> Result<Vec<Span<Version>>>
         ensures sets { IfOk result (λ sets. sets.items ≡ sets_of_answer self.now.range) }
         ensures holds { IfOk result (λ sets. AllByRecursion IsRangeSet sets.items) }
     {
@@ -72,7 +72,7 @@ pub(crate) const OPTIONS: NpmOptions = NpmOptions {
 };
 
 /// Reads an advisory in npm's form, which stands under the name of a package.
-pub fn npm_advisory<'v>(
+pub(crate) fn npm_advisory<'v>(
     alloc: Global,
     name: &'v str,
     entry: &'v Value,
@@ -92,7 +92,7 @@ pub fn npm_advisory<'v>(
 }
 
 /// The `id` of an advisory that is in npm's form.
-pub fn formed_id(entry: &Value) -> Result<&Value, FaultKind>
+pub(crate) fn formed_id(entry: &Value) -> Result<&Value, FaultKind>
     ensures id { IfOk result (λ id. view id.now ≡ unwrap_or (get (codes "id") (view entry.now)) null) }
     ensures fault { result_err result ≡ Faults.form_fault (view entry.now) }
 {

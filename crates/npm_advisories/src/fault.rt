@@ -117,7 +117,7 @@ impl<'v> From<AllocError> for AuditError<'v> {
 
 /// Why one advisory is not read.
 #[derive(Clone, Copy, Debug, PartialEq, Eq, Drop)]
-pub enum Unread {
+pub(crate) enum Unread {
     Refused(FaultKind),
     Memory,
 }
@@ -143,7 +143,7 @@ impl From<FaultKind> for Unread {
 /// # Errors
 ///
 /// An allocation failed.
-pub fn is_refused(unread: Unread) -> Result<bool>
+pub(crate) fn is_refused(unread: Unread) -> Result<bool>
     ensures { (fault : Option FaultKind) → IsUnreadAs fault unread → IfOk result (λ is. is ≡ is_some fault) }
 {
     match unread {

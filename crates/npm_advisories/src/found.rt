@@ -10,11 +10,13 @@ ghost use Rattle.npm_advisories.specs.Private.Auditing.{IsFoundOf};
 ghost use Rattle.npm_advisories.specs.Index.{IsAdvisory, IsIndex, at_name};
 ghost use Rattle.npm_advisories.specs.Private.Unions.{IsKnown};
 
+use crate::index::Index;
 use crate::names::names_of;
 use crate::offer::offer_above;
 use crate::read::read_file;
 use crate::unions::Unions;
-use crate::{About, AuditError, Index, Result, Severity, read_version};
+use crate::version::read_version;
+use crate::{About, AuditError, Result, Severity};
 use node_semver::Version;
 use serde_json::Value;
 use std::alloc::Global;

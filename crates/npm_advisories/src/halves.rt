@@ -10,9 +10,10 @@ ghost use Rattle.npm_advisories.specs.Private.Spans.{IsHitBy, IsPast};
 ghost use Rattle.npm_advisories.specs.declared.advisory.About.{About};
 ghost use Rattle.npm_advisories.specs.declared.advisory.Advisory.{Advisory};
 
+use crate::advisory::Advisory;
 use crate::hits::hits_of;
 use crate::spans::sets_of;
-use crate::{About, Advisory, Result, Severity};
+use crate::{About, Result, Severity};
 use node_semver::{Range, VersionRef};
 use npm_semver::range_from_sets;
 use std::alloc::Global;

@@ -4,7 +4,8 @@ ghost use Rattle.npm_advisories.specs.Hits.{AreKept};
 ghost use Rattle.npm_advisories.specs.Advisories.{about_value};
 ghost use Rattle.npm_advisories.specs.Private.Spans.{IsHitBy, IsIn};
 
-use crate::{About, Advisory, Result, Severity};
+use crate::advisory::Advisory;
+use crate::{About, Result, Severity};
 use node_semver::VersionRef;
 use std::alloc::Global;
 

@@ -14,7 +14,7 @@ pub enum AdvisoryId<'v> {
 }
 
 /// The `id` of an advisory, if it is a whole number or a string, or else its `url`, if that is a string.
-pub fn id_in(entry: &Value) -> Option<AdvisoryId<'_>>
+pub(crate) fn id_in(entry: &Value) -> Option<AdvisoryId<'_>>
     ensures { option_map Ids.id_value result ≡ Ids.id_in (view entry.now) }
 {
     match known_id(entry) {

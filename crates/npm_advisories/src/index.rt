@@ -11,12 +11,12 @@ use std::collections::BTreeMap;
 
 /// The advisories by the names of packages, those of a name in the order of the file.
 #[derive(Drop)]
-pub struct Index<'v> {
+pub(crate) struct Index<'v> {
     by_name: BTreeMap<&'v str, Vec<Advisory<'v>>>,
 }
 
 impl<'v> Index<'v> {
-    pub fn new(alloc: Global) -> Index<'v>
+    pub(crate) fn new(alloc: Global) -> Index<'v>
         ensures { (name : List ℕ) → at_name result name ≡ [] }
     {
         Index {
@@ -25,7 +25,7 @@ impl<'v> Index<'v> {
     }
 
     /// Adds an advisory behind those of the same name.
-    pub fn add(&mut self, alloc: Global, advisory: Advisory<'v>) -> Result<()>
+    pub(crate) fn add(&mut self, alloc: Global, advisory: Advisory<'v>) -> Result<()>
         ensures { OnOk result ((name : List ℕ) → at_name self.new name
             ≡ at_name self.old name ++ named name (advisory.entry ∷ [])) }
     {
@@ -36,7 +36,7 @@ impl<'v> Index<'v> {
     }
 
     /// Returns the advisories about the package with this name, if there are any. Does not allocate.
-    pub fn at(&self, name: &str) -> Option<&[Advisory<'v>]>
+    pub(crate) fn at(&self, name: &str) -> Option<&[Advisory<'v>]>
         ensures { option_map_or (λ list. list.now) result [] ≡ at_name self.now name.now }
     {
         Some(self.by_name.get(name)?.as_slice())

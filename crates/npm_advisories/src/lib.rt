@@ -14,7 +14,7 @@ mod lock;
 mod member;
 mod names;
 mod offer;
-pub mod osv;
+mod osv;
 mod read;
 mod release;
 mod severity;
@@ -24,17 +24,13 @@ mod unions;
 mod version;
 mod wanted;
 
-pub use advisory::{About, Advisory, formed_id, npm_advisory};
-pub use fault::{AuditError, Fault, FaultKind, Unread, is_refused};
+pub use advisory::About;
+pub use fault::{AuditError, Fault, FaultKind};
 pub use found::{Found, Installed, audit};
-pub use id::{AdvisoryId, id_in};
-pub use index::Index;
+pub use id::AdvisoryId;
 pub use lock::{LockError, audit_lock, audit_sound_lock};
-pub use member::{items_at, listed_at, text_at};
 pub use severity::Severity;
 pub use steps::fault_steps;
-pub use version::read_version;
-pub use wanted::Names;
 
 /// The result of what fails by memory alone, if no other error is named.
 type Result<T, E = std::alloc::AllocError> = std::result::Result<T, E>;

@@ -13,7 +13,8 @@ ghost use Rattle.npm_advisories.specs.LockFaults.{IsAuditErrorBeside, IsFileFaul
 ghost use Rattle.npm_advisories.specs.LockFile.{AreInstalled, AreInstalledOf, IsInstalledAs, IsName, IsOther};
 
 use crate::found::{Found, Installed, audit};
-use crate::{AuditError, Fault, Result, Severity, text_at};
+use crate::member::text_at;
+use crate::{AuditError, Fault, Result, Severity};
 use npm_packages::{CheckError, Dependents, SoundLock, end_of};
 use serde_json::{Map, Value};
 use std::alloc::Global;

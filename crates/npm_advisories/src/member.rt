@@ -11,14 +11,18 @@ use crate::fault::FaultKind;
 use serde_json::Value;
 
 /// Returns a member that is a string. Does not allocate.
-pub fn text_at<'v>(entry: &'v Value, key: &str) -> Option<&'v str>
+pub(crate) fn text_at<'v>(entry: &'v Value, key: &str) -> Option<&'v str>
     ensures { option_map (λ text. text.now) result ≡ text_of key.now (view entry.now) }
 {
     entry.get(key)?.as_str()
 }
 
 /// The items of a member that is a list. `null` counts as none, and any other value has this fault.
-pub fn items_at<'v>(entry: &'v Value, key: &str, kind: FaultKind) -> Result<&'v [Value], FaultKind>
+pub(crate) fn items_at<'v>(
+    entry: &'v Value,
+    key: &str,
+    kind: FaultKind,
+) -> Result<&'v [Value], FaultKind>
     ensures items { IfOk result (λ items. items_view items.now ≡ Form.items_at key.now (view entry.now)) }
     ensures fault { result_err result ≡ items_fault key.now kind (view entry.now) }
 {
@@ -35,7 +39,7 @@ pub fn items_at<'v>(entry: &'v Value, key: &str, kind: FaultKind) -> Result<&'v 
 }
 
 /// The items of a member, none if it is no list.
-pub fn listed_at<'v>(entry: &'v Value, key: &str) -> &'v [Value]
+pub(crate) fn listed_at<'v>(entry: &'v Value, key: &str) -> &'v [Value]
     ensures { items_view result.now ≡ Form.items_at key.now (view entry.now) }
 {
     match entry.get(key).and_then(Value::as_array) {

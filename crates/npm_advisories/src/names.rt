@@ -4,8 +4,9 @@ ghost use Rattle.npm_advisories.specs.Audit.{installed_value, names_of};
 ghost use Rattle.npm_advisories.specs.Files.{is_among};
 ghost use Rattle.npm_advisories.specs.Index.{has_name};
 
+use crate::Result;
 use crate::found::Installed;
-use crate::{Names, Result};
+use crate::wanted::Names;
 use std::alloc::Global;
 
 /// The names of these packages.

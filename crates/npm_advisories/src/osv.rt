@@ -14,11 +14,11 @@ ghost use Rattle.npm_advisories.specs.Private.Index.{Adds};
 ghost use Rattle.npm_advisories.specs.Private.Reading.{IsUnreadAs};
 ghost use Rattle.npm_advisories.specs.Private.VersionTest.{is_version};
 
-pub mod affected;
+pub(crate) mod affected;
 mod between;
-pub mod events;
+pub(crate) mod events;
 mod marks;
-pub mod packages;
+pub(crate) mod packages;
 mod timestamp;
 
 use crate::Result;
@@ -35,7 +35,7 @@ use serde_json::Value;
 use std::alloc::Global;
 
 /// Adds the advisories of an OSV object.
-pub fn add_osv<'v>(
+pub(crate) fn add_osv<'v>(
     alloc: Global,
     index: &mut Index<'v>,
     names: &Names<'_>,

@@ -15,12 +15,15 @@ ghost use Rattle.npm_advisories.specs.Private.Index.{Adds};
 ghost use Rattle.npm_advisories.specs.Private.Reading.{IsErrorAt, IsErrorOf, at_place};
 ghost use Rattle.npm_advisories.specs.Private.VersionTest.{is_version};
 
+use crate::advisory::{formed_id, npm_advisory};
+use crate::fault::Unread;
+use crate::id::id_in;
+use crate::index::Index;
+use crate::member::text_at;
 use crate::osv::add_osv;
 use crate::osv::packages::told_name;
-use crate::{
-    AdvisoryId, AuditError, Fault, FaultKind, Index, Names, Result, Unread, formed_id, id_in,
-    npm_advisory, text_at,
-};
+use crate::wanted::Names;
+use crate::{AdvisoryId, AuditError, Fault, FaultKind, Result};
 use serde_json::Value;
 use std::alloc::Global;
 

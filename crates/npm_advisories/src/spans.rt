@@ -8,7 +8,8 @@ ghost use Rattle.npm_advisories.specs.Offers.{IsAskedFor};
 ghost use Rattle.npm_advisories.specs.Lemmas.Spans.{Have};
 ghost use Rattle.npm_advisories.specs.Private.Spans.{IsInRange};
 
-use crate::{Advisory, Result};
+use crate::Result;
+use crate::advisory::Advisory;
 use node_semver::{Range, Version};
 use npm_semver::NpmOptions;
 use semver_cuts::Span;

@@ -13,9 +13,11 @@ ghost use Rattle.npm_advisories.specs.Private.VersionTest.{is_version};
 mod osv;
 
 use crate::lock::{LockError, installed_in};
+use crate::member::text_at;
 use crate::names::names_of;
 use crate::steps::osv::push_osv;
-use crate::{Fault, FaultKind, Names, Result, text_at};
+use crate::wanted::Names;
+use crate::{Fault, FaultKind, Result};
 use json_places::Step;
 use serde_json::Value;
 use std::alloc::Global;

@@ -6,10 +6,12 @@ ghost use Rattle.npm_advisories.specs.Private.Spans.{IsHitBy};
 ghost use Rattle.npm_advisories.specs.Private.Unions.{AreUnions, IsKnown, IsUnion, union_at};
 ghost use Rattle.npm_advisories.specs.declared.index.Index.{Index};
 
+use crate::advisory::Advisory;
 use crate::covered::covered_by;
 use crate::halves::Halves;
+use crate::index::Index;
 use crate::spans::sets_of;
-use crate::{About, Advisory, Index, Result, Severity};
+use crate::{About, Result, Severity};
 use node_semver::{Version, VersionRef};
 use semver_cuts::Span;
 use std::alloc::Global;

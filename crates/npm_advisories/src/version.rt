@@ -13,7 +13,7 @@ use npm_texts::installed_version;
 /// # Examples
 ///
 /// `=1.2.3` and `V1.2.3` are read as 1.2.3, and `1.2` as no version.
-pub fn read_version(text: &str) -> Option<VersionRef<'_>>
+pub(crate) fn read_version(text: &str) -> Option<VersionRef<'_>>
     ensures read { IsReadAs text.now result }
     ensures only { (v : Option VersionValue) → IsReadAs text.now v → v ≡ result }
     ensures end { IfSome result IsRangeEnd }

@@ -10,13 +10,13 @@ use std::collections::BTreeMap;
 
 /// The names of packages that are wanted.
 #[derive(Drop)]
-pub struct Names<'v> {
+pub(crate) struct Names<'v> {
     set: BTreeMap<&'v str, ()>,
 }
 
 impl<'v> Names<'v> {
     /// Returns no names. Does not allocate.
-    pub fn new(alloc: Global) -> Names<'v>
+    pub(crate) fn new(alloc: Global) -> Names<'v>
         ensures { (name : List ℕ) → has_name result name ≡ false }
     {
         Names {
@@ -25,7 +25,7 @@ impl<'v> Names<'v> {
     }
 
     /// Adds a name.
-    pub fn add(&mut self, name: &'v str) -> Result<()>
+    pub(crate) fn add(&mut self, name: &'v str) -> Result<()>
         ensures { OnOk result ((other : List ℕ) → has_name self.new other
             ≡ (has_name self.old other || bytes_eq name.now other)) }
     {
@@ -34,7 +34,7 @@ impl<'v> Names<'v> {
     }
 
     /// Returns `true` if the package with this name is wanted.
-    pub fn has(&self, name: &str) -> bool
+    pub(crate) fn has(&self, name: &str) -> bool
         ensures { result ≡ has_name self.now name.now }
     {
         self.set.contains_key(name)

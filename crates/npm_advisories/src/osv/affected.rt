@@ -28,7 +28,7 @@ use serde_json::Value;
 use std::alloc::Global;
 
 /// The versions that an element of `affected` is about, if there are any.
-pub fn range_of(alloc: Global, one: &Value) -> Result<Option<Range>, Unread>
+pub(crate) fn range_of(alloc: Global, one: &Value) -> Result<Option<Range>, Unread>
     ensures range { IfOk result (IsRangeOf (Form.osv_affected (view one.now))) }
     ensures sound { OnOk result (Faults.element_fault is_version (view one.now) ≡ None) }
     ensures refused { IfErr result (IsUnreadAs (Faults.element_fault is_version (view one.now))) }
@@ -86,7 +86,7 @@ fn is_read_value(value: &Value) -> bool
 }
 
 /// The spans of all ranges that have versions.
-pub fn spans_of_ranges(alloc: Global, ranges: &[Value]) -> Result<Vec<Span<Version>>, Unread>
+pub(crate) fn spans_of_ranges(alloc: Global, ranges: &[Value]) -> Result<Vec<Span<Version>>, Unread>
     ensures read { IfOk result (λ spans. Have spans.items
         (λ v. AnyByRecursion (λ events. IsInEvents events v) (Form.ranges_of (items_view ranges.now)))) }
     ensures sound { OnOk result (first_fault (Faults.osv_range_fault is_version) (items_view ranges.now) ≡ None) }
@@ -102,7 +102,7 @@ pub fn spans_of_ranges(alloc: Global, ranges: &[Value]) -> Result<Vec<Span<Versi
 }
 
 /// The spans of a range; none if it has no versions.
-pub fn spans_of_range(alloc: Global, range: &Value) -> Result<Vec<Span<Version>>, Unread>
+pub(crate) fn spans_of_range(alloc: Global, range: &Value) -> Result<Vec<Span<Version>>, Unread>
     ensures read { IfOk result (λ spans. Have spans.items (λ v. AnyByRecursion (λ events. IsInEvents events v)
         (if Form.has_versions (view range.now) then Form.events_of (Form.items_at (codes "events") (view range.now)) ∷ []
         else []))) }
@@ -118,7 +118,7 @@ pub fn spans_of_range(alloc: Global, range: &Value) -> Result<Vec<Span<Version>>
 }
 
 /// Returns `true` if a range has versions, and not commits.
-pub fn has_versions(range: &Value) -> Result<bool, FaultKind>
+pub(crate) fn has_versions(range: &Value) -> Result<bool, FaultKind>
     ensures versions { IfOk result (λ has. has ≡ Form.has_versions (view range.now)) }
     ensures fault { result_err result ≡ Faults.type_fault (view range.now) }
 {
@@ -130,7 +130,10 @@ pub fn has_versions(range: &Value) -> Result<bool, FaultKind>
 }
 
 /// The spans of the versions of a list.
-pub fn spans_of_versions(alloc: Global, versions: &[Value]) -> Result<Vec<Span<Version>>, Unread>
+pub(crate) fn spans_of_versions(
+    alloc: Global,
+    versions: &[Value],
+) -> Result<Vec<Span<Version>>, Unread>
     ensures read { IfOk result (λ spans. Have spans.items
         (λ v. AnyByRecursion (λ text. IsTextOfSame text v) (Form.texts_of (items_view versions.now)))) }
     ensures sound { OnOk result (first_fault Faults.version_text_fault (items_view versions.now) ≡ None) }

@@ -165,7 +165,7 @@ fn event_of(value: &Value) -> Option<Event<'_>>
 }
 
 /// Returns whether one of the events has a fault.
-pub fn have_fault(alloc: Global, events: &[Value]) -> Result<bool>
+pub(crate) fn have_fault(alloc: Global, events: &[Value]) -> Result<bool>
     ensures { IfOk result (λ have. have
         ≡ is_some (first_fault (Faults.event_fault is_version) (items_view events.now))) }
 {
@@ -176,7 +176,7 @@ pub fn have_fault(alloc: Global, events: &[Value]) -> Result<bool>
 }
 
 /// Returns whether an event has a fault.
-pub fn has_fault(alloc: Global, value: &Value) -> Result<bool>
+pub(crate) fn has_fault(alloc: Global, value: &Value) -> Result<bool>
     ensures { IfOk result (λ has. has ≡ is_some (Faults.event_fault is_version (view value.now))) }
 {
     let Some(event) = event_of(value) else {

@@ -63,7 +63,7 @@ fn may_concern(names: &Names<'_>, one: &Value) -> bool
 }
 
 /// The first installed package that an OSV object is about, or the empty name.
-pub fn told_name<'v>(names: &Names<'_>, entry: &'v Value) -> &'v str
+pub(crate) fn told_name<'v>(names: &Names<'_>, entry: &'v Value) -> &'v str
     ensures { result.now ≡ Packages.told_name (has_name names.now) (view entry.now) }
 {
     match affected_of(entry) {
@@ -86,7 +86,7 @@ fn first_wanted<'v>(names: &Names<'_>, affected: &'v [Value]) -> &'v str
 }
 
 /// The name of the package that an element of `affected` is about, if its ecosystem is npm.
-pub fn npm_name(one: &Value) -> Result<Option<&str>, FaultKind>
+pub(crate) fn npm_name(one: &Value) -> Result<Option<&str>, FaultKind>
     ensures name { IfOk result (λ name. option_map (λ n. n.now) name ≡ Form.npm_name (view one.now)) }
     ensures none { OnErr result (Form.npm_name (view one.now) ≡ None) }
     ensures fault { result_err result ≡ Packages.package_fault (view one.now) }

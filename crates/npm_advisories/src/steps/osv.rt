@@ -9,6 +9,8 @@ ghost use Rattle.npm_advisories.specs.OsvFaults as Faults;
 ghost use Rattle.npm_advisories.specs.Index.{has_name};
 ghost use Rattle.npm_advisories.specs.Private.VersionTest.{is_version};
 
+use crate::fault::is_refused;
+use crate::member::{items_at, listed_at};
 use crate::osv::affected::{
     has_versions, range_of, spans_of_range, spans_of_ranges, spans_of_versions,
 };
@@ -16,7 +18,8 @@ use crate::osv::events;
 use crate::osv::events::has_fault;
 use crate::osv::packages::npm_name;
 use crate::steps::push_member;
-use crate::{FaultKind, Names, Result, is_refused, items_at, listed_at};
+use crate::wanted::Names;
+use crate::{FaultKind, Result};
 use json_places::Step;
 use serde_json::Value;
 use std::alloc::Global;

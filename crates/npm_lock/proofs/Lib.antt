@@ -1,6 +1,7 @@
 pub mod Examples
 pub mod Globs
 pub mod MoreFindings
+pub mod PlainRanges  -- specs that are plain ranges
 pub mod PatternLists
 pub mod StarPatterns
 pub mod ProblemTexts

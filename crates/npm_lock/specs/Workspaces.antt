@@ -63,11 +63,12 @@ pub data IsWorkspace (from : List ℕ) (asker : Data) (folder : List ℕ) : Work
       → patterns_of asker ≡ Some patterns → IsByPatterns folder patterns found → IsWorkspace from asker folder found
 
 -- Whether the package that was found under a name is a workspace. A workspace is found under its own name alone: `b`, linked to
--- the workspace `a`, is none.
+-- the workspace `a`, is none. What is no workspace is none under any name.
 pub data IsWorkspaceAs (from : List ℕ) (asker : Data) (name : List ℕ) (package_found : Package) : Workspace → Type 0 where
   by_name : (found : Workspace) → IsNamed package_found name → IsWorkspace from asker package_found.folder found
       → IsWorkspaceAs from asker name package_found found
   other_name : ¬ IsNamed package_found name → IsWorkspaceAs from asker name package_found IsNot
+  no_workspace : IsWorkspace from asker package_found.folder IsNot → IsWorkspaceAs from asker name package_found IsNot
 
 -- ---- the patterns themselves
 

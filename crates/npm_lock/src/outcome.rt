@@ -3,7 +3,7 @@ ghost use Rattle.std.specs.Prelude.{◌≡◌, ◌&&◌, [], ◌∷◌, IfOk, On
 ghost use Rattle.serde_json.specs.View.{view};
 ghost use Rattle.npm_lock.specs.Findings.{IsNodeOutcome, finding_of};
 ghost use Rattle.npm_lock.specs.Outcomes as Outcomes;
-ghost use Rattle.npm_lock.specs.Outcomes.{IsOutcome, IsVerdictOn, dependency_value, problem_value};
+ghost use Rattle.npm_lock.specs.Outcomes.{IsOutcome, IsVerdictOn, dependency_value, problem_value, unknown, wrong};
 ghost use Rattle.npm_lock.specs.Private.Adding.{Adds};
 ghost use Rattle.npm_lock.specs.Private.JudgementValue.{judgement_value};
 ghost use Rattle.npm_packages.specs.PackageValue.{asked_value, package_value, packages_data};
@@ -83,7 +83,9 @@ fn is_local_peer(asked: Asked<'_>, is_installed: bool, is_own: bool) -> bool
     asked.is_peer && is_installed && is_own
 }
 
-/// Adds the judgement of a dependency of a package.
+/// Adds the judgement of a dependency of a package. The usual one, that nothing is wrong, is added here, without the places that the
+/// others take.
+#[inline(always)]
 pub(crate) fn add_judgement(
     problems: &mut Problems,
     alloc: Global,
@@ -100,15 +102,51 @@ pub(crate) fn add_judgement(
             problems.add_fine();
             Ok(())
         }
-        Judgement::Wrong(kind, found) => {
-            let dependency = dependency_of(alloc, asker, name, asked, found)?;
-            problems.add_dependency(Some(Problem { kind, dependency }), None)
-        }
+        Judgement::Wrong(kind, found) => add_wrong(
+            problems, alloc, asker, name, asked, kind, found,
+        ),
         Judgement::Unknown(reason, found) => {
-            let dependency = dependency_of(alloc, asker, name, asked, Some(found))?;
-            problems.add_dependency(None, Some(Unchecked { reason, dependency }))
+            add_unknown(problems, alloc, asker, name, asked, reason, found)
         }
     }
+}
+
+/// Adds a problem with a dependency of a package, for which this package was found, if one was.
+#[inline(never)]
+fn add_wrong(
+    problems: &mut Problems,
+    alloc: Global,
+    asker: Package<'_>,
+    name: &str,
+    asked: Asked<'_>,
+    kind: Kind,
+    found: Option<Package<'_>>,
+) -> Result<()>
+    ensures { OnOk result (Adds problems.old problems.new (finding_of asker.entry.folder.now
+        (view asker.entry.member.now) name.now (asked_value asked.entry)
+        (wrong kind (option_map package_value found.entry)) ∷ [])) }
+{
+    let dependency = dependency_of(alloc, asker, name, asked, found)?;
+    problems.add_dependency(Some(Problem { kind, dependency }), None)
+}
+
+/// Adds a dependency of a package that is not checked, for which this package was found.
+#[inline(never)]
+fn add_unknown(
+    problems: &mut Problems,
+    alloc: Global,
+    asker: Package<'_>,
+    name: &str,
+    asked: Asked<'_>,
+    reason: Reason,
+    found: Package<'_>,
+) -> Result<()>
+    ensures { OnOk result (Adds problems.old problems.new (finding_of asker.entry.folder.now
+        (view asker.entry.member.now) name.now (asked_value asked.entry)
+        (unknown reason (package_value found.entry)) ∷ [])) }
+{
+    let dependency = dependency_of(alloc, asker, name, asked, Some(found))?;
+    problems.add_dependency(None, Some(Unchecked { reason, dependency }))
 }
 
 /// A dependency of a package, and the package that was found, if one was.
@@ -170,7 +208,10 @@ pub(crate) fn engine_problem(
     ensures { IfOk result (λ problem. IsNodeOutcome (option_map (λ version. version.now) node.entry)
         asker.entry.folder.now (view asker.entry.member.now) (option_map problem_value problem)) }
 {
-    let (Some(node), Some(spec)) = (node, engine_of(asker.member)) else {
+    let Some(node) = node else {
+        return Ok(None);
+    };
+    let Some(spec) = engine_of(asker.member) else {
         return Ok(None);
     };
     if is_contained(alloc, spec, node)? {

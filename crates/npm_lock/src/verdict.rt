@@ -1,12 +1,16 @@
 //! Whether a version satisfies a dependency's spec.
-ghost use Rattle.std.specs.Prelude.{◌≡◌, ◌↔◌, List, ℕ, IfOk, IsTrue, false, if◌then◌else◌, option_map};
+ghost use Rattle.std.specs.Prelude.{◌≡◌, ◌↔◌, List, ℕ, IfOk, IsTrue, false, if◌then◌else◌, option_map, slice_index};
+ghost use Rattle.std.specs.List.{list_all};
 ghost use Rattle.node_semver.specs.Ranges.{RangeAdmits};
 ghost use Rattle.node_semver.specs.Versions.{VersionValue};
 ghost use Rattle.serde_json.specs.View.{view};
 ghost use Rattle.npm_packages.specs.Asked.{accepted_of};
+ghost use Rattle.npm_lock.specs.Private.RangeBytes.{begins_range, is_range_byte};
 ghost use Rattle.npm_lock.specs.Verdict as Verdicts;
 ghost use Rattle.npm_lock.specs.Verdict.{IsContained, IsVerdict, IsVerdictOfBoth, IsVerdictOfText};
 ghost use Rattle.npm_texts.specs.Admission.{Admits, IsNoRange, of_dependencies};
+ghost use Rattle.npm_texts.specs.SpecGrammar.{IsSpec, in_registry};
+ghost use Rattle.npm_texts.specs.SpecGrammar as SpecGrammar;
 
 use crate::Result;
 use crate::problem::Reason;
@@ -64,6 +68,9 @@ pub(crate) fn verdict_of_both(
 fn verdict_of(alloc: Global, spec: &str, version: Option<&str>) -> Result<Verdict>
     ensures { IfOk result (IsVerdict (option_map (λ t. t.now) version.entry) spec.now) }
 {
+    if is_plain_range(spec) {
+        return verdict_of_text(alloc, spec, version);
+    }
     match spec_of(spec) {
         Spec::Text(text) => verdict_of_text(alloc, text, version),
         Spec::Location => Ok(Verdict::Unchecked(Reason::Location)),
@@ -71,17 +78,80 @@ fn verdict_of(alloc: Global, spec: &str, version: Option<&str>) -> Result<Verdic
     }
 }
 
-/// Returns whether the version of a package satisfies a text that is a range or a tag.
+/// Returns `true` for a spec that begins with a digit, `^` or `~`, and has only these and dots, as `^1.2.3`: most specs. It is a text,
+/// and is seen faster than by the whole grammar.
+#[inline(always)]
+fn is_plain_range(spec: &str) -> bool
+    ensures { IsTrue result → IsSpec spec.now (in_registry spec.now) }
+{
+    if !begins_range(spec) {
+        return false;
+    }
+    has_range_bytes_alone(spec)
+}
+
+#[inline(always)]
+fn begins_range(spec: &str) -> bool
+    ensures { result ≡ begins_range (slice_index spec.now 0) }
+{
+    match spec.as_bytes() {
+        [first, ..] => first.is_ascii_digit() || *first == b'^' || *first == b'~',
+        [] => false,
+    }
+}
+
+#[inline(always)]
+fn has_range_bytes_alone(spec: &str) -> bool
+    ensures { result ≡ list_all is_range_byte spec.now }
+{
+    spec.bytes().all(is_range_byte)
+}
+
+/// Returns `true` for a digit, a dot, `^` and `~`.
+#[inline(always)]
+fn is_range_byte(byte: u8) -> bool
+    ensures { result ≡ is_range_byte byte }
+{
+    byte.is_ascii_digit() || byte == b'.' || byte == b'^' || byte == b'~'
+}
+
+/// Returns whether the version of a package satisfies a text that is a range or a tag. Most are satisfied, so whether a text asks for any
+/// version is seen after that.
 fn verdict_of_text(alloc: Global, text: &str, version: Option<&str>) -> Result<Verdict>
     ensures { IfOk result (IsVerdictOfText (option_map (λ t. t.now) version.entry) text.now) }
 {
-    if asks_for_any(text) {
-        return Ok(Verdict::Valid);
-    }
     match range_of(alloc, text, OF_DEPENDENCIES)? {
-        Some(range) if is_satisfied(&range, version) => Ok(Verdict::Valid),
-        None if is_tag(text) => Ok(Verdict::Unchecked(Reason::Tag)),
-        _ => Ok(Verdict::Invalid),
+        Some(range) => {
+            if is_satisfied(&range, version) {
+                Ok(Verdict::Valid)
+            } else {
+                Ok(valid_for_any(text, Verdict::Invalid))
+            }
+        }
+        None => Ok(valid_for_any(text, verdict_of_no_range(text))),
+    }
+}
+
+/// The verdict on a text that is no range.
+fn verdict_of_no_range(text: &str) -> Verdict
+    ensures { result ≡ (if SpecGrammar.is_tag text.now then Verdict.Unchecked Reason.Tag else Verdict.Invalid) }
+{
+    if is_tag(text) {
+        Verdict::Unchecked(Reason::Tag)
+    } else {
+        Verdict::Invalid
+    }
+}
+
+/// Returns this verdict, but `Valid` for a text that asks for any version.
+#[inline(never)]
+fn valid_for_any(text: &str, verdict: Verdict) -> Verdict
+    ensures { result ≡ (if Verdicts.asks_for_any text.now then Verdict.Valid else verdict) }
+{
+    if asks_for_any(text) {
+        Verdict::Valid
+    } else {
+        verdict
     }
 }
 

@@ -120,8 +120,13 @@ pub(crate) fn workspace_as<'v>(
     requires { ArePatternsOf asker.folder.now (view asker.member.now) patterns.now }
     ensures { IsWorkspaceAs asker.entry.folder.now (view asker.entry.member.now) name.now (package_value found.entry) result }
 {
+    // Most packages are in a `node_modules`, which takes less time to see than their names.
+    let said = workspace_of(asker, patterns, found.folder);
+    if let Workspace::IsNot = said {
+        return Workspace::IsNot;
+    }
     if is_named(found, name) {
-        workspace_of(asker, patterns, found.folder)
+        said
     } else {
         Workspace::IsNot
     }

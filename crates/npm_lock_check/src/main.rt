@@ -26,6 +26,7 @@ use program_error::ProgramError;
 use serde_json::Value;
 use std::fs::File;
 use std::io::{IsTerminal, Read, Write};
+use std::mem::forget;
 use std::process::ExitCode;
 use std::time::{SystemTime, UNIX_EPOCH};
 
@@ -153,21 +154,43 @@ fn write_stop(rt: &HostRuntime, writing: Writing<'_>, error: &StopError) {
     }
 }
 
-/// Checks the lock files, and writes the output and the lines. Returns the exit status. What they are checked with is dropped after
-/// the last one is checked, before the output is written.
+/// Checks the lock files, and writes the output and the lines. Returns the exit status.
 fn check_all(rt: &HostRuntime, beside: Beside<'_, '_>, files: &[&str]) -> Result<u8, RunError> {
     let writing = beside.writing;
     let exceptions = beside.exceptions;
+    let outcomes = outcomes_of(rt, beside, files)?;
+    let is_said = write_lines(rt, writing.asked, files, &outcomes, exceptions);
+    Ok(status_of(&outcomes, is_said))
+}
+
+/// Checks the lock files, and writes the output. What several are checked with is dropped after the last one is checked, before the output
+/// is written. What a single one is checked with stays: the program ends, and to free each member of the advisories takes a third of the
+/// time in which they are read.
+fn outcomes_of(
+    rt: &HostRuntime,
+    beside: Beside<'_, '_>,
+    files: &[&str],
+) -> Result<Vec<Result<Report, StopError>>, RunError> {
+    let writing = beside.writing;
     let mut writer = Watched::new(rt.stdout());
+    if writing.asked.other.is_some() {
+        return run(
+            rt.alloc(),
+            &mut writer,
+            files,
+            writing,
+            move |file| check_file(rt, &beside, file),
+        );
+    }
     let outcomes = run(
         rt.alloc(),
         &mut writer,
         files,
         writing,
-        move |file| check_file(rt, &beside, file),
-    )?;
-    let is_said = write_lines(rt, writing.asked, files, &outcomes, exceptions);
-    Ok(status_of(&outcomes, is_said))
+        |file| check_file(rt, &beside, file),
+    );
+    forget(beside);
+    outcomes
 }
 
 /// Writes the lines of each lock file on standard error, and then those of exceptions that applied to nothing. Returns `true` if all were

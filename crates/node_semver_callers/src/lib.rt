@@ -1,6 +1,6 @@
 //! Callers of `node_semver`, a task a file. Each is proved from the contracts of the calls that it makes. Take what you
-//! need: copy the file, its files in `specs/` and `proofs/`, and [`Failure`] if the file names it. For a test, copy
-//! `checks` if the test names it.
+//! need: copy the file, its files in `specs/` and `proofs/`, and [`Failure`] if the file names it. `node_semver_tests` has a
+//! test of each.
 //!
 //! | task | caller |
 //! |---|---|
@@ -22,8 +22,6 @@
 pub mod advisory;
 pub mod both;
 pub mod change;
-#[cfg(test)]
-mod checks;
 pub mod common;
 mod failure;
 pub mod least;

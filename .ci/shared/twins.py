@@ -10,6 +10,8 @@ import stubs
 from rattle import Source
 
 PROOFS = ("Invariants.antt", "Answers.antt", "Proof.antt")
+# The attributes above a function, of which some name lemmas for its proof.
+ATTRIBUTES = re.compile(r"(?:^[ \t]*#\[[^\[\]]*\][ \t]*\n)*\Z", re.M)
 
 
 @dataclass
@@ -24,8 +26,9 @@ class Twin:
 
 
 def whole(text, function):
-    """The text of a function, from the beginning of its line on."""
-    return text[text.rfind("\n", 0, function.start) + 1 : function.end]
+    """The text of a function with its attributes."""
+    above = ATTRIBUTES.search(text[: text.rfind("\n", 0, function.start) + 1])
+    return text[above.start() : function.end]
 
 
 def can_have_twins(folder, file, function):

@@ -9,6 +9,7 @@ LIB = '''pub mod below;
 
 /// Its clause.
 #[inline]
+#[tactic(auto, using(crate::proofs::Rules::rules))]
 pub(crate) fn one(n: usize) -> usize
     ensures { result ≡ n }
 {
@@ -44,7 +45,7 @@ def test_a_twin_has_the_text_and_the_proof_of_its_function(tmp_path):
     twins.add(room, "made", [wrong, plain, method])
     text = (tmp_path / "src/lib.rt").read_text()
     assert LIB[LIB.index("pub(crate) fn one"):LIB.index("\n\nfn again")] in text
-    assert "pub(crate) fn one_tried_0(n: usize) -> usize\n    ensures { result ≡ n }\n{\n    fn inner() {}\n    one_of(n) + 1\n}" in text
+    assert "\n\n#[inline]\n#[tactic(auto, using(crate::proofs::Rules::rules))]\npub(crate) fn one_tried_0(n: usize) -> usize\n    ensures { result ≡ n }\n{\n    fn inner() {}\n    one_of(n) + 1\n}" in text
     assert "pub(crate) fn one_as_it_stands(n: usize) -> usize\n    ensures { result ≡ n }\n{\n    fn inner() {}\n    one_of(n)\n}" in text
     assert "    fn there(&self) -> usize { 1 }\n\n    fn there_tried_1(&self) -> usize { 1 }\n}" in text
     assert method.path() == "Thing::there_tried_1" and function_at("src/lib.rt", text, text.index("{ 1 }\n}")).path() == method.path()

@@ -15,7 +15,7 @@ import time
 import crates
 import files
 import stubs
-from twins import add
+import twins
 
 PARTS = ("src", "specs", "proofs")
 # The verdict on a function that is proved: its own proof has no hole, and it may call what has lost its body.
@@ -92,17 +92,17 @@ class Copy:
         self.built = build_below(crate)
         os.mkdir(os.path.join(room, "checked"))
 
-    def said_of(self, asked, texts, twins=()):
-        """What the prover says of some of them and of twins, where the crate has some texts in place of its own, and the texts that it
-        reads."""
-        asked = [*asked, *(twin.path() for twin in twins)]
+    def said_of(self, asked, texts, added=()):
+        """What the prover says of some of them and of added twins, where the crate has some texts in place of its own, and the texts
+        that it reads."""
+        asked = [*asked, *(twin.path() for twin in added)]
         folder = tempfile.mkdtemp(dir=self.room)
         for part in PARTS:
             if os.path.isdir(os.path.join(crates.CRATES, self.crate, part)):
                 shutil.copytree(os.path.join(crates.CRATES, self.crate, part), os.path.join(folder, part))
         for file, text in texts.items():
             files.write(os.path.join(folder, file), text)
-        add(folder, self.crate, twins)
+        twins.add(folder, self.crate, added)
         shown = stubs.leave_bodies(folder, self.crate, [*self.paths, *asked])
         rtlib, guard = toolchain()
         only = [word for path in asked for word in ("--only", path if path[0].isupper() else f"{self.crate}::{path}")]

@@ -14,6 +14,8 @@ from rattle import Source, module_of
 STAYS = re.compile(r"\bconst\s+(?:unsafe\s+)?$|#\[cycle\(\w+\)\]\s*(?:#\[[^\]]*\]\s*)*(?:pub(?:\([a-z ]+\))?\s+)?$")
 TYPE = re.compile(r"^[ \t]*(?:pub(?:\([a-z ]+\))?\s+)?(?:struct|enum|union)\s+(\w+)", re.M)
 BODY = "{\n    unreachable!()\n}"
+# The files of a proof that rattle begins and a person ends. With a file `Proof.antt` the whole proof is a person's.
+ANSWERS = ("Invariants.antt", "Answers.antt")
 PROOF = """use Rattle.{crate}.proofs.{path}.Statement.{{statement}}
 
 pub {name}_spec : {{M : Type 1}} → statement M
@@ -62,7 +64,7 @@ def leave_bodies(room, crate, stays):
         for function, path in reversed(list(taken_from(file, text, stays, homes))):
             text = text[: function.body] + BODY + text[function.end :]
             folder = os.path.join(room, "proofs", *path.split("::"))
-            for name in ("Invariants.antt", "Answers.antt"):
+            for name in ANSWERS:
                 if os.path.exists(os.path.join(folder, name)):
                     os.remove(os.path.join(folder, name))
             # (the proof of a function that calls itself)

@@ -1,5 +1,6 @@
 """Twins of functions, in a copy of a crate: each has a name of its own, and the text and the proof of a function but for what is
 changed. So the prover is asked once for all that is tried in a crate, though much of it changes the same function."""
+import functools
 import os
 import re
 from dataclasses import dataclass, field
@@ -9,7 +10,6 @@ import files
 import stubs
 from rattle import Source
 
-PROOFS = ("Invariants.antt", "Answers.antt", "Proof.antt")
 # The attributes above a function, of which some name lemmas for its proof.
 ATTRIBUTES = re.compile(r"(?:^[ \t]*#\[[^\[\]]*\][ \t]*\n)*\Z", re.M)
 
@@ -31,10 +31,16 @@ def whole(text, function):
     return text[above.start() : function.end]
 
 
+@functools.cache
+def homes_in(folder):
+    """The files of a crate that declare a type of a name. The crate stays as it is while its edits are tried."""
+    return stubs.homes_of(stubs.sources(folder))
+
+
 def can_have_twins(folder, file, function):
     """Whether a function of a crate in this folder can have twins: a method of a trait, or what calls itself, can have none."""
     text = files.read(os.path.join(folder, file))
-    path = stubs.whole_path(function, file, stubs.homes_of(stubs.sources(folder)))
+    path = stubs.whole_path(function, file, homes_in(folder))
     if not path or function.trait or function.is_inner or stubs.STAYS.search(text[: function.start]):
         return False
     return not os.path.isdir(os.path.join(folder, "proofs", *path.split("::")[:-1], f"+{function.name}"))
@@ -45,7 +51,7 @@ def copy_proof(room, crate, path, name):
     *above, own = path.split("::")
     here, there = (os.path.join(room, "proofs", *above, it) for it in (own, name))
     within = {it: f"Rattle.{crate}.proofs.{'.'.join([*above, it])}." for it in (own, name)}
-    for file in PROOFS:
+    for file in (*stubs.ANSWERS, "Proof.antt"):
         if os.path.exists(os.path.join(here, file)):
             text = files.read(os.path.join(here, file)).replace(within[own], within[name])
             files.write(os.path.join(there, file), re.sub(rf"\b{own}_spec\b", f"{name}_spec", text))

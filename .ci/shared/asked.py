@@ -83,7 +83,7 @@ def run_stored(program, run):
 def answered(program, lines):
     """Asks a program: its answers by the lines, and what is wrong if it ended before the last of them."""
     # (the build with checks answers, and the interpreter, which would take longer, gets one step)
-    status, output, error, _ = unproved.tried(program, ["--steps", "1"], "".join(f"{line}\n" for line in lines).encode())
+    status, output, error, _ = unproved.tried(program, ["--steps", "1"], "".join(f"{line}\n" for line in lines).encode(), how=())
     found = output.split("\n")[:-1]
     if status == 0 and len(found) == len(lines):
         return dict(zip(lines, found)), ""

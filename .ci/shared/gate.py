@@ -112,9 +112,9 @@ def lanes(rows):
     return [packages, *([part] for part in rows if part.needs not in parts.PACKAGES)]
 
 
-def run_lane(gate, lane, log):
+def run_lane(gate, lane, log, how=()):
     for part in lane:
-        gate.pytest() if part.needs == "pytest" else gate.part(part.name, part.command(log))
+        gate.pytest() if part.needs == "pytest" else gate.part(part.name, [*how, *part.command(log)])
 
 
 def side_by_side(gate, rows, log):
@@ -252,7 +252,8 @@ def run_beside(gate, lane, proving):
 def prove_and_read(gate, rows, log, sampled, proving):
     """Proves all crates, and beside that runs the parts that read the repository alone: whether all is proved."""
     with concurrent.futures.ThreadPoolExecutor(1) as pool:
-        reads = pool.submit(run_lane, gate, [part for part in rows if part.needs in ("sources", "gate")], log)
+        # (the longest chain of proofs takes most of the time, and need not wait for them)
+        reads = pool.submit(run_lane, gate, [part for part in rows if part.needs in ("sources", "gate")], log, ["nice"])
         try:
             is_proved = prove(gate, log, sampled)
         finally:

@@ -45,10 +45,11 @@ def lines_of(crate):
     return [(name, listed[name]) for name in crates.below(crate)]
 
 
-def tried(crate, words, given=b""):
-    """Runs `rt try` in the folder of a crate: the status, standard output and standard error, and the seconds."""
+def tried(crate, words, given=b"", how=("nice",)):
+    """Runs `rt try` in the folder of a crate, behind what other tests wait for: the status, standard output and standard error, and the
+    seconds."""
     began = time.monotonic()
-    with subprocess.Popen(["rt", "try", "--seconds", SECONDS, *words], cwd=os.path.join(crates.CRATES, crate), stdin=subprocess.PIPE,
+    with subprocess.Popen([*how, "rt", "try", "--seconds", SECONDS, *words], cwd=os.path.join(crates.CRATES, crate), stdin=subprocess.PIPE,
                           stdout=subprocess.PIPE, stderr=subprocess.PIPE) as run:
         output, error = (text.decode(errors="replace") for text in run.communicate(given))
     return run.returncode, output, error, time.monotonic() - began

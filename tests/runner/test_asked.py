@@ -75,7 +75,7 @@ def asks(monkeypatch, *rounds, written=lambda lines: "".join('"b"\n' for _ in li
     """Has tests ask these lines, one list after another, of a program that writes this."""
     left = list(rounds)
     monkeypatch.setattr(asked, "lacking", lambda *_: {"made": left.pop(0)} if left else {})
-    monkeypatch.setattr(asked.unproved, "tried", lambda _, words, given: (status, written(given.decode().splitlines()), "why", 0))
+    monkeypatch.setattr(asked.unproved, "tried", lambda _, words, given, how: (status, written(given.decode().splitlines()), "why", 0))
 
 
 def test_all_lines_are_asked_in_rounds(room, monkeypatch):

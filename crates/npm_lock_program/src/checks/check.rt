@@ -44,7 +44,7 @@ use std::mem::forget;
 /// # Memory
 ///
 /// Allocates the report and the output, and for the time of the call the lock file with its text. A lock file that is not one of several
-/// is not freed, nor is its text.
+/// is not freed.
 pub fn checked_in<'f, R: Read, F: FnOnce(&Value) -> Result<Loaded, LoadError>>(
     alloc: Global,
     reader: &mut Watched<R>,
@@ -67,10 +67,7 @@ pub fn checked_in<'f, R: Read, F: FnOnce(&Value) -> Result<Loaded, LoadError>>(
         Err(error) => return Err(StopError::Load(error)),
     };
     match report_of(alloc, lock, text.as_str(), loaded, wanted) {
-        Ok(made) => {
-            free(text, wanted.named);
-            Ok(made)
-        }
+        Ok(made) => Ok(made),
         Err(error) => Err(StopError::Check(error)),
     }
 }
@@ -127,7 +124,7 @@ fn report_of<'f>(
     // While the output is made, the index takes no memory.
     drop(sound);
     let output = output_of(alloc, text, &report, &found, wanted);
-    free(found, wanted.named);
+    drop(found);
     free(lock, wanted.named);
     match output {
         Ok(output) => Ok((report, output)),
@@ -135,11 +132,10 @@ fn report_of<'f>(
     }
 }
 
-/// Frees a lock file that is one of several, its text, or what was found in it. The only one stays: the program ends, and to free each
-/// member takes a seventh of the time.
-fn free<T: Drop>(value: T, is_one_of_many: bool) {
+/// Frees a lock file that is one of several. The only one stays: the program ends, and to free each member takes a seventh of the time.
+fn free(lock: Value, is_one_of_many: bool) {
     if !is_one_of_many {
-        forget(value);
+        forget(lock);
     }
 }
 

@@ -10,8 +10,6 @@ mod item;
 mod keys;
 mod place;
 mod read;
-#[cfg(test)]
-mod tests;
 
 pub use day::day_at;
 pub use file::read_file;

@@ -2,8 +2,8 @@
 use crate::answer::Answer;
 use crate::arguments::Arguments;
 use crate::{
-    advisories, checks, faults, folders, lock_files, packages, picks, places, texts, workspaces,
-    written_findings,
+    advisories, checks, exceptions, faults, folders, lock_files, packages, picks, places, texts,
+    workspaces, written_findings,
 };
 use named_calls::{CallError, Trial};
 use std::alloc::{AllocError, Global};
@@ -26,6 +26,7 @@ enum Name {
     Workspace(workspaces::Name),
     Fault(faults::Name),
     Advisory(advisories::Name),
+    Exception(exceptions::Name),
     Pick(picks::Name),
     Place(places::Name),
     Finding(written_findings::Name),
@@ -51,6 +52,7 @@ impl Trial for Call {
             Name::Workspace(name) => workspaces::answer(alloc, name, arguments),
             Name::Fault(name) => faults::answer(alloc, name, arguments),
             Name::Advisory(name) => advisories::answer(alloc, name, arguments),
+            Name::Exception(name) => exceptions::answer(alloc, name, arguments),
             Name::Pick(name) => picks::answer(alloc, name, arguments),
             Name::Place(name) => places::answer(alloc, name, arguments),
             Name::Finding(name) => written_findings::answer(alloc, name, arguments),
@@ -101,6 +103,9 @@ fn named_of_lock_files(name: &str) -> Option<(Name, usize)> {
 fn named_of_others(name: &str) -> Option<(Name, usize)> {
     if let Some((name, count)) = advisories::named(name) {
         return Some((Name::Advisory(name), count));
+    }
+    if let Some((name, count)) = exceptions::named(name) {
+        return Some((Name::Exception(name), count));
     }
     if let Some((name, count)) = picks::named(name) {
         return Some((Name::Pick(name), count));

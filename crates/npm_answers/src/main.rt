@@ -14,6 +14,7 @@ mod borrowed;
 mod call;
 mod checks;
 mod drafts;
+mod exceptions;
 mod faults;
 mod folders;
 mod lists;

@@ -6,6 +6,11 @@ import pytest
 
 from support import call_rows, counts, documents, programs, refused_calls, refused_programs, rows
 
+try:
+    from xdist.scheduler import LoadScheduling
+except ImportError:  # (all tests run in one process then)
+    LoadScheduling = object
+
 
 def pytest_collect_file(parent, file_path):
     """A file of rows, by its ending and its folder."""
@@ -19,6 +24,23 @@ def pytest_collect_file(parent, file_path):
     if file_path.suffix == ".calls":
         return DocumentsFile.from_parent(parent, path=file_path)
     return None
+
+
+class FewAtATime(LoadScheduling):
+    """Gives a process two tests at a time. Of its own xdist gives each an eighth of those that are left, and all that take a minute stand side
+    by side: one process would have them."""
+
+    def check_schedule(self, node, duration=0):
+        if not self.pending or len(self.node2pending[node]) < 2:
+            super().check_schedule(node, duration)
+
+    def _send_tests(self, node, num):
+        super()._send_tests(node, min(num, 2))
+
+
+@pytest.hookimpl(optionalhook=True)
+def pytest_xdist_make_scheduler(config, log):
+    return FewAtATime(config, log)
 
 
 class Wrong(Exception):

@@ -40,7 +40,7 @@ class FewAtATime(LoadScheduling):
 
 @pytest.hookimpl(optionalhook=True)
 def pytest_xdist_make_scheduler(config, log):
-    return FewAtATime(config, log)
+    return FewAtATime(config, log) if config.getvalue("dist") == "load" else None
 
 
 class Wrong(Exception):

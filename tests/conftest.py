@@ -27,8 +27,8 @@ def pytest_collect_file(parent, file_path):
 
 
 class FewAtATime(LoadScheduling):
-    """Gives a process two tests at a time. Of its own xdist gives each an eighth of those that are left, and all that take a minute stand side
-    by side: one process would have them."""
+    """Gives each process two tests at a time. xdist gives hundreds at once, and the tests that take a minute stand side by side: one process
+    had them all, and the others ended long before it."""
 
     def check_schedule(self, node, duration=0):
         if not self.pending or len(self.node2pending[node]) < 2:

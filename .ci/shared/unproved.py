@@ -46,8 +46,8 @@ def lines_of(crate):
 
 
 def tried(crate, words, given=b"", how=("nice",)):
-    """Runs `rt try` in the folder of a crate, behind what other tests wait for: the status, standard output and standard error, and the
-    seconds."""
+    """Runs `rt try` in the folder of a crate: the status, standard output and standard error, and the seconds. It is niced, unless other
+    tests wait for it."""
     began = time.monotonic()
     with subprocess.Popen([*how, "rt", "try", "--seconds", SECONDS, *words], cwd=os.path.join(crates.CRATES, crate), stdin=subprocess.PIPE,
                           stdout=subprocess.PIPE, stderr=subprocess.PIPE) as run:

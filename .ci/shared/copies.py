@@ -84,30 +84,22 @@ def verdict_on(crate, path, said):
     return found and found[1]
 
 
-class Copy:
-    """A copy of a crate in which only the functions of these paths have bodies, and what was checked of it in a room."""
-
-    def __init__(self, crate, paths, room):
-        self.crate, self.paths, self.room = crate, paths, room
-        self.built = build_below(crate)
-        os.mkdir(os.path.join(room, "checked"))
-
-    def said_of(self, asked, texts, added=()):
-        """What the prover says of some of them and of added twins, where the crate has some texts in place of its own, and the texts
-        that it reads."""
-        asked = [*asked, *(twin.path() for twin in added)]
-        folder = tempfile.mkdtemp(dir=self.room)
+def said_of(crate, paths, texts, added=()):
+    """What the prover says of some functions of a crate and of added twins, in a copy in which only these have bodies and which has some
+    texts in place of the crate's own. The second result is the texts that it reads."""
+    built = build_below(crate)
+    asked = [*paths, *(twin.path() for twin in added)]
+    with tempfile.TemporaryDirectory(prefix="copies-") as folder:
         for part in PARTS:
-            if os.path.isdir(os.path.join(crates.CRATES, self.crate, part)):
-                shutil.copytree(os.path.join(crates.CRATES, self.crate, part), os.path.join(folder, part))
+            if os.path.isdir(os.path.join(crates.CRATES, crate, part)):
+                shutil.copytree(os.path.join(crates.CRATES, crate, part), os.path.join(folder, part))
         for file, text in texts.items():
             files.write(os.path.join(folder, file), text)
-        twins.add(folder, self.crate, added)
-        shown = stubs.leave_bodies(folder, self.crate, [*self.paths, *asked])
+        twins.add(folder, crate, added)
+        shown = stubs.leave_bodies(folder, crate, asked)
         rtlib, guard = toolchain()
-        only = [word for path in asked for word in ("--only", path if path[0].isupper() else f"{self.crate}::{path}")]
-        words = self.built.words(["--jobs", "1", "--allow-holes", *only], keeps=False)
-        ran = subprocess.run([*guard, rtlib.RATTLE, "check", *words, "--incremental", os.path.join(self.room, "checked")], cwd=folder,
-                             stdin=subprocess.DEVNULL, stdout=subprocess.PIPE, stderr=subprocess.STDOUT, text=True, errors="replace")
-        shutil.rmtree(folder)
-        return ran.stdout, shown
+        only = [word for path in asked for word in ("--only", path if path[0].isupper() else f"{crate}::{path}")]
+        words = built.words(["--jobs", "1", "--allow-holes", *only], keeps=False)
+        ran = subprocess.run([*guard, rtlib.RATTLE, "check", *words], cwd=folder, stdin=subprocess.DEVNULL, stdout=subprocess.PIPE,
+                             stderr=subprocess.STDOUT, text=True, errors="replace")
+    return ran.stdout, shown

@@ -10,6 +10,7 @@ import files
 import stubs
 from rattle import Source
 
+PROOF_FILES = (*stubs.ANSWERS, "Proof.antt")
 # The attributes above a function, of which some name lemmas for its proof.
 ATTRIBUTES = re.compile(r"(?:^[ \t]*#\[[^\[\]]*\][ \t]*\n)*\Z", re.M)
 
@@ -46,15 +47,25 @@ def can_have_twins(folder, file, function):
     return not os.path.isdir(os.path.join(folder, "proofs", *path.split("::")[:-1], f"+{function.name}"))
 
 
+def proof_files(folder):
+    """The files of a function's proof that are in a folder."""
+    return [name for name in PROOF_FILES if os.path.exists(os.path.join(folder, name))]
+
+
+def has_proof_files(folder, file, function):
+    """Whether the proof of a function of a crate in this folder has files: a twin has changed copies of these."""
+    path = stubs.whole_path(function, file, homes_in(folder))
+    return bool(proof_files(os.path.join(folder, "proofs", *path.split("::"))))
+
+
 def copy_proof(room, crate, path, name):
     """Gives a twin the proof of the function of a path."""
     *above, own = path.split("::")
     here, there = (os.path.join(room, "proofs", *above, it) for it in (own, name))
     within = {it: f"Rattle.{crate}.proofs.{'.'.join([*above, it])}." for it in (own, name)}
-    for file in (*stubs.ANSWERS, "Proof.antt"):
-        if os.path.exists(os.path.join(here, file)):
-            text = files.read(os.path.join(here, file)).replace(within[own], within[name])
-            files.write(os.path.join(there, file), re.sub(rf"\b{own}_spec\b", f"{name}_spec", text))
+    for file in proof_files(here):
+        text = files.read(os.path.join(here, file)).replace(within[own], within[name])
+        files.write(os.path.join(there, file), re.sub(rf"\b{own}_spec\b", f"{name}_spec", text))
 
 
 def add(room, crate, twins):

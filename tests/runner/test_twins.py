@@ -58,3 +58,9 @@ def test_what_can_have_twins(tmp_path):
     room = made(tmp_path)
     at = {name: function_at("src/lib.rt", LIB, LIB.index(f"fn {name}(") + 1) for name in ("one", "inner", "again", "there", "clone")}
     assert [name for name, function in at.items() if twins.can_have_twins(room, "src/lib.rt", function)] == ["one", "there"]
+
+
+def test_the_functions_of_which_a_twin_has_changed_files(tmp_path):
+    room = made(tmp_path)
+    at = {name: function_at("src/lib.rt", LIB, LIB.index(f"fn {name}(") + 1) for name in ("one", "there")}
+    assert [name for name, function in at.items() if twins.has_proof_files(room, "src/lib.rt", function)] == ["one"]

@@ -145,13 +145,17 @@ function commandLine() {
     return shuffled([...parts, ...Array.from({ length: below(7) }, () => [version()])]);
 }
 
+// What npm's command would write if it, too, made no number above the limit.
+const withinLimit = (answer) => ({ ...answer, output: answer.output.replace(/^9007199254740992\..*$/m, 'null') });
+
 // A difference that a row of the table explains: a text after --preid that is no identifier; with --loose and --coerce
-// leading zeros; and from the right a text that does not end in ASCII.
-function isExplained(words, ours) {
+// leading zeros; from the right a text that does not end in ASCII; and the increment of a number at the limit.
+function isExplained(words, npms, ours) {
     const has = (...names) => words.some((word) => names.some((name) => word === name || word.startsWith(`${name}=`)));
     return (has('--preid') && ours.error === BAD_IDENTIFIER)
         || (has('-l', '--loose') && has('-c', '--coerce'))
-        || (has('--rtl') && has('-c', '--coerce') && words.some((word) => /[^\x00-\x7f]$/.test(word)));
+        || (has('--rtl') && has('-c', '--coerce') && words.some((word) => /[^\x00-\x7f]$/.test(word)))
+        || (has('-i', '--inc', '--increment') && isSame(withinLimit(npms), ours));
 }
 
 // ---- all of it
@@ -183,7 +187,7 @@ for (let at = 0; at < count; at++) {
     if (isHelp(words)) {
         helps++;
         check(ours.status === 0 && ours.output.includes('Usage: semver'), 'help', words, npms, ours);
-    } else if (!isSame(npms, ours) && isExplained(words, ours)) {
+    } else if (!isSame(npms, ours) && isExplained(words, npms, ours)) {
         explained++;
     } else {
         check(isSame(npms, ours), 'a command line', words, npms, ours);

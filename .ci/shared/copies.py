@@ -84,9 +84,10 @@ def verdict_on(crate, path, said):
     return found and found[1]
 
 
-def said_of(crate, paths, texts, added=()):
+def said_of(crate, paths, texts, added=(), kept=None):
     """What the prover says of some functions of a crate and of added twins, in a copy in which only these have bodies and which has some
-    texts in place of the crate's own. The second result is the texts that it reads."""
+    texts in place of the crate's own. It keeps what it checks in a folder for other copies, if one is given, which takes time too. The
+    second result is the texts that it reads."""
     built = build_below(crate)
     asked = [*paths, *(twin.path() for twin in added)]
     with tempfile.TemporaryDirectory(prefix="copies-") as folder:
@@ -100,6 +101,7 @@ def said_of(crate, paths, texts, added=()):
         rtlib, guard = toolchain()
         only = [word for path in asked for word in ("--only", path if path[0].isupper() else f"{crate}::{path}")]
         words = built.words(["--jobs", "1", "--allow-holes", *only], keeps=False)
+        words += ["--incremental", kept] if kept else []
         ran = subprocess.run([*guard, rtlib.RATTLE, "check", *words], cwd=folder, stdin=subprocess.DEVNULL, stdout=subprocess.PIPE,
                              stderr=subprocess.STDOUT, text=True, errors="replace")
     return ran.stdout, shown

@@ -90,7 +90,7 @@ def said_of(crate, paths, texts, added=(), kept=None):
     second result is the texts that it reads."""
     built = build_below(crate)
     asked = [*paths, *(twin.path() for twin in added)]
-    with tempfile.TemporaryDirectory(prefix="copies-") as folder:
+    with tempfile.TemporaryDirectory(prefix="copied-crate-") as folder:
         for part in PARTS:
             if os.path.isdir(os.path.join(crates.CRATES, crate, part)):
                 shutil.copytree(os.path.join(crates.CRATES, crate, part), os.path.join(folder, part))

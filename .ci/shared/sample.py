@@ -42,7 +42,7 @@ def crate_of(process):
         where = os.readlink(f"/proc/{process}/cwd")
     except OSError:
         where = ""
-    if "wrong-bodies-" in where:
+    if "copied-crate-" in where:  # (`copies.py` names it so)
         return f"{name}, its wrong bodies"
     return f"{name}, its edits" if "rt-edit" in where else f"{name}, its tests" if "--test" in words else name
 

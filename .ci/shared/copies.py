@@ -18,6 +18,7 @@ import stubs
 import twins
 
 PARTS = ("src", "specs", "proofs")
+FOLDER = "copied-crate-"  # The names of the folders of copies begin so.
 # The verdict on a function that is proved: its own proof has no hole, and it may call what has lost its body.
 PROVED = re.compile(r"no holes$|depends on a hole in ")
 # While the file of this name is there, the gate proves the libraries, and they come one after another.
@@ -90,7 +91,7 @@ def said_of(crate, paths, texts, added=(), kept=None):
     second result is the texts that it reads."""
     built = build_below(crate)
     asked = [*paths, *(twin.path() for twin in added)]
-    with tempfile.TemporaryDirectory(prefix="copied-crate-") as folder:
+    with tempfile.TemporaryDirectory(prefix=FOLDER) as folder:
         for part in PARTS:
             if os.path.isdir(os.path.join(crates.CRATES, crate, part)):
                 shutil.copytree(os.path.join(crates.CRATES, crate, part), os.path.join(folder, part))

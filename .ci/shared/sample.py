@@ -13,6 +13,8 @@ import signal
 import sys
 import time
 
+import copies
+
 TICKS = os.sysconf("SC_CLK_TCK")
 
 
@@ -42,7 +44,7 @@ def crate_of(process):
         where = os.readlink(f"/proc/{process}/cwd")
     except OSError:
         where = ""
-    if "copied-crate-" in where:  # (`copies.py` names it so)
+    if copies.FOLDER in where:
         return f"{name}, its wrong bodies"
     return f"{name}, its edits" if "rt-edit" in where else f"{name}, its tests" if "--test" in words else name
 

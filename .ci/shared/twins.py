@@ -10,7 +10,10 @@ import files
 import stubs
 from rattle import Source
 
+# The files that a proof of a function may have.
 PROOF_FILES = (*stubs.ANSWERS, "Proof.antt")
+# Where the prover says that it looks for the answers of a function's proof.
+LOOKED = re.compile(r"no proof: expected answers in \./proofs/(\S+)/Answers\.antt")
 # The attributes above a function, of which some name lemmas for its proof.
 ATTRIBUTES = re.compile(r"(?:^[ \t]*#\[[^\[\]]*\][ \t]*\n)*\Z", re.M)
 
@@ -56,6 +59,13 @@ def has_proof_files(folder, file, function):
     """Whether the proof of a function of a crate in this folder has files: a twin has changed copies of these."""
     path = stubs.whole_path(function, file, homes_in(folder))
     return bool(proof_files(os.path.join(folder, "proofs", *path.split("::"))))
+
+
+def lacks_proof(folder, file, function, verdict):
+    """Whether the prover looked for answers of a twin beside the files of its function's proof, of which the twin got no copies."""
+    found = LOOKED.match(verdict)
+    there = found and os.path.join(folder, "proofs", os.path.dirname(found[1]), function.name)
+    return bool(found and proof_files(there)) and not has_proof_files(folder, file, function)
 
 
 def copy_proof(room, crate, path, name):

@@ -1,4 +1,6 @@
 """Twins of functions in a copy of a crate: their texts and their proofs, and which functions can have none."""
+import pytest
+
 from support import programs  # (it makes the runner's own modules known)
 
 import files
@@ -64,3 +66,17 @@ def test_the_functions_of_which_a_twin_has_changed_files(tmp_path):
     room = made(tmp_path)
     at = {name: function_at("src/lib.rt", LIB, LIB.index(f"fn {name}(") + 1) for name in ("one", "there")}
     assert [name for name, function in at.items() if twins.has_proof_files(room, "src/lib.rt", function)] == ["one"]
+
+
+# A function, where the prover looks for the answers of its twin, and whether files of the function are there that the twin lacks.
+LOOKED = [("one", "one_tried_0", False), ("there", "Thing/there_tried_1", False), ("there", "below/Thing/there_tried_1", True)]
+
+
+@pytest.mark.parametrize("name, looked, is_lacking", LOOKED)
+def test_a_twin_lacks_the_files_of_its_function(tmp_path, name, looked, is_lacking):
+    room = made(tmp_path)
+    files.write(str(tmp_path / "proofs/below/Thing/there/Answers.antt"), "")
+    function = function_at("src/lib.rt", LIB, LIB.index(f"fn {name}(") + 1)
+    verdict = f"no proof: expected answers in ./proofs/{looked}/Answers.antt; `search` did not prove `returns`"
+    assert twins.lacks_proof(room, "src/lib.rt", function, verdict) == is_lacking
+    assert not twins.lacks_proof(room, "src/lib.rt", function, "not proved")

@@ -42,7 +42,7 @@ ALLOCATORS = [
     "malloc", "realloc", "_PyObject_GC_New", "PyMem_Malloc", "PyMem_Calloc", "PyUnicode_FromString",
     "PyUnicode_FromStringAndSize", "PyUnicode_FromFormat", "PyBytes_FromStringAndSize", "PyTuple_New", "PyList_New",
     "PyList_Append", "PyList_AsTuple", "PySequence_List", "PyLong_FromUnsignedLong", "PyLong_FromUnsignedLongLong",
-    "PyLong_FromString", "PyObject_CallFunction", "Py_BuildValue",
+    "PyLong_FromString", "PyObject_CallFunction", "Py_BuildValue", "PyUnicode_AsEncodedString", "PyObject_Format",
 ]  # fmt: skip
 
 
@@ -122,7 +122,7 @@ REFUSE = bool(os.environ.get("NODE_SEMVER_REFUSE"))
 
 
 def extension(name: str, folder: str) -> Extension:
-    sources = sorted(glob(os.path.join(folder, "*.c")))
+    sources = sorted(glob(os.path.join(folder, "*.c"))) + sorted(glob("native/shared/*.c"))
     link = ["-Wl,--exclude-libs,ALL"]
     if REFUSE:
         sources.append("tests/refused/refuse.c")

@@ -31,11 +31,11 @@ static uint32_t bump_of_name(const char *name, size_t length)
 /* The number of a release type: 0, or -1 with an exception. */
 static int read_release(PyObject *release, uint32_t *bump)
 {
-    Py_ssize_t length;
-    const char *name = text_of(release, "a release type must be a str", &length);
-    if (name == NULL)
+    utf8 name;
+    if (open_text(release, "a release type must be a str", &name) != 0)
         return -1;
-    *bump = bump_of_name(name, (size_t)length);
+    *bump = bump_of_name(name.start, name.length);
+    close_text(&name);
     if (*bump != NODE_SEMVER_NO_BUMP)
         return 0;
     PyErr_SetString(PyExc_ValueError, "a release type is 'major', 'premajor', 'minor', 'preminor', 'patch', "
@@ -43,13 +43,24 @@ static int read_release(PyObject *release, uint32_t *bump)
     return -1;
 }
 
-/* The number of a base: 0, or -1 with an exception. `False` is no base in npm, and is refused. */
+/* The identifier that is given, or the null pointer for None and where none is: 0, or -1 with an exception. */
+static int open_identifier(PyObject *given, utf8 *identifier)
+{
+    identifier->start = NULL;
+    identifier->length = 0;
+    identifier->held = NULL;
+    if (given == NULL || given == Py_None)
+        return 0;
+    return open_text(given, "an identifier must be a str or None", identifier);
+}
+
+/* The number of a base, which is 0 where none is given: 0, or -1 with an exception. `False` is no base in npm, and is refused. */
 static int read_base(PyObject *base, uint32_t *number)
 {
     long value;
     int overflow = 0;
-    if (base == Py_None) {
-        *number = NODE_SEMVER_NO_BASE;
+    if (base == NULL || base == Py_None) {
+        *number = base == NULL ? NODE_SEMVER_BASE_ZERO : NODE_SEMVER_NO_BASE;
         return 0;
     }
     if (!PyLong_Check(base) || PyBool_Check(base)) {
@@ -65,26 +76,22 @@ static int read_base(PyObject *base, uint32_t *number)
     return -1;
 }
 
-PyObject *version_bump(PyObject *self, PyObject *arguments, PyObject *keywords)
+PyObject *version_bump(PyObject *self, PyObject *const *arguments, Py_ssize_t count, PyObject *keywords)
 {
-    static char *names[] = {"", "identifier", "base", NULL};
+    static const char *const options[] = {"identifier", "base", NULL};
+    static const signature takes = {"bump", 1, options};
     node_semver_version answer = NODE_SEMVER_EMPTY;
     node_semver_status status;
-    PyObject *release, *identifier = Py_None, *base = NULL;
-    const char *start = NULL;
-    Py_ssize_t length = 0;
-    uint32_t bump, number = NODE_SEMVER_BASE_ZERO;
-    if (!PyArg_ParseTupleAndKeywords(arguments, keywords, "O|$OO:bump", names, &release, &identifier, &base))
+    PyObject *found[3];
+    utf8 identifier;
+    uint32_t bump, number;
+    if (read_arguments(&takes, arguments, count, keywords, found) != 0 || read_release(found[0], &bump) != 0
+        || read_base(found[2], &number) != 0 || open_identifier(found[1], &identifier) != 0)
         return NULL;
-    if (read_release(release, &bump) != 0 || (base != NULL && read_base(base, &number) != 0))
-        return NULL;
-    if (identifier != Py_None) {
-        start = text_of(identifier, "an identifier must be a str or None", &length);
-        if (start == NULL)
-            return NULL;
-    }
-    WHILE_OTHERS_RUN(length >= LONG, status = node_semver_version_bump(VERSION_OF(self), bump, start, (size_t)length,
-                                                                       number, &answer));
+    WHILE_OTHERS_RUN(identifier.length >= LONG,
+                     status = node_semver_version_bump(VERSION_OF(self), bump, identifier.start, identifier.length,
+                                                       number, &answer));
+    close_text(&identifier);
     if (status == NODE_SEMVER_OK)
         return new_version(Py_TYPE(self), answer);
     raise_bump_status(Py_TYPE(self), status);

@@ -4,25 +4,23 @@
  */
 #include "native.h"
 
-PyObject *version_coerce(PyObject *type, PyObject *arguments, PyObject *keywords)
+PyObject *version_coerce(PyObject *type, PyObject *const *arguments, Py_ssize_t count, PyObject *keywords)
 {
-    static char *names[] = {"", "rtl", "include_prerelease", NULL};
+    static const char *const options[] = {"rtl", "include_prerelease", NULL};
+    static const signature takes = {"coerce", 1, options};
     node_semver_version found = NODE_SEMVER_EMPTY;
     node_semver_status status;
-    PyObject *text;
-    const char *start;
-    Py_ssize_t length;
-    int is_last = 0;
-    int is_full = 0;
-    if (!PyArg_ParseTupleAndKeywords(arguments, keywords, "O|$pp:coerce", names, &text, &is_last, &is_full))
+    PyObject *given[3];
+    utf8 text;
+    int is_last, is_full;
+    if (read_arguments(&takes, arguments, count, keywords, given) != 0 || (is_last = is_true(given[1])) < 0
+        || (is_full = is_true(given[2])) < 0 || open_text(given[0], "a text must be a str", &text) != 0)
         return NULL;
-    start = text_of(text, "a text must be a str", &length);
-    if (start == NULL)
-        return NULL;
-    WHILE_OTHERS_RUN(length >= LONG,
+    WHILE_OTHERS_RUN(text.length >= LONG,
                      status = is_full
-                         ? node_semver_version_coerce_with_prerelease(start, (size_t)length, is_last, &found)
-                         : node_semver_version_coerce(start, (size_t)length, is_last, &found));
+                         ? node_semver_version_coerce_with_prerelease(text.start, text.length, is_last, &found)
+                         : node_semver_version_coerce(text.start, text.length, is_last, &found));
+    close_text(&text);
     if (status == NODE_SEMVER_OK)
         return new_version((PyTypeObject *)type, found);
     if (status == NODE_SEMVER_NONE)

@@ -45,7 +45,7 @@ static Py_hash_t hash_of_cuts(PyObject *self)
 {
     size_t place;
     Py_hash_t hash;
-    PyObject *tuple, *list = PyList_New(0);
+    PyObject *tuple, *list = hidden_list();
     for (place = 0; list != NULL && place < SET_COUNT(self); place++)
         if (append_set(list, RANGE_OF(self), place) != 0)
             Py_CLEAR(list);

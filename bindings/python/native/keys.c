@@ -108,26 +108,25 @@ static int append_intervals(PyObject *list, const node_semver_intervals *interva
     return failed;
 }
 
-/* A list of the tuples of a range; NULL with an exception. */
+/* A hidden list of the tuples of a range; NULL with an exception. */
 static PyObject *list_of(PyObject *self, int is_included)
 {
     node_semver_intervals intervals = NODE_SEMVER_EMPTY;
     PyObject *list;
     if (make_intervals(self, is_included, &intervals) != 0)
         return NULL;
-    list = PyList_New(0);
+    list = hidden_list();
     if (list != NULL && append_intervals(list, &intervals, is_included) != 0)
         Py_CLEAR(list);
     node_semver_intervals_free(intervals);
     return list;
 }
 
-PyObject *range_intervals(PyObject *self, PyObject *arguments, PyObject *keywords)
+PyObject *range_intervals(PyObject *self, PyObject *const *arguments, Py_ssize_t count, PyObject *keywords)
 {
-    static char *names[] = {"include_prerelease", NULL};
-    int is_included = 0;
+    int is_included;
     PyObject *list, *tuple;
-    if (!PyArg_ParseTupleAndKeywords(arguments, keywords, "|$p:intervals", names, &is_included))
+    if (read_included("intervals", arguments, count, keywords, NULL, &is_included) != 0)
         return NULL;
     list = list_of(self, is_included);
     tuple = list == NULL ? NULL : PyList_AsTuple(list);
@@ -143,9 +142,9 @@ static bool is_letter(char c)
 }
 
 /* Whether the text is the name of a column: words of letters, digits and `_`, with dots between. */
-static bool is_column(const char *text, Py_ssize_t length)
+static bool is_column(const char *text, size_t length)
 {
-    Py_ssize_t at;
+    size_t at;
     bool is_start = true;
     for (at = 0; at < length; at++) {
         bool is_digit = text[at] >= '0' && text[at] <= '9';
@@ -159,15 +158,15 @@ static bool is_column(const char *text, Py_ssize_t length)
 /* Whether the argument is the name of a column; sets an exception if not. */
 static bool check_column(PyObject *name)
 {
-    Py_ssize_t length;
-    const char *text = text_of(name, "a column must be a str", &length);
-    if (text == NULL)
+    utf8 text;
+    bool is_name;
+    if (open_text(name, "a column must be a str", &text) != 0)
         return false;
-    if (!is_column(text, length)) {
+    is_name = is_column(text.start, text.length);
+    close_text(&text);
+    if (!is_name)
         PyErr_SetString(PyExc_ValueError, "a column has ASCII letters, digits, '_' and '.' alone");
-        return false;
-    }
-    return true;
+    return is_name;
 }
 
 /* The part of the clause for one interval. */
@@ -208,23 +207,41 @@ static PyObject *clause_of(PyObject *parts, PyObject *keys)
     return pair;
 }
 
-PyObject *range_sql(PyObject *self, PyObject *arguments, PyObject *keywords)
+/* The pair of the clause and its keys for a list of intervals; NULL with an exception. */
+static PyObject *clause_for(PyObject *list, PyObject *column, PyObject *kind, PyObject *placeholder)
 {
-    static char *names[] = {"", "", "placeholder", "include_prerelease", NULL};
-    PyObject *column, *kind, *placeholder = NULL, *list, *parts, *keys, *pair = NULL;
-    int is_included = 0;
-    if (!PyArg_ParseTupleAndKeywords(arguments, keywords, "OO|$Up:sql", names, &column, &kind, &placeholder,
-                                     &is_included) ||
-        !check_column(column) || !check_column(kind))
-        return NULL;
-    placeholder = placeholder == NULL ? PyUnicode_FromString("?") : Py_NewRef(placeholder);
-    list = placeholder == NULL ? NULL : list_of(self, is_included);
-    parts = PyList_New(0);
-    keys = PyList_New(0);
-    if (list != NULL && parts != NULL && keys != NULL && fill_parts(list, column, kind, placeholder, parts, keys) == 0)
+    PyObject *pair = NULL, *parts = hidden_list(), *keys = hidden_list();
+    if (parts != NULL && keys != NULL && fill_parts(list, column, kind, placeholder, parts, keys) == 0)
         pair = clause_of(parts, keys);
     Py_XDECREF(keys);
     Py_XDECREF(parts);
+    return pair;
+}
+
+/* A new reference to the placeholder that is given, or to `?` if none is; NULL with an exception. */
+static PyObject *placeholder_of(PyObject *given)
+{
+    if (given == NULL)
+        return PyUnicode_FromString("?");
+    if (PyUnicode_Check(given))
+        return Py_NewRef(given);
+    raise_wrong_type("a placeholder must be a str", given);
+    return NULL;
+}
+
+PyObject *range_sql(PyObject *self, PyObject *const *arguments, Py_ssize_t count, PyObject *keywords)
+{
+    static const char *const options[] = {"placeholder", "include_prerelease", NULL};
+    static const signature takes = {"sql", 2, options};
+    PyObject *found[4], *placeholder, *list, *pair = NULL;
+    int is_included;
+    if (read_arguments(&takes, arguments, count, keywords, found) != 0 || (is_included = is_true(found[3])) < 0
+        || !check_column(found[0]) || !check_column(found[1]))
+        return NULL;
+    placeholder = placeholder_of(found[2]);
+    list = placeholder == NULL ? NULL : list_of(self, is_included);
+    if (list != NULL)
+        pair = clause_for(list, found[0], found[1], placeholder);
     Py_XDECREF(list);
     Py_XDECREF(placeholder);
     return pair;

@@ -41,35 +41,44 @@ PyDoc_STRVAR(satisfies_doc,
 ">>> satisfies('1.3.0', '^1.2.3'), satisfies('2.0.0', '^1.2.3')\n"
 "(True, False)");
 
+/* Opens the texts of a version and of a range: 0, or -1 with an exception. */
+static int open_texts(PyObject *const *texts, utf8 *version, utf8 *range)
+{
+    if (open_text(texts[0], "a version must be a str", version) != 0)
+        return -1;
+    if (open_text(texts[1], "a range must be a str", range) == 0)
+        return 0;
+    close_text(version);
+    return -1;
+}
+
 /* The arguments are the two texts, the version's first. The range is read first, and its fault alone is
  * NoValidRanges. */
-static PyObject *satisfies(PyObject *module, PyObject *const *arguments, Py_ssize_t count)
+static PyObject *satisfies(PyObject *module, PyObject *const *arguments, Py_ssize_t count, PyObject *keywords)
 {
-    const char *version_start, *range_start;
-    Py_ssize_t version_length, range_length;
+    static const signature takes = {"satisfies", 2, NO_OPTIONS};
     node_semver_fault fault = {0, 0, 0};
     node_semver_status status;
     native_state *state = state_of_module(module);
+    PyObject *texts[2];
+    utf8 version, range;
     bool inside;
-    if (state == NULL)
+    if (state == NULL || read_arguments(&takes, arguments, count, keywords, texts) != 0
+        || open_texts(texts, &version, &range) != 0)
         return NULL;
-    if (count != 2)
-        return PyErr_Format(PyExc_TypeError, "satisfies() takes exactly two arguments (%zd given)", count);
-    version_start = text_of(arguments[0], "a version must be a str", &version_length);
-    range_start = version_start == NULL ? NULL : text_of(arguments[1], "a range must be a str", &range_length);
-    if (range_start == NULL)
-        return NULL;
-    WHILE_OTHERS_RUN(range_length >= LONG,
-                     status = node_semver_satisfies_text(range_start, (size_t)range_length, version_start,
-                                                         (size_t)version_length, &inside, &fault));
+    WHILE_OTHERS_RUN(version.length + range.length >= LONG,
+                     status = node_semver_satisfies_text(range.start, range.length, version.start, version.length,
+                                                         &inside, &fault));
+    close_text(&version);
+    close_text(&range);
     if (status == NODE_SEMVER_OK)
         return PyBool_FromLong(inside);
-    raise_status(state->range_type, status, arguments[fault.kind == NODE_SEMVER_NO_VALID_RANGES], &fault);
+    raise_status(state->range_type, status, texts[fault.kind == NODE_SEMVER_NO_VALID_RANGES], &fault);
     return NULL;
 }
 
 static PyMethodDef module_functions[] = {
-    {"satisfies", (PyCFunction)(void (*)(void))satisfies, METH_FASTCALL, satisfies_doc},
+    {"satisfies", TAKES_ARGUMENTS(satisfies), satisfies_doc},
     {NULL, NULL, 0, NULL},
 };
 

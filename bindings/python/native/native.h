@@ -6,10 +6,10 @@
 #ifndef NATIVE_H
 #define NATIVE_H
 
-#ifndef Py_LIMITED_API
-#define Py_LIMITED_API 0x030A0000
-#endif
-#include <Python.h>
+#include "shared/arguments.h"
+
+#include <stddef.h>
+#include <structmember.h>
 
 #include "node_semver.h"
 
@@ -42,16 +42,19 @@ native_state *state_of(PyObject *value);
  * Fewer take at most some milliseconds, and Python lets each thread run that long. */
 #define LONG 10000
 
-/* A `Version` and a `Range`: the handle is full from the moment the object exists until it is freed. A range keeps how
- * many sets it has and, from the first `str` and `hash` on, its print and its hash, which are NULL and -1 before. */
+/* A `Version` and a `Range`: the handle is full from the moment the object exists until it is freed. Python keeps the weak
+ * references to the object in its `weak`. A range keeps how many sets it has and, from the first `str` and `hash` on, its print
+ * and its hash, which are NULL and -1 before. */
 typedef struct {
     PyObject_HEAD
     node_semver_version handle;
+    PyObject *weak;
 } version_object;
 
 typedef struct {
     PyObject_HEAD
     node_semver_range handle;
+    PyObject *weak;
     size_t set_count;
     PyObject *text;
     Py_hash_t hash;
@@ -90,6 +93,10 @@ typedef size_t printer(const void *value, size_t place, char *room, size_t size)
 /* The str that `print` writes; NULL with an exception if out of memory. */
 PyObject *printed(printer *print, const void *value, size_t place);
 
+/* An empty list that no other code can find, since the garbage collector does not know it: code that runs meanwhile, of a callback
+ * of the collector or of another thread, cannot change it. NULL if out of memory. */
+PyObject *hidden_list(void);
+
 /* The items of an iterable in a tuple, which no other code changes; NULL with an exception. A str is refused, although
  * its characters could be iterated: `name` begins the error. */
 PyObject *items_of(PyObject *iterable, const char *name);
@@ -98,18 +105,38 @@ PyObject *items_of(PyObject *iterable, const char *name);
  * UnicodeEncodeError where a surrogate stands alone. */
 const char *text_of(PyObject *value, const char *wanted, Py_ssize_t *length);
 
-/* The only argument of a constructor; NULL with a TypeError. The reference is borrowed. */
-PyObject *only_argument(const char *name, PyObject *arguments);
+/* The UTF-8 of a str, and a reference to what has it: the str, or a copy of its bytes. */
+typedef struct {
+    const char *start;
+    size_t length;
+    PyObject *held;
+} utf8;
 
-/* The argument of a method, and its option `include_prerelease`, which is false if it is not there: 0, or -1 with an
- * exception. The format is that of PyArg_ParseTupleAndKeywords. The reference is borrowed. */
-int read_included(PyObject *arguments, PyObject *keywords, const char *format, PyObject **argument, int *is_included);
+/* Fills the UTF-8 of a str: 0, or -1 with a TypeError that starts with `wanted`, or if out of memory. A surrogate that stands
+ * alone becomes U+FFFD, which has as many bytes, and is no part of a version or a range either. */
+int open_text(PyObject *value, const char *wanted, utf8 *text);
 
-/* A method with options, as PyMethodDef takes it. */
-#define WITH_OPTIONS(method) (PyCFunction)(void (*)(void))method, METH_VARARGS | METH_KEYWORDS
+/* Gives up the reference. */
+void close_text(const utf8 *text);
+
+/* The argument of a method, unless `argument` is NULL, and its option `include_prerelease`: 0, or -1 with an exception. The
+ * reference is borrowed. */
+int read_included(const char *method, PyObject *const *arguments, Py_ssize_t count, PyObject *keywords,
+                  PyObject **argument, int *is_included);
 
 /* What a value holds, for the garbage collector: its type. It is never cleared. */
 int visit_value(PyObject *self, visitproc visit, void *arg);
+
+/* `format` of a value: that of its str. */
+PyObject *format_value(PyObject *self, PyObject *format);
+#define FORMAT_DOC "__format__($self, format_spec, /)\n--\n\nThe text, as `format` lays out a str."
+
+/* Where an object keeps its weak references, as PyMemberDef takes it. */
+#define WEAK_MEMBERS(object)                                                             \
+    {                                                                                    \
+        {"__weaklistoffset__", T_PYSSIZET, offsetof(object, weak), READONLY, NULL},      \
+        {NULL, 0, 0, 0, NULL},                                                           \
+    }
 
 /* `copy.copy` and `copy.deepcopy` of a value that never changes: the value. */
 PyObject *same_object(PyObject *self, PyObject *ignored);
@@ -135,7 +162,7 @@ int read_version(PyTypeObject *type, PyObject *text, bool is_strict, const char 
 /* ---- coerce.c ---- */
 
 /* `Version.coerce`. */
-PyObject *version_coerce(PyObject *type, PyObject *arguments, PyObject *keywords);
+PyObject *version_coerce(PyObject *type, PyObject *const *arguments, Py_ssize_t count, PyObject *keywords);
 
 /* ---- bump.c ---- */
 
@@ -143,7 +170,7 @@ PyObject *version_coerce(PyObject *type, PyObject *arguments, PyObject *keywords
 const char *name_of_bump(uint32_t bump);
 
 /* `Version.bump`. */
-PyObject *version_bump(PyObject *self, PyObject *arguments, PyObject *keywords);
+PyObject *version_bump(PyObject *self, PyObject *const *arguments, Py_ssize_t count, PyObject *keywords);
 
 /* ---- range.c ---- */
 
@@ -152,7 +179,7 @@ PyObject *new_range(PyTypeObject *type, node_semver_range handle);
 /* ---- range_text.c ---- */
 
 PyObject *range_new(PyTypeObject *type, PyObject *arguments, PyObject *keywords);
-PyObject *range_parse_npm(PyObject *type, PyObject *arguments, PyObject *keywords);
+PyObject *range_parse_npm(PyObject *type, PyObject *const *arguments, Py_ssize_t count, PyObject *keywords);
 
 /* ---- sets.c: the sets of a Range ---- */
 
@@ -168,8 +195,8 @@ PyObject *key_of(const node_semver_version *version);
 int append(PyObject *list, PyObject *value);
 
 PyObject *version_key(PyObject *self, void *ignored);
-PyObject *range_intervals(PyObject *self, PyObject *arguments, PyObject *keywords);
-PyObject *range_sql(PyObject *self, PyObject *arguments, PyObject *keywords);
+PyObject *range_intervals(PyObject *self, PyObject *const *arguments, Py_ssize_t count, PyObject *keywords);
+PyObject *range_sql(PyObject *self, PyObject *const *arguments, Py_ssize_t count, PyObject *keywords);
 
 /* ---- hash.c ---- */
 
@@ -178,8 +205,8 @@ Py_hash_t range_hash(PyObject *self);
 
 /* ---- versions.c: methods of Range over an iterable of versions ---- */
 
-PyObject *range_filter(PyObject *self, PyObject *arguments, PyObject *keywords);
-PyObject *range_max_satisfying(PyObject *self, PyObject *arguments, PyObject *keywords);
-PyObject *range_min_satisfying(PyObject *self, PyObject *arguments, PyObject *keywords);
+PyObject *range_filter(PyObject *self, PyObject *const *arguments, Py_ssize_t count, PyObject *keywords);
+PyObject *range_max_satisfying(PyObject *self, PyObject *const *arguments, Py_ssize_t count, PyObject *keywords);
+PyObject *range_min_satisfying(PyObject *self, PyObject *const *arguments, Py_ssize_t count, PyObject *keywords);
 
 #endif

@@ -12,6 +12,7 @@ PyObject *new_range(PyTypeObject *type, node_semver_range handle)
         return NULL;
     }
     self->handle = handle;
+    self->weak = NULL;
     self->set_count = node_semver_range_set_count(&self->handle);
     self->text = NULL;
     self->hash = -1;
@@ -23,6 +24,8 @@ static void range_dealloc(PyObject *self)
 {
     PyTypeObject *type = Py_TYPE(self);
     PyObject_GC_UnTrack(self);
+    if (((range_object *)self)->weak != NULL)
+        PyObject_ClearWeakRefs(self);
     node_semver_range_free(*RANGE_OF(self));
     Py_XDECREF(((range_object *)self)->text);
     PyObject_GC_Del(self);
@@ -36,18 +39,21 @@ static size_t print_range(const void *range, size_t place, char *room, size_t si
 }
 
 /* The print is kept: without that, `str` takes twice as long as that of a class in Python, which keeps its text too.
- * Of the prints of two threads, the first is kept. */
+ * Of the prints of two threads, the first is kept. A thread that finds no memory has an error, although another may have kept
+ * its print meanwhile. */
 static PyObject *range_str(PyObject *self)
 {
     range_object *range = (range_object *)self;
     if (range->text == NULL) {
         PyObject *text = printed(print_range, &range->handle, 0);
+        if (text == NULL)
+            return NULL;
         if (range->text == NULL)
             range->text = text;
         else
-            Py_XDECREF(text);
+            Py_DECREF(text);
     }
-    return Py_XNewRef(range->text);
+    return Py_NewRef(range->text);
 }
 
 static PyObject *range_repr(PyObject *self)
@@ -191,16 +197,17 @@ static PyObject *found_version(native_state *state, node_semver_status status, n
 
 typedef node_semver_status least(const node_semver_range *, node_semver_version *);
 
-static PyObject *range_min_version(PyObject *self, PyObject *arguments, PyObject *keywords)
+static PyObject *range_min_version(PyObject *self, PyObject *const *arguments, Py_ssize_t count, PyObject *keywords)
 {
-    static char *names[] = {"include_prerelease", NULL};
     node_semver_version handle = NODE_SEMVER_EMPTY;
     node_semver_status status;
-    int is_included = 0;
+    int is_included;
     least *find;
-    native_state *state = state_of(self);
-    if (state == NULL
-        || !PyArg_ParseTupleAndKeywords(arguments, keywords, "|$p:min_version", names, &is_included))
+    native_state *state;
+    if (read_included("min_version", arguments, count, keywords, NULL, &is_included) != 0)
+        return NULL;
+    state = state_of(self);
+    if (state == NULL)
         return NULL;
     find = is_included ? node_semver_min_version_with_prereleases : node_semver_min_version;
     WHILE_OTHERS_RUN(SET_COUNT(self) >= LONG, status = find(RANGE_OF(self), &handle));
@@ -230,20 +237,20 @@ static PyObject *found(search *find, PyObject *self, PyObject *other)
     return found_version(state, status, handle);
 }
 
-static PyObject *range_least_beyond(PyObject *self, PyObject *arguments, PyObject *keywords)
+static PyObject *range_least_beyond(PyObject *self, PyObject *const *arguments, Py_ssize_t count, PyObject *keywords)
 {
     PyObject *other;
     int is_included;
-    if (read_included(arguments, keywords, "O|$p:least_beyond", &other, &is_included) != 0)
+    if (read_included("least_beyond", arguments, count, keywords, &other, &is_included) != 0)
         return NULL;
     return found(is_included ? node_semver_least_beyond_with_prereleases : node_semver_least_beyond, self, other);
 }
 
-static PyObject *range_least_common(PyObject *self, PyObject *arguments, PyObject *keywords)
+static PyObject *range_least_common(PyObject *self, PyObject *const *arguments, Py_ssize_t count, PyObject *keywords)
 {
     PyObject *other;
     int is_included;
-    if (read_included(arguments, keywords, "O|$p:least_common", &other, &is_included) != 0)
+    if (read_included("least_common", arguments, count, keywords, &other, &is_included) != 0)
         return NULL;
     return found(is_included ? node_semver_range_least_common_with_prereleases : node_semver_range_least_common, self,
                  other);
@@ -278,21 +285,21 @@ static PyObject *range_reduce(PyObject *self, PyObject *ignored)
 
 static PyMethodDef range_methods[] = {
     {"contains", range_contains, METH_O, contains_doc},
-    {"filter", WITH_OPTIONS(range_filter), filter_doc},
-    {"max_satisfying", WITH_OPTIONS(range_max_satisfying), max_satisfying_doc},
-    {"min_satisfying", WITH_OPTIONS(range_min_satisfying), min_satisfying_doc},
-    {"min_version", WITH_OPTIONS(range_min_version), min_version_doc},
+    {"filter", TAKES_ARGUMENTS(range_filter), filter_doc},
+    {"max_satisfying", TAKES_ARGUMENTS(range_max_satisfying), max_satisfying_doc},
+    {"min_satisfying", TAKES_ARGUMENTS(range_min_satisfying), min_satisfying_doc},
+    {"min_version", TAKES_ARGUMENTS(range_min_version), min_version_doc},
     {"allows_any", range_allows_any, METH_O, allows_any_doc},
     {"allows_all", range_allows_all, METH_O, allows_all_doc},
-    {"least_beyond", WITH_OPTIONS(range_least_beyond), least_beyond_doc},
-    {"least_common", WITH_OPTIONS(range_least_common), least_common_doc},
-    {"intervals", WITH_OPTIONS(range_intervals), intervals_doc},
-    {"sql", WITH_OPTIONS(range_sql), sql_doc},
-    {"parse_npm", (PyCFunction)(void (*)(void))range_parse_npm, METH_VARARGS | METH_KEYWORDS | METH_CLASS,
-     parse_npm_doc},
+    {"least_beyond", TAKES_ARGUMENTS(range_least_beyond), least_beyond_doc},
+    {"least_common", TAKES_ARGUMENTS(range_least_common), least_common_doc},
+    {"intervals", TAKES_ARGUMENTS(range_intervals), intervals_doc},
+    {"sql", TAKES_ARGUMENTS(range_sql), sql_doc},
+    {"parse_npm", TAKES_ARGUMENTS(range_parse_npm) | METH_CLASS, parse_npm_doc},
     {"from_sets", range_from_sets, METH_O | METH_CLASS, from_sets_doc},
     {"__copy__", same_object, METH_NOARGS, "__copy__($self, /)\n--\n\nThe range itself: it never changes."},
     {"__deepcopy__", same_object, METH_O, "__deepcopy__($self, memo, /)\n--\n\nThe range itself: it never changes."},
+    {"__format__", format_value, METH_O, FORMAT_DOC},
     {"__reduce__", range_reduce, METH_NOARGS,
      "__reduce__($self, /)\n--\n\nWhat pickle stores: the text, or the sets if the text is not read back."},
     {NULL, NULL, 0, NULL},
@@ -302,6 +309,8 @@ static PyGetSetDef range_fields[] = {
     {"sets", range_sets, NULL, sets_doc, NULL},
     {NULL, NULL, NULL, NULL, NULL},
 };
+
+static PyMemberDef range_members[] = WEAK_MEMBERS(range_object);
 
 static PyType_Slot range_slots[] = {
     {Py_tp_doc, (void *)range_doc},
@@ -318,6 +327,7 @@ static PyType_Slot range_slots[] = {
     {Py_nb_or, range_or},
     {Py_tp_methods, range_methods},
     {Py_tp_getset, range_fields},
+    {Py_tp_members, range_members},
     {0, NULL},
 };
 

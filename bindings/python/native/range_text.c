@@ -4,46 +4,52 @@
  */
 #include "native.h"
 
-PyObject *range_new(PyTypeObject *type, PyObject *arguments, PyObject *keywords)
+/* The Range of a text. */
+static PyObject *range_of(PyTypeObject *type, PyObject *text)
 {
     node_semver_range handle = NODE_SEMVER_EMPTY;
     node_semver_fault fault = {0, 0, 0};
     node_semver_status status;
-    Py_ssize_t length;
-    PyObject *text = only_argument("Range", arguments);
-    const char *start = text == NULL ? NULL : text_of(text, "a range must be a str", &length);
-    if (start == NULL)
+    utf8 read;
+    if (open_text(text, "a range must be a str", &read) != 0)
         return NULL;
-    if (keywords != NULL && PyDict_Size(keywords) != 0) {
-        PyErr_SetString(PyExc_TypeError, "Range() takes no keyword arguments");
-        return NULL;
-    }
-    WHILE_OTHERS_RUN(length >= LONG, status = node_semver_range_parse(start, (size_t)length, &handle, &fault));
+    WHILE_OTHERS_RUN(read.length >= LONG, status = node_semver_range_parse(read.start, read.length, &handle, &fault));
+    close_text(&read);
     if (status == NODE_SEMVER_OK)
         return new_range(type, handle);
     raise_status(type, status, text, &fault);
     return NULL;
 }
 
-PyObject *range_parse_npm(PyObject *type, PyObject *arguments, PyObject *keywords)
+PyObject *range_new(PyTypeObject *type, PyObject *arguments, PyObject *keywords)
 {
-    static char *names[] = {"", "loose", "include_prerelease", NULL};
+    static const signature takes = {"Range", 1, NO_OPTIONS};
+    PyObject *text, *range;
+    if (hold_arguments(&takes, arguments, keywords, &text) != 0)
+        return NULL;
+    range = range_of(type, text);
+    drop_arguments(&takes, &text);
+    return range;
+}
+
+PyObject *range_parse_npm(PyObject *type, PyObject *const *arguments, Py_ssize_t count, PyObject *keywords)
+{
+    static const char *const options[] = {"loose", "include_prerelease", NULL};
+    static const signature takes = {"parse_npm", 1, options};
     node_semver_range handle = NODE_SEMVER_EMPTY;
     node_semver_fault fault = {0, 0, 0};
     node_semver_status status;
-    PyObject *text;
-    const char *start;
-    Py_ssize_t length;
-    int loose = 0, include_prerelease = 0;
-    if (!PyArg_ParseTupleAndKeywords(arguments, keywords, "O|$pp:parse_npm", names, &text, &loose, &include_prerelease))
+    PyObject *found[3];
+    utf8 text;
+    int is_loose, is_included;
+    if (read_arguments(&takes, arguments, count, keywords, found) != 0 || (is_loose = is_true(found[1])) < 0
+        || (is_included = is_true(found[2])) < 0 || open_text(found[0], "a range must be a str", &text) != 0)
         return NULL;
-    start = text_of(text, "a range must be a str", &length);
-    if (start == NULL)
-        return NULL;
-    WHILE_OTHERS_RUN(length >= LONG, status = node_semver_range_parse_npm(start, (size_t)length, loose,
-                                                                          include_prerelease, &handle, &fault));
+    WHILE_OTHERS_RUN(text.length >= LONG, status = node_semver_range_parse_npm(text.start, text.length, is_loose,
+                                                                               is_included, &handle, &fault));
+    close_text(&text);
     if (status == NODE_SEMVER_OK)
         return new_range((PyTypeObject *)type, handle);
-    raise_status((PyTypeObject *)type, status, text, &fault);
+    raise_status((PyTypeObject *)type, status, found[0], &fault);
     return NULL;
 }

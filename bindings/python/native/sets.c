@@ -64,14 +64,13 @@ static int add_set(native_state *state, const node_semver_range *range, size_t p
     return failed;
 }
 
-/* A list is filled, and no tuple: other code may see either through the garbage collector, and a list has no empty
- * places. */
+/* A hidden list is filled, and no tuple: other code may find a tuple with empty places through the garbage collector. */
 PyObject *range_sets(PyObject *self, void *ignored)
 {
     const node_semver_range *range = RANGE_OF(self);
     size_t place;
     native_state *state = state_of(self);
-    PyObject *sets, *list = state == NULL ? NULL : PyList_New(0);
+    PyObject *sets, *list = state == NULL ? NULL : hidden_list();
     (void)ignored;
     for (place = 0; list != NULL && place < SET_COUNT(self); place++)
         if (add_set(state, range, place, list) != 0)
@@ -125,13 +124,15 @@ static PyObject *pair_of(PyObject *iterable, const char *wanted)
 /* The number of a kind: 0, or -1 with an exception. */
 static int read_kind(PyObject *kind, uint32_t *number)
 {
-    Py_ssize_t length;
-    const char *name = text_of(kind, "the kind of a cut must be a str", &length);
-    if (name == NULL)
+    utf8 name;
+    if (open_text(kind, "the kind of a cut must be a str", &name) != 0)
         return -1;
     for (*number = 0; *number < KIND_COUNT; ++*number)
-        if ((size_t)length == strlen(KINDS[*number]) && memcmp(name, KINDS[*number], (size_t)length) == 0)
-            return 0;
+        if (name.length == strlen(KINDS[*number]) && memcmp(name.start, KINDS[*number], name.length) == 0)
+            break;
+    close_text(&name);
+    if (*number < KIND_COUNT)
+        return 0;
     PyErr_SetString(PyExc_ValueError, "the kind of a cut must be 'start', 'before', 'after' or 'end'");
     return -1;
 }

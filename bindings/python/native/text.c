@@ -4,6 +4,8 @@
  */
 #include "native.h"
 
+#include <string.h>
+
 PyObject *printed(printer *print, const void *value, size_t place)
 {
     char room[256];
@@ -26,8 +28,17 @@ PyObject *printed(printer *print, const void *value, size_t place)
     return text;
 }
 
-/* An iterator is read into a list first. While `tuple(iterable)` reads one, the tuple has empty places, and code that
- * the iterator runs may find it through the garbage collector. */
+PyObject *hidden_list(void)
+{
+    PyObject *list = PyList_New(0);
+    if (list != NULL)
+        PyObject_GC_UnTrack(list);
+    return list;
+}
+
+/* An iterable is read into a list first. While `tuple(iterable)` reads an iterator, the tuple has empty places, and code that
+ * the iterator runs may find it through the garbage collector. A list too: before Python 3.12, PyList_AsTuple reads it where it
+ * stood before a collection, whose callbacks may change the caller's list. */
 PyObject *items_of(PyObject *iterable, const char *name)
 {
     PyObject *list, *items;
@@ -35,11 +46,12 @@ PyObject *items_of(PyObject *iterable, const char *name)
         return PyErr_Format(PyExc_TypeError, "%s, not a str", name);
     if (PyTuple_CheckExact(iterable))
         return Py_NewRef(iterable);
-    if (PyList_CheckExact(iterable))
-        return PyList_AsTuple(iterable);
     list = PySequence_List(iterable);
-    items = list == NULL ? NULL : PyList_AsTuple(list);
-    Py_XDECREF(list);
+    if (list == NULL)
+        return NULL;
+    PyObject_GC_UnTrack(list);
+    items = PyList_AsTuple(list);
+    Py_DECREF(list);
     return items;
 }
 
@@ -52,20 +64,76 @@ const char *text_of(PyObject *value, const char *wanted, Py_ssize_t *length)
     return PyUnicode_AsUTF8AndSize(value, length);
 }
 
-PyObject *only_argument(const char *name, PyObject *arguments)
+/* Puts U+FFFD in the place of each surrogate. Their bytes begin with 0xED and a byte from 0xA0 on, and no other's do. */
+static void replace_surrogates(unsigned char *bytes, Py_ssize_t length)
 {
-    if (PyTuple_Size(arguments) != 1) {
-        PyErr_Format(PyExc_TypeError, "%s() takes exactly one argument (%zd given)", name, PyTuple_Size(arguments));
-        return NULL;
-    }
-    return PyTuple_GetItem(arguments, 0);
+    Py_ssize_t at;
+    for (at = 0; at + 2 < length; at++)
+        if (bytes[at] == 0xED && bytes[at + 1] >= 0xA0)
+            memcpy(bytes + at, "\xEF\xBF\xBD", 3);
 }
 
-int read_included(PyObject *arguments, PyObject *keywords, const char *format, PyObject **argument, int *is_included)
+/* The bytes of a str in which a surrogate stands alone, with U+FFFD in its place; NULL if out of memory. */
+static PyObject *without_surrogates(PyObject *value)
 {
-    static char *names[] = {"", "include_prerelease", NULL};
-    *is_included = 0;
-    return PyArg_ParseTupleAndKeywords(arguments, keywords, format, names, argument, is_included) ? 0 : -1;
+    PyObject *encoded = PyUnicode_AsEncodedString(value, "utf-8", "surrogatepass"), *bytes;
+    Py_ssize_t length = encoded == NULL ? 0 : PyBytes_Size(encoded);
+    if (encoded == NULL)
+        return NULL;
+    bytes = PyBytes_FromStringAndSize(PyBytes_AsString(encoded), length);
+    Py_DECREF(encoded);
+    if (bytes != NULL)
+        replace_surrogates((unsigned char *)PyBytes_AsString(bytes), length);
+    return bytes;
+}
+
+int open_text(PyObject *value, const char *wanted, utf8 *text)
+{
+    Py_ssize_t length = 0;
+    text->start = text_of(value, wanted, &length);
+    text->held = NULL;
+    if (text->start != NULL) {
+        text->held = Py_NewRef(value);
+    } else if (PyErr_ExceptionMatches(PyExc_UnicodeEncodeError)) {
+        PyErr_Clear();
+        text->held = without_surrogates(value);
+        text->start = text->held == NULL ? NULL : PyBytes_AsString(text->held);
+        length = text->held == NULL ? 0 : PyBytes_Size(text->held);
+    }
+    text->length = (size_t)length;
+    return text->held == NULL ? -1 : 0;
+}
+
+void close_text(const utf8 *text)
+{
+    Py_XDECREF(text->held);
+}
+
+int read_included(const char *method, PyObject *const *arguments, Py_ssize_t count, PyObject *keywords,
+                  PyObject **argument, int *is_included)
+{
+    static const char *const options[] = {"include_prerelease", NULL};
+    const signature takes = {method, argument != NULL, options};
+    PyObject *found[2];
+    if (read_arguments(&takes, arguments, count, keywords, found) != 0)
+        return -1;
+    if (argument != NULL)
+        *argument = found[0];
+    *is_included = is_true(found[takes.required]);
+    return *is_included < 0 ? -1 : 0;
+}
+
+PyObject *format_value(PyObject *self, PyObject *format)
+{
+    PyObject *text, *formatted;
+    if (!PyUnicode_Check(format)) {
+        raise_wrong_type("__format__() argument must be str", format);
+        return NULL;
+    }
+    text = PyObject_Str(self);
+    formatted = text == NULL ? NULL : PyObject_Format(text, format);
+    Py_XDECREF(text);
+    return formatted;
 }
 
 int visit_value(PyObject *self, visitproc visit, void *arg)

@@ -14,6 +14,7 @@ PyObject *new_version(PyTypeObject *type, node_semver_version handle)
         return NULL;
     }
     self->handle = handle;
+    self->weak = NULL;
     PyObject_GC_Track(self);
     return (PyObject *)self;
 }
@@ -25,43 +26,45 @@ int read_version(PyTypeObject *type, PyObject *text, bool is_strict, const char 
     node_semver_fault fault = {0, 0, 0};
     node_semver_status status;
     version_parser *parse = is_strict ? node_semver_version_parse_strict : node_semver_version_parse;
-    Py_ssize_t length;
-    const char *start = text_of(text, wanted, &length);
-    if (start == NULL)
+    utf8 read;
+    if (open_text(text, wanted, &read) != 0)
         return -1;
-    WHILE_OTHERS_RUN(length >= LONG, status = parse(start, (size_t)length, handle, &fault));
+    WHILE_OTHERS_RUN(read.length >= LONG, status = parse(read.start, read.length, handle, &fault));
+    close_text(&read);
     if (status == NODE_SEMVER_OK)
         return 0;
     raise_status(type, status, text, &fault);
     return -1;
 }
 
-/* The text and the choice of `Version(text, /, *, strict=False)`: 0, or -1 with an exception. */
-static int read_arguments(PyObject *arguments, PyObject *keywords, PyObject **text, int *is_strict)
+/* The Version of a text, where `strict` is NULL if it is not given. */
+static PyObject *version_of(PyTypeObject *type, PyObject *text, PyObject *strict)
 {
-    static char *names[] = {"", "strict", NULL};
-    if (keywords != NULL)
-        return PyArg_ParseTupleAndKeywords(arguments, keywords, "O|$p:Version", names, text, is_strict) ? 0 : -1;
-    *text = only_argument("Version", arguments);
-    return *text == NULL ? -1 : 0;
+    node_semver_version handle = NODE_SEMVER_EMPTY;
+    int is_strict = is_true(strict);
+    if (is_strict < 0 || read_version(type, text, is_strict, "a version must be a str", &handle) != 0)
+        return NULL;
+    return new_version(type, handle);
 }
 
 static PyObject *version_new(PyTypeObject *type, PyObject *arguments, PyObject *keywords)
 {
-    node_semver_version handle = NODE_SEMVER_EMPTY;
-    PyObject *text;
-    int is_strict = 0;
-    if (read_arguments(arguments, keywords, &text, &is_strict) != 0)
+    static const char *const options[] = {"strict", NULL};
+    static const signature takes = {"Version", 1, options};
+    PyObject *found[2], *version;
+    if (hold_arguments(&takes, arguments, keywords, found) != 0)
         return NULL;
-    if (read_version(type, text, is_strict, "a version must be a str", &handle) != 0)
-        return NULL;
-    return new_version(type, handle);
+    version = version_of(type, found[0], found[1]);
+    drop_arguments(&takes, found);
+    return version;
 }
 
 static void version_dealloc(PyObject *self)
 {
     PyTypeObject *type = Py_TYPE(self);
     PyObject_GC_UnTrack(self);
+    if (((version_object *)self)->weak != NULL)
+        PyObject_ClearWeakRefs(self);
     node_semver_version_free(*VERSION_OF(self));
     PyObject_GC_Del(self);
     Py_DECREF(type);
@@ -176,12 +179,12 @@ static PyObject *identifier(printer *print, const node_semver_version *version, 
     return result;
 }
 
-/* A list is filled, and no tuple: `printed` lets other threads run while it writes a long identifier, and they may find
- * either through the garbage collector. A list has no empty places. */
+/* A hidden list is filled, and no tuple: `printed` lets other threads run while it writes a long identifier, and they may find a
+ * tuple with empty places through the garbage collector. */
 static PyObject *identifiers(printer *print, const node_semver_version *version, size_t count)
 {
     size_t place;
-    PyObject *list = PyList_New(0), *tuple;
+    PyObject *list = hidden_list(), *tuple;
     for (place = 0; list != NULL && place < count; place++) {
         PyObject *item = identifier(print, version, place);
         if (item == NULL || PyList_Append(list, item) != 0)
@@ -243,16 +246,19 @@ static PyGetSetDef version_fields[] = {
 };
 
 static PyMethodDef version_methods[] = {
-    {"coerce", (PyCFunction)(void (*)(void))version_coerce, METH_VARARGS | METH_KEYWORDS | METH_CLASS, coerce_doc},
+    {"coerce", TAKES_ARGUMENTS(version_coerce) | METH_CLASS, coerce_doc},
     {"diff", version_diff, METH_O, diff_doc},
-    {"bump", WITH_OPTIONS(version_bump), bump_doc},
+    {"bump", TAKES_ARGUMENTS(version_bump), bump_doc},
     {"compare_build", version_compare_build, METH_O, compare_build_doc},
     {"__copy__", same_object, METH_NOARGS, "__copy__($self, /)\n--\n\nThe version itself: it never changes."},
     {"__deepcopy__", same_object, METH_O, "__deepcopy__($self, memo, /)\n--\n\nThe version itself: it never changes."},
+    {"__format__", format_value, METH_O, FORMAT_DOC},
     {"__reduce__", version_reduce, METH_NOARGS,
      "__reduce__($self, /)\n--\n\nWhat pickle stores: the text. Raises ValueError if the text is not read back."},
     {NULL, NULL, 0, NULL},
 };
+
+static PyMemberDef version_members[] = WEAK_MEMBERS(version_object);
 
 static PyType_Slot version_slots[] = {
     {Py_tp_doc, (void *)version_doc},
@@ -265,6 +271,7 @@ static PyType_Slot version_slots[] = {
     {Py_tp_richcompare, version_compare},
     {Py_tp_getset, version_fields},
     {Py_tp_methods, version_methods},
+    {Py_tp_members, version_members},
     {0, NULL},
 };
 

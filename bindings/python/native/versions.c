@@ -113,7 +113,7 @@ static PyObject *items_left(const version_list *list)
     return items;
 }
 
-PyObject *range_filter(PyObject *self, PyObject *arguments, PyObject *keywords)
+PyObject *range_filter(PyObject *self, PyObject *const *arguments, Py_ssize_t count, PyObject *keywords)
 {
     version_list list;
     node_semver_status status;
@@ -121,7 +121,7 @@ PyObject *range_filter(PyObject *self, PyObject *arguments, PyObject *keywords)
     int is_included;
     membership *is_in;
     native_state *state = state_of(self);
-    if (state == NULL || read_included(arguments, keywords, "O|$p:filter", &iterable, &is_included) != 0)
+    if (state == NULL || read_included("filter", arguments, count, keywords, &iterable, &is_included) != 0)
         return NULL;
     is_in = is_included ? node_semver_range_contains : node_semver_satisfies;
     if (open_list(state, iterable, &list) == 0) {
@@ -171,20 +171,20 @@ static PyObject *chosen(choice *choose, PyObject *self, PyObject *iterable)
     return item;
 }
 
-PyObject *range_max_satisfying(PyObject *self, PyObject *arguments, PyObject *keywords)
+PyObject *range_max_satisfying(PyObject *self, PyObject *const *arguments, Py_ssize_t count, PyObject *keywords)
 {
     PyObject *iterable;
     int is_included;
-    if (read_included(arguments, keywords, "O|$p:max_satisfying", &iterable, &is_included) != 0)
+    if (read_included("max_satisfying", arguments, count, keywords, &iterable, &is_included) != 0)
         return NULL;
     return chosen(is_included ? node_semver_max_satisfying_with_prereleases : node_semver_max_satisfying, self, iterable);
 }
 
-PyObject *range_min_satisfying(PyObject *self, PyObject *arguments, PyObject *keywords)
+PyObject *range_min_satisfying(PyObject *self, PyObject *const *arguments, Py_ssize_t count, PyObject *keywords)
 {
     PyObject *iterable;
     int is_included;
-    if (read_included(arguments, keywords, "O|$p:min_satisfying", &iterable, &is_included) != 0)
+    if (read_included("min_satisfying", arguments, count, keywords, &iterable, &is_included) != 0)
         return NULL;
     return chosen(is_included ? node_semver_min_satisfying_with_prereleases : node_semver_min_satisfying, self, iterable);
 }

@@ -33,6 +33,10 @@ class Errors(unittest.TestCase):
             # A long text is cut on both sides of the fault, which is its last byte.
             (Version, "1" * 300, "..." + "1" * 61, 63),
             (Version, "\u0161" * 200, "..." + "\u0161" * 61, 63),
+            (Version, "\ud800" * 100, "..." + "\\ud800" * 61, 363),
+            (Version, "\u20ac" * 99 + "a" * 4, "..." + "\u20ac" * 57 + "a" * 4, 63),
+            (Version, "\U0001f600" * 70, "..." + "\U0001f600" * 61, 63),
+            (Version, "1.2.3-\udfff\ud800", "1.2.3-\\udfff\\ud800", 5),
             (Range, "x" * 100 + "!", "x" * 60 + "...", 0),
         ]:
             with self.subTest(text):

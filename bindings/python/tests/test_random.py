@@ -64,7 +64,7 @@ class RandomTexts(unittest.TestCase):
         self.check_strict(text, is_version)
         try:
             version = Version(text)
-        except (SemverError, UnicodeEncodeError) as error:
+        except SemverError as error:
             self.assertFalse(is_version, error)
             str(error)
             return None
@@ -82,7 +82,7 @@ class RandomTexts(unittest.TestCase):
         is_strict = is_version and STRICT.fullmatch(text) is not None
         try:
             self.assertEqual(Version(text, strict=True), Version(text))
-        except (SemverError, UnicodeEncodeError) as error:
+        except SemverError as error:
             self.assertFalse(is_strict, error)
             return
         self.assertTrue(is_strict)
@@ -90,7 +90,7 @@ class RandomTexts(unittest.TestCase):
     def check_range(self, text: str) -> Optional[Range]:
         try:
             wanted = Range(text)
-        except (SemverError, UnicodeEncodeError) as error:
+        except SemverError as error:
             str(error)
             return None
         if not re.search(r"\d{16}", str(wanted)):

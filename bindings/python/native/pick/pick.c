@@ -3,11 +3,7 @@
  * The extension module node_semver._pick, with a library of its own. It has one function and no state. Only Python's
  * limited API of 3.10 is used.
  */
-#define PY_SSIZE_T_CLEAN
-#ifndef Py_LIMITED_API
-#define Py_LIMITED_API 0x030A0000
-#endif
-#include <Python.h>
+#include "../shared/arguments.h"
 
 #include "npm_pick.h"
 
@@ -59,22 +55,34 @@ static PyObject *told(npm_pick_status status, const char *key, const npm_pick_pi
     return tuple;
 }
 
+/* Makes the call with a room of the length that a call has told. The key has that length again, or there is no answer. */
+static PyObject *picked_of_length(const struct asked *asked, size_t size)
+{
+    npm_pick_picked picked = {0, false, false, false};
+    npm_pick_status status;
+    PyObject *result;
+    char *room = malloc(size);
+    if (room == NULL)
+        return PyErr_NoMemory();
+    status = call(asked, room, size, &picked);
+    if (status == NPM_PICK_OK && picked.length != size)
+        result = PyErr_Format(PyExc_SystemError, "the library told a key of %zu bytes, and then one of %zu", size,
+                              picked.length);
+    else
+        result = told(status, room, &picked);
+    free(room);
+    return result;
+}
+
 /* Makes the call, and once more if the key is longer than most. */
 static PyObject *picked_of(const struct asked *asked)
 {
-    char room[KEY], *longer;
+    char room[KEY];
     npm_pick_picked picked = {0, false, false, false};
     npm_pick_status status = call(asked, room, KEY, &picked);
-    PyObject *result;
-    if (status != NPM_PICK_OK || picked.length <= KEY)
-        return told(status, room, &picked);
-    longer = malloc(picked.length);
-    if (longer == NULL)
-        return PyErr_NoMemory();
-    status = call(asked, longer, picked.length, &picked);
-    result = told(status, longer, &picked);
-    free(longer);
-    return result;
+    if (status == NPM_PICK_OK && picked.length > KEY)
+        return picked_of_length(asked, picked.length);
+    return told(status, room, &picked);
 }
 
 PyDoc_STRVAR(pick_doc,
@@ -85,31 +93,30 @@ PyDoc_STRVAR(pick_doc,
 "The key of the version that is picked of a document in JSON, and its three\n"
 "marks; or the status for which there is none.");
 
-static PyObject *pick(PyObject *module, PyObject *arguments)
+/* How many texts a call has, and how many marks. */
+enum { TEXTS = 7, MARKS = 2 };
+
+static PyObject *pick(PyObject *module, PyObject *const *arguments, Py_ssize_t count, PyObject *keywords)
 {
-    const char *texts[7];
-    Py_ssize_t lengths[7];
-    int is_strict, is_staged;
+    static const signature takes = {"pick", TEXTS + MARKS, NO_OPTIONS};
+    PyObject *found[TEXTS + MARKS];
     struct asked asked = {{NULL, 0}, {NULL, 0}, NPM_PICK_NO_OPTIONS};
-    npm_pick_text *given[7] = {&asked.document, &asked.wanted, &asked.options.default_tag, &asked.options.avoid,
-                               &asked.options.before, &asked.options.node, &asked.options.npm};
+    npm_pick_options *options = &asked.options;
+    npm_pick_text *texts[TEXTS] = {&asked.document, &asked.wanted, &options->default_tag, &options->avoid,
+                                   &options->before, &options->node, &options->npm};
+    bool *marks[MARKS] = {&options->avoid_strict, &options->include_staged};
     int place;
     (void)module;
-    if (!PyArg_ParseTuple(arguments, "s#s#s#s#s#s#s#pp:pick", &texts[0], &lengths[0], &texts[1], &lengths[1], &texts[2],
-                          &lengths[2], &texts[3], &lengths[3], &texts[4], &lengths[4], &texts[5], &lengths[5],
-                          &texts[6], &lengths[6], &is_strict, &is_staged))
+    if (read_arguments(&takes, arguments, count, keywords, found) != 0)
         return NULL;
-    for (place = 0; place < 7; place++) {
-        given[place]->bytes = texts[place];
-        given[place]->length = (size_t)lengths[place];
-    }
-    asked.options.avoid_strict = is_strict != 0;
-    asked.options.include_staged = is_staged != 0;
-    return picked_of(&asked);
+    for (place = 0; place < TEXTS; place++)
+        if (read_text(found[place], &texts[place]->bytes, &texts[place]->length) != 0)
+            return NULL;
+    return read_marks(found + TEXTS, MARKS, marks) == 0 ? picked_of(&asked) : NULL;
 }
 
 static PyMethodDef module_functions[] = {
-    {"pick", pick, METH_VARARGS, pick_doc},
+    {"pick", TAKES_ARGUMENTS(pick), pick_doc},
     {NULL, NULL, 0, NULL},
 };
 

@@ -3,11 +3,7 @@
  * The extension module node_semver._resolve, with a library of its own. It has one function and no state. Only Python's
  * limited API of 3.10 is used.
  */
-#define PY_SSIZE_T_CLEAN
-#ifndef Py_LIMITED_API
-#define Py_LIMITED_API 0x030A0000
-#endif
-#include <Python.h>
+#include "../shared/arguments.h"
 
 #include "npm_resolve.h"
 
@@ -47,19 +43,39 @@ static PyObject *told(npm_resolve_status status, const char *room, size_t length
     return PyLong_FromUnsignedLongLong(status);
 }
 
-/* Makes the call with a room of this size, and once more if the answer is longer. */
-static PyObject *answer_of(const struct asked *asked, size_t size)
+/* Makes the call with a room of the length that a call has told. The answer has that length again, or there is none. */
+static PyObject *answer_of_length(const struct asked *asked, size_t size)
 {
     size_t length = 0;
-    char *room = malloc(size);
     npm_resolve_status status;
     PyObject *answer;
+    char *room = malloc(size);
     if (room == NULL)
         return PyErr_NoMemory();
     status = call(asked, room, size, &length);
-    answer = length > size ? NULL : told(status, room, length);
+    if (status == NPM_RESOLVE_OK && length != size)
+        answer = PyErr_Format(PyExc_SystemError, "the library told an answer of %zu bytes, and then one of %zu", size,
+                              length);
+    else
+        answer = told(status, room, length);
     free(room);
-    return length > size ? answer_of(asked, length) : answer;
+    return answer;
+}
+
+/* Makes the call, and once more if the answer is longer than most. */
+static PyObject *answer_of(const struct asked *asked)
+{
+    size_t length = 0;
+    npm_resolve_status status;
+    PyObject *answer = NULL;
+    char *room = malloc(MOST);
+    if (room == NULL)
+        return PyErr_NoMemory();
+    status = call(asked, room, MOST, &length);
+    if (length <= MOST)
+        answer = told(status, room, length);
+    free(room);
+    return length > MOST ? answer_of_length(asked, length) : answer;
 }
 
 PyDoc_STRVAR(resolve_doc,
@@ -70,38 +86,34 @@ PyDoc_STRVAR(resolve_doc,
 "The answer for a manifest and documents in JSON, which is JSON too; or the\n"
 "status for which there is none.");
 
-/* How many texts a call has, and how many marks. */
-enum { TEXTS = 6, MARKS = 6 };
+/* How many texts a call has, and how many marks; the steps are between. */
+enum { TEXTS = 6, MARKS = 6, ALL = TEXTS + 1 + MARKS };
 
-static PyObject *resolve(PyObject *module, PyObject *arguments)
+static PyObject *resolve(PyObject *module, PyObject *const *arguments, Py_ssize_t count, PyObject *keywords)
 {
-    const char *texts[TEXTS];
-    Py_ssize_t lengths[TEXTS];
-    unsigned long long steps;
-    int marks[MARKS], place;
+    static const signature takes = {"resolve", ALL, NO_OPTIONS};
+    PyObject *found[ALL];
     struct asked asked = {{NULL, 0}, {NULL, 0}, NPM_RESOLVE_NO_OPTIONS};
     npm_resolve_options *options = &asked.options;
-    npm_resolve_text *given[TEXTS] = {&asked.manifest, &asked.documents, &options->default_tag, &options->before,
+    npm_resolve_text *texts[TEXTS] = {&asked.manifest, &asked.documents, &options->default_tag, &options->before,
                                       &options->node, &options->lock};
-    bool *marked[MARKS] = {&options->omit_dev, &options->omit_optional, &options->omit_peer, &options->flat,
-                           &options->lowest, &options->lock_file};
+    bool *marks[MARKS] = {&options->omit_dev, &options->omit_optional, &options->omit_peer, &options->flat,
+                          &options->lowest, &options->lock_file};
+    int place;
     (void)module;
-    if (!PyArg_ParseTuple(arguments, "s#s#s#s#s#s#Kpppppp:resolve", &texts[0], &lengths[0], &texts[1], &lengths[1],
-                          &texts[2], &lengths[2], &texts[3], &lengths[3], &texts[4], &lengths[4], &texts[5], &lengths[5],
-                          &steps, &marks[0], &marks[1], &marks[2], &marks[3], &marks[4], &marks[5]))
+    if (read_arguments(&takes, arguments, count, keywords, found) != 0)
         return NULL;
-    for (place = 0; place < TEXTS; place++) {
-        given[place]->bytes = texts[place];
-        given[place]->length = (size_t)lengths[place];
-    }
-    options->steps = steps;
-    for (place = 0; place < MARKS; place++)
-        *marked[place] = marks[place] != 0;
-    return answer_of(&asked, MOST);
+    for (place = 0; place < TEXTS; place++)
+        if (read_text(found[place], &texts[place]->bytes, &texts[place]->length) != 0)
+            return NULL;
+    options->steps = PyLong_AsUnsignedLongLong(found[TEXTS]);
+    if (PyErr_Occurred() || read_marks(found + TEXTS + 1, MARKS, marks) != 0)
+        return NULL;
+    return answer_of(&asked);
 }
 
 static PyMethodDef module_functions[] = {
-    {"resolve", resolve, METH_VARARGS, resolve_doc},
+    {"resolve", TAKES_ARGUMENTS(resolve), resolve_doc},
     {NULL, NULL, 0, NULL},
 };
 

@@ -31,6 +31,9 @@ _BUMP_REASONS = {
 # How many characters of a long text the message shows on each side of the fault.
 _SHOWN = 60
 
+# The bytes of UTF-8 that are not the first of a character.
+_NO_FIRST_BYTES = bytes(range(0x80, 0xC0))
+
 
 class SemverError(ValueError):
     """A text that is not a version, or not a range.
@@ -65,7 +68,7 @@ class SemverError(ValueError):
         self.number = number
 
     def __str__(self) -> str:
-        place = len(self.text.encode("utf-8", "surrogatepass")[: self.offset].decode("utf-8", "ignore"))
+        place = _characters_before(self.text, self.offset)
         start = max(0, place - _SHOWN)
         before = ("..." if start > 0 else "") + _visible(self.text[start:place])
         after = _visible(self.text[place : place + _SHOWN]) + ("..." if place + _SHOWN < len(self.text) else "")
@@ -101,6 +104,12 @@ class BumpError(ValueError):
 
 
 BumpError.__module__ = "node_semver"
+
+
+def _characters_before(text: str, offset: int) -> int:
+    """How many characters end at or before the byte at this offset of the text as UTF-8."""
+    encoded = text.encode("utf-8", "surrogatepass") + b"."
+    return len(encoded[: offset + 1].translate(None, _NO_FIRST_BYTES)) - 1
 
 
 def _visible(text: str) -> str:

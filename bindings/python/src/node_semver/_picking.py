@@ -125,10 +125,18 @@ def _time(before: datetime.datetime | str | None) -> str:
     return before.isoformat()
 
 
+def exact(text: str | bytes) -> str | bytes:
+    """The characters or the bytes alone: those of a class below `str` or `bytes` without what that class does. A TypeError for an object
+    that only says that it has such a class."""
+    return str.__str__(text) if isinstance(text, str) else bytes.__getitem__(text, slice(None))
+
+
 def _text(text: str | None, name: str) -> str:
-    if text is not None and not isinstance(text, str):
+    if text is None:
+        return ""
+    if not isinstance(text, str):
         raise TypeError(f"{name} must be a str")
-    return text or ""
+    return str.__str__(text)
 
 
 def pick(
@@ -160,7 +168,7 @@ def pick(
 
     if not isinstance(packument, (collections.abc.Mapping, str, bytes)):
         raise TypeError("a packument must be a dict, a str or bytes")
-    document = _document(packument) if isinstance(packument, collections.abc.Mapping) else packument
+    document = _document(packument) if isinstance(packument, collections.abc.Mapping) else exact(packument)
     asked = _text(wanted, "wanted")
     texts = (_text(default_tag, "default_tag"), _text(avoid, "avoid"), _text(_time(before), "before"),
              _text(node, "node"), _text(npm, "npm"))  # fmt: skip

@@ -128,6 +128,7 @@ def _omits(omit: Group | collections.abc.Iterable[Group]) -> list[bool]:
 def _steps(steps: int) -> int:
     if not isinstance(steps, int):
         raise TypeError("steps must be an int")
+    steps = int.__index__(steps)
     if not 0 <= steps < 1 << 64:
         raise ValueError("steps must be 0 or more, and below 2**64")
     return steps

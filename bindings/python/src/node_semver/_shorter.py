@@ -5,6 +5,8 @@ import collections.abc
 import json
 from typing import Any
 
+from ._picking import exact
+
 #: What `resolve` takes: a dict, or its JSON.
 Given = collections.abc.Mapping[str, Any] | str | bytes
 
@@ -67,7 +69,7 @@ def _json(given: Given, name: str, change: collections.abc.Callable[[collections
     if isinstance(given, collections.abc.Mapping):
         return json.dumps(change(given))
     if isinstance(given, (str, bytes)):
-        return given
+        return exact(given)
     raise TypeError(f"{name} must be a dict, a str or bytes")
 
 

@@ -3,18 +3,23 @@
  * Stands before each function by which the extension and the library allocate, in the test build alone. One chosen call
  * of them fails; all others pass on.
  */
+#define _DEFAULT_SOURCE
 #include "../../native/native.h"
 
 #include <malloc.h>
 #include <stdarg.h>
+#include <unistd.h>
 
 #define EXPORTED __attribute__((visibility("default")))
 
-static long left = -1;
-static long kept;
-static int has_refused_shrink;
+/* Of each thread. */
+static __thread long left = -1;
+static __thread int has_refused_shrink;
+static __thread unsigned pause_before;
 
-/* Lets the allocation at `place`, from 0, fail; none if it is below 0. */
+static long kept;
+
+/* Lets the allocation at `place` of this thread, from 0, fail; none if it is below 0. */
 EXPORTED void refuse_at(long place)
 {
     left = place;
@@ -39,9 +44,18 @@ EXPORTED long blocks_kept(void)
     return kept;
 }
 
+/* How many microseconds pass before an allocation of this thread fails. */
+EXPORTED void pause_before_refusal(unsigned long microseconds)
+{
+    pause_before = (unsigned)microseconds;
+}
+
 static int refuses(void)
 {
-    return left >= 0 && left-- == 0;
+    if (left < 0 || left-- != 0)
+        return 0;
+    usleep(pause_before);
+    return 1;
 }
 
 void *__real_malloc(size_t size);
@@ -101,6 +115,9 @@ WRAPPED(PyObject *, PyList_AsTuple, (PyObject * list), (list))
 WRAPPED(PyObject *, PySequence_List, (PyObject * items), (items))
 WRAPPED(PyObject *, PyLong_FromUnsignedLong, (unsigned long number), (number))
 WRAPPED(PyObject *, PyLong_FromUnsignedLongLong, (unsigned long long number), (number))
+WRAPPED(PyObject *, PyUnicode_AsEncodedString, (PyObject * text, const char *encoding, const char *errors),
+        (text, encoding, errors))
+WRAPPED(PyObject *, PyObject_Format, (PyObject * value, PyObject *format), (value, format))
 WRAPPED(PyObject *, PyLong_FromString, (const char *text, char **end, int base), (text, end, base))
 
 int __real_PyList_Append(PyObject *list, PyObject *item);

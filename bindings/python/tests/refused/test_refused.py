@@ -10,6 +10,8 @@ import ctypes
 import gc
 import pickle
 import sys
+import threading
+import time
 import unittest
 from typing import Callable, List, Tuple, Union
 
@@ -19,6 +21,7 @@ from node_semver import Range, Version, satisfies
 NATIVE = ctypes.PyDLL(sys.modules["node_semver._native"].__file__)
 NATIVE.refuse_at.argtypes = [ctypes.c_long]
 NATIVE.blocks_kept.restype = ctypes.c_long
+NATIVE.pause_before_refusal.argtypes = [ctypes.c_ulong]
 
 # Forgets the names in Python's cache of attributes. It keeps each new name that was looked up until another one takes its
 # place, so now and then it has a hundred more of them after a hundred calls that look up `from_sets`.
@@ -45,10 +48,17 @@ CALLS: List[Tuple[Callable[[], object], int]] = [
     (lambda: Version("1.2.3"), 2),
     (lambda: Version("1.2.3-rc.4.some-identifier+build.5"), 5),
     (lambda: Version("1.2.3-rc.4", strict=True), 3),
+    (lambda: Version(*["1.2.3-rc.4"], **{"strict": False}), 3),
+    (lambda: refused(lambda: Version("1.2.3-\ud800")), 3),
+    (lambda: refused(lambda: Range("\ud800")), 3),
+    (lambda: Version.coerce("\ud8001.2.3", rtl=True, include_prerelease=True), 4),
+    (lambda: format(VERSION, ">40"), 2),
+    (lambda: format(WANTED, ">60"), 1),
     (lambda: refused(lambda: Version("v1.2.3", strict=True)), 1),
     (lambda: VERSION.diff(LONGEST), 1),
     (lambda: VERSION.bump("major"), 2),
     (lambda: VERSION.bump("preminor", identifier="beta"), 5),
+    (lambda: VERSION.bump("preminor", identifier="beta", base=1), 5),
     (lambda: VERSION.bump("prerelease"), 4),
     (lambda: refused(lambda: VERSION.bump("pre", base=None)), 1),
     (lambda: str(VERSION), 1),
@@ -62,6 +72,9 @@ CALLS: List[Tuple[Callable[[], object], int]] = [
     (lambda: Range("^1.2.3"), 2),
     (lambda: Range(MANY), 40),
     (lambda: Range.parse_npm("^1.2.3 || 3 next", loose=True), 3),
+    (lambda: Range.parse_npm("^1.2.3 || 3", loose=True, include_prerelease=True), 3),
+    (lambda: WANTED.filter(ASKED, include_prerelease=True), 5),
+    (lambda: WANTED.sql("key", "is_prerelease", placeholder="%s", include_prerelease=True), 12),
     (lambda: refused(lambda: Range.parse_npm("^1 next")), 1),
     (lambda: pickle.loads(pickle.dumps(EVERY)), 8),
     (lambda: str(Range(MANY)), 42),
@@ -185,6 +198,50 @@ class Refused(unittest.TestCase):
         fresh = Range("^1.2.3")
         self.assertTrue(self.call_refused(lambda: str(fresh), 0))
         self.assertEqual(str(fresh), ">=1.2.3 <2.0.0-0")
+
+    def print_beside(self, wanted: Range, place: int) -> List[str]:
+        """What two threads get that print one range. The first has no memory at the place, and meanwhile the second prints."""
+        answers, begun = ["", ""], threading.Event()
+
+        def print_refused() -> None:
+            NATIVE.pause_before_refusal(100_000)
+            NATIVE.refuse_at(place)
+            begun.set()
+            try:
+                answers[0] = str(wanted)
+            except BaseException as error:
+                answers[0] = type(error).__name__
+            finally:
+                NATIVE.refuse_at(-1)
+                NATIVE.pause_before_refusal(0)
+
+        def print_after() -> None:
+            begun.wait()
+            time.sleep(0.01)
+            answers[1] = str(wanted)
+
+        threads = [threading.Thread(target=target) for target in (print_refused, print_after)]
+        for thread in threads:
+            thread.start()
+        for thread in threads:
+            thread.join()
+        return answers
+
+    def test_two_threads_print_one_range(self) -> None:
+        text, refusals = "||".join(f">={place}.0.0" for place in range(2000)), 0
+        shown = str(Range(text))
+        self.assertGreater(len(shown), 10_000)  # other threads run while it is printed
+        for place in range(50):
+            with self.subTest(place=place):
+                wanted = Range(text)
+                one, other = self.print_beside(wanted, place)
+                self.assertEqual((other, str(wanted)), (shown, shown))
+                self.assertIn(one, (shown, "MemoryError"))
+                refusals += one == "MemoryError"
+                if one == shown:
+                    break
+        self.assertGreater(refusals, 2)
+        self.assertEqual(one, shown)
 
     def test_the_package_is_the_test_build(self) -> None:
         self.assertTrue(hasattr(NATIVE, "refuse_at"), node_semver.__file__)

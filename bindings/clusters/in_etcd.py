@@ -29,12 +29,15 @@ def place(package, prereleases, key):
 
 
 def add(package, texts):
-    """Adds versions of a package, at most 128 at once, as etcd has it."""
-    for first in range(0, len(texts), 128):
-        versions = [(text, Version(text, strict=True)) for text in texts[first:first + 128]]
-        call("txn", {"success": [{"requestPut": {
-            "key": place(package, version.is_prerelease, version.key), "value": coded(text.encode()),
-        }} for text, version in versions]})
+    """Adds versions of a package, at most 128 at once, as etcd has it. Of those that differ in the build alone the last one stays. The
+    call may be repeated."""
+    puts = {}
+    for text in texts:
+        version = Version(text, strict=True)
+        puts[place(package, version.is_prerelease, version.key)] = coded(text.encode())
+    puts = list(puts.items())
+    for first in range(0, len(puts), 128):
+        call("txn", {"success": [{"requestPut": {"key": key, "value": value}} for key, value in puts[first:first + 128]]})
 
 
 def find(package, text):

@@ -9,10 +9,10 @@ front.autocommit = True
 
 
 def add(package, texts):
-    """Adds versions of a package."""
+    """Adds versions of a package. Of those that differ in the build alone the last one stays. The call may be repeated."""
     versions = [Version(text, strict=True) for text in texts]
     with front.cursor() as cursor:
-        cursor.execute("INSERT INTO versions SELECT %s, * FROM unnest(%s::boolean[], %s::bytea[], %s::text[])", [
+        cursor.execute("INSERT INTO put_versions SELECT %s, * FROM unnest(%s::boolean[], %s::bytea[], %s::text[])", [
             package, [version.is_prerelease for version in versions], [version.key for version in versions], texts])
 
 

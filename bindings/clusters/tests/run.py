@@ -91,10 +91,72 @@ def differing(find, asked):
     return None
 
 
+def check_adds(recipe):
+    """Of two versions that differ in the build the last one stays, and an `add` may be repeated, also of many and of none."""
+    add, find = recipe.names["add"], recipe.names["find"]
+    many = [f"1.{minor}.0" for minor in range(300)]
+    for texts in (["1.2.3+a", "1.2.3-rc.1", "1.2.3+b"], ["1.2.3+b", "1.2.3-rc.1+c"], ["1.2.3-rc.1"], []):
+        add("builds", texts)
+    for _ in range(2):
+        add("many", [*many, "1.0.0+last"])
+    found = [find("builds", ">=1.2.3-0"), find("many", "*")]
+    check(f"{recipe.title}: the last of two builds stays, and an add is repeated",
+          found == [["1.2.3-rc.1", "1.2.3+b"], ["1.0.0+last", *many[1:]]], found)
+
+
 def replicated(recipe):
     """Waits until each replica has what its master wrote."""
     for node in recipe.names["cluster"].get_primaries():
         recipe.names["cluster"].wait(1, 5000, target_nodes=[node])
+
+
+def written_in_part(recipe, package, texts, count):
+    """Adds versions by a writer that dies once it has sent so many calls."""
+    cluster, made = recipe.names["cluster"], recipe.names["cluster"].pipeline
+
+    def dying():
+        calls = made()
+        execute = calls.execute
+
+        def execute_some():
+            del calls.command_stack[count:]
+            execute()
+            raise InterruptedError
+
+        calls.execute = execute_some
+        return calls
+
+    cluster.pipeline = dying
+    try:
+        recipe.names["add"](package, texts)
+    except InterruptedError:
+        pass
+    finally:
+        del cluster.pipeline
+
+
+def check_halves(recipe):
+    """A writer that dies leaves each version whole or not found, and a key without a text is passed over."""
+    from node_semver import Version
+
+    add, find, texts, wrong = recipe.names["add"], recipe.names["find"], ["1.2.3", "1.2.4"], []
+    for count, whole in ((1, []), (2, ["1.2.3"]), (3, ["1.2.3"]), (4, texts)):
+        written_in_part(recipe, f"half-{count}", texts, count)
+        before, left = find(f"half-{count}", "*"), recipe.names["cluster"].zcard(f"releases:{{half-{count}}}")
+        add(f"half-{count}", texts)
+        after = find(f"half-{count}", "*")
+        if (before, left, after) != (whole, len(whole), texts):
+            wrong.append((count, before, left, after))
+    add("lost", ["1.0.0"])
+    recipe.names["cluster"].zadd("releases:{lost}", {Version("1.1.0").key: 0})
+    if find("lost", "*") != ["1.0.0"]:
+        wrong.append(find("lost", "*"))
+    check("Redis: a writer that dies leaves no half of a version", not wrong, wrong)
+
+
+def settled(recipe):
+    check_halves(recipe)
+    replicated(recipe)
 
 
 # ---- what all versions take, in bytes, without copies
@@ -163,6 +225,7 @@ def run(title, data, before_stop, taken):
             before_stop(recipe)
             print(f"{title}: {count} versions put in {put - began:.1f} s, of {taken(recipe) / count:.0f} bytes each; "
                   f"{len(data['asked'])} ranges in {asked - put:.1f} s", flush=True)
+            check_adds(recipe)
             check(f"{title}: a node is stopped", recipe.shell(recipe.stops) == 0, recipe.said())
             is_up = recipe.until(lambda: connects(list(data["packages"])[:50]), 60)
             check(f"{title}: the others answer", is_up, "" if is_up else f"{recipe.failure!r} {recipe.said()}")
@@ -181,7 +244,7 @@ def main():
     found = sum(1 for _, _, wanted in data["asked"] if wanted)
     check("the ranges find something", found > len(data["asked"]) // 2, found)
     recipes = {
-        "Redis": ("Redis Cluster", replicated, redis_bytes),
+        "Redis": ("Redis Cluster", settled, redis_bytes),
         "etcd": ("etcd", lambda recipe: None, etcd_bytes),
         "PostgreSQL": ("PostgreSQL with shards", check_index, postgresql_bytes),
     }

@@ -28,6 +28,8 @@ static const char *const STATEMENTS[] = {
     "select ?1 < ?2 collate semver, ?1 = ?3 collate semver",
     "select count(*) from (values (?1), (?2)) v, semver_intervals(v.column1, ?3) i where i.range = v.column1",
     "select a.range from semver_intervals(?1) a join semver_intervals(?2) b on a.lower < b.upper and b.lower < a.upper",
+    "select semver_is_valid(?1), semver_coerce(?2), semver_is_valid(semver_coerce(?2))",
+    "select semver_major(?1), semver_minor(?1), semver_patch(?1), semver_prerelease(?1)",
 };
 enum { COUNT = sizeof STATEMENTS / sizeof *STATEMENTS, PARAMETERS = 3 };
 
@@ -83,7 +85,7 @@ static int run(sqlite3_stmt *statement) {
 
 /* A message is written whole or cut, with a zero at its end, in a room of any length. */
 static void check_message(const struct failure *failure) {
-    char whole[200];
+    char whole[MESSAGE];
     tell_failure(failure, whole, sizeof whole);
     for (size_t size = 1; size <= strlen(whole) + 1; size += 7) {
         char *room = open_room(ROOMS - 1, size);
@@ -125,6 +127,33 @@ static void check_intervals(struct text text) {
     node_semver_intervals_free(intervals);
 }
 
+/* A version is made of its parts again, but for its build. */
+static void check_parts(struct text text) {
+    struct failure failure = {0};
+    struct parts parts;
+    char again[400];
+    bool is_valid = false;
+    if (is_text_of_version(text, &is_valid, &failure) && is_told(parts_of_text(text, &parts, &failure), &failure)) {
+        int length = snprintf(again, sizeof again, "%llu.%llu.%llu%s%.*s", (unsigned long long)parts.numbers[0],
+                              (unsigned long long)parts.numbers[1], (unsigned long long)parts.numbers[2],
+                              parts.prerelease.length > 0 ? "-" : "", (int)parts.prerelease.length, parts.prerelease.bytes);
+        expect(is_valid && memcmp(again, text.bytes, (size_t)length) == 0, "a version begins with its parts");
+        expect((size_t)length == text.length || text.bytes[length] == '+', "a build follows the parts, or nothing");
+    }
+}
+
+/* What is found in a text is a version. */
+static void check_coerced(struct text text) {
+    struct failure failure = {0};
+    char room[MAX_COERCED];
+    size_t length = 0;
+    bool is_valid = false;
+    if (is_told(coerced_text(text, room, &length, &failure), &failure) && length > 0
+        && is_text_of_version((struct text){room, length}, &is_valid, &failure)) {
+        expect(is_valid, "what is found is a version");
+    }
+}
+
 static void check_texts(struct text range, struct text version) {
     node_semver_range read = NODE_SEMVER_EMPTY;
     struct failure failure = {0};
@@ -142,6 +171,8 @@ static void check_texts(struct text range, struct text version) {
     }
     node_semver_range_free(read);
     check_intervals(range);
+    check_parts(version);
+    check_coerced(version);
 }
 
 static struct text as_text(struct line line, unsigned room) {

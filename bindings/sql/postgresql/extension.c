@@ -1,6 +1,6 @@
 /* SPDX-License-Identifier: Apache-2.0 */
 /* The setting, texts, errors and bytes. */
-#include "extension.h"
+#include "planner.h"
 
 #include "mb/pg_wchar.h"
 #include "utils/guc.h"
@@ -19,6 +19,7 @@ void _PG_init(void)
                             &max_range_bytes, MAX_RANGE_BYTES, 0, MaxAllocSize - 1, PGC_USERSET, GUC_UNIT_BYTE, NULL, NULL,
                             NULL);
     MarkGUCPrefixReserved("semver");
+    watch_tables();
 }
 
 struct text utf8_of(const char *bytes, size_t length)
@@ -39,7 +40,7 @@ void fail_for_memory(void)
 
 void fail(const struct failure *failure)
 {
-    char message[160];
+    char message[MESSAGE];
     int code = ERRCODE_INVALID_TEXT_REPRESENTATION;
     if (failure->status == NODE_SEMVER_OUT_OF_MEMORY)
         fail_for_memory();

@@ -14,6 +14,8 @@ PG_FUNCTION_INFO_V1(npm_version_in_range);
 PG_FUNCTION_INFO_V1(npm_range_has_version);
 PG_FUNCTION_INFO_V1(npm_range_lower_key);
 PG_FUNCTION_INFO_V1(npm_range_upper_key);
+PG_FUNCTION_INFO_V1(npm_range_lower_end);
+PG_FUNCTION_INFO_V1(npm_range_upper_end);
 
 /* ---- reading a value: its bytes may stand at any address ---- */
 
@@ -242,14 +244,31 @@ struct end hull_end(const struct range *range, bool is_upper)
     return best;
 }
 
-Datum npm_range_lower_key(PG_FUNCTION_ARGS)
+static struct end end_of_argument(FunctionCallInfo fcinfo, bool is_upper)
 {
     struct range range = range_of(PG_GETARG_RANGE(0));
-    PG_RETURN_BYTEA_P(bytea_of(hull_end(&range, false)));
+    return hull_end(&range, is_upper);
+}
+
+Datum npm_range_lower_key(PG_FUNCTION_ARGS)
+{
+    PG_RETURN_BYTEA_P(bytea_of(end_of_argument(fcinfo, false)));
 }
 
 Datum npm_range_upper_key(PG_FUNCTION_ARGS)
 {
-    struct range range = range_of(PG_GETARG_RANGE(0));
-    PG_RETURN_BYTEA_P(bytea_of(hull_end(&range, true)));
+    PG_RETURN_BYTEA_P(bytea_of(end_of_argument(fcinfo, true)));
+}
+
+/* The same as values that versions are compared with. */
+Datum npm_range_lower_end(PG_FUNCTION_ARGS)
+{
+    struct end end = end_of_argument(fcinfo, false);
+    PG_RETURN_POINTER(value_of_end(end.bytes, end.length));
+}
+
+Datum npm_range_upper_end(PG_FUNCTION_ARGS)
+{
+    struct end end = end_of_argument(fcinfo, true);
+    PG_RETURN_POINTER(value_of_end(end.bytes, end.length));
 }

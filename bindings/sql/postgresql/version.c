@@ -11,16 +11,34 @@ PG_FUNCTION_INFO_V1(npm_version_recv);
 PG_FUNCTION_INFO_V1(npm_version_send);
 PG_FUNCTION_INFO_V1(npm_version_key);
 PG_FUNCTION_INFO_V1(npm_version_is_prerelease);
+PG_FUNCTION_INFO_V1(npm_version_end);
+
+/* A value with this key and this text. */
+static struct varlena *new_value(const void *key, size_t key_length, bool is_prerelease, struct text text)
+{
+    size_t size = VARHDRSZ + 2 + key_length + text.length;
+    struct varlena *value = palloc(size);
+    unsigned char *bytes = (unsigned char *)VARDATA(value);
+    SET_VARSIZE(value, size);
+    bytes[0] = (unsigned char)(key_length >> 7);
+    bytes[1] = (unsigned char)(key_length << 1 | is_prerelease);
+    if (key_length > 0)
+        memcpy(bytes + 2, key, key_length);
+    memcpy(bytes + 2 + key_length, text.bytes, text.length);
+    return value;
+}
+
+struct varlena *value_of_end(const void *bytes, size_t length)
+{
+    return new_value(bytes, Min(length, LONGEST_END), false, (struct text){"", 0});
+}
 
 /* The value of a text. The text of a version is ASCII, which is the same in each encoding of a server. */
-static struct varlena *value_of(struct text text)
+struct varlena *value_of(struct text text)
 {
     struct failure failure;
     struct key key;
-    struct varlena *value;
-    unsigned char *bytes;
     bool is_prerelease = false;
-    size_t size;
     if (!key_and_kind_of_text(text, &key, &is_prerelease, &failure))
         fail(&failure);
     if (key.bytes != key.room)
@@ -28,15 +46,20 @@ static struct varlena *value_of(struct text text)
         free_key(&key);
         elog(ERROR, "a key of %zu bytes", key.length);
     }
-    size = VARHDRSZ + 2 + key.length + text.length;
-    value = palloc(size);
-    SET_VARSIZE(value, size);
-    bytes = (unsigned char *)VARDATA(value);
-    bytes[0] = (unsigned char)(key.length >> 7);
-    bytes[1] = (unsigned char)(key.length << 1 | is_prerelease);
-    memcpy(bytes + 2, key.bytes, key.length);
-    memcpy(bytes + 2 + key.length, text.bytes, text.length);
-    return value;
+    return new_value(key.bytes, key.length, is_prerelease, text);
+}
+
+/* The text of a value in memory of its own. */
+static char *shown(const struct version *version)
+{
+    char *text;
+    if (!is_end(version))
+        return pnstrdup(version->text, version->text_length);
+    text = palloc(2 * version->key_length + 3);
+    strcpy(text, "\\x");
+    for (size_t place = 0; place < version->key_length; place++)
+        sprintf(text + 2 + 2 * place, "%02x", version->key[place]);
+    return text;
 }
 
 Datum npm_version_in(PG_FUNCTION_ARGS)
@@ -48,7 +71,7 @@ Datum npm_version_in(PG_FUNCTION_ARGS)
 Datum npm_version_out(PG_FUNCTION_ARGS)
 {
     struct version version = version_of(PG_GETARG_VERSION(0));
-    PG_RETURN_CSTRING(pnstrdup(version.text, version.text_length));
+    PG_RETURN_CSTRING(shown(&version));
 }
 
 /* As bytes a version is its text. */
@@ -63,9 +86,10 @@ Datum npm_version_recv(PG_FUNCTION_ARGS)
 Datum npm_version_send(PG_FUNCTION_ARGS)
 {
     struct version version = version_of(PG_GETARG_VERSION(0));
+    char *text = shown(&version);
     StringInfoData message;
     pq_begintypsend(&message);
-    pq_sendtext(&message, version.text, (int)version.text_length);
+    pq_sendtext(&message, text, (int)strlen(text));
     PG_RETURN_BYTEA_P(pq_endtypsend(&message));
 }
 
@@ -81,4 +105,11 @@ Datum npm_version_key(PG_FUNCTION_ARGS)
 Datum npm_version_is_prerelease(PG_FUNCTION_ARGS)
 {
     PG_RETURN_BOOL(version_of(PG_GETARG_VERSION(0)).is_prerelease);
+}
+
+/* Bytes as an end of an interval. */
+Datum npm_version_end(PG_FUNCTION_ARGS)
+{
+    bytea *bytes = PG_GETARG_BYTEA_PP(0);
+    PG_RETURN_POINTER(value_of_end(VARDATA_ANY(bytes), VARSIZE_ANY_EXHDR(bytes)));
 }

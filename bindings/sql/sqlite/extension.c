@@ -9,6 +9,9 @@ int sqlite3_denimscree_init(sqlite3 *database, char **message, const sqlite3_api
     (void)message;
     int status = add_functions(database);
     if (status == SQLITE_OK) {
+        status = add_parts(database);
+    }
+    if (status == SQLITE_OK) {
         status = add_intervals(database);
     }
     return status == SQLITE_OK ? add_collation(database) : status;

@@ -19,12 +19,11 @@ size_t get_most(sqlite3_value *value) {
     return most > 0 ? (size_t)most : 0;
 }
 
-static bool is_null(sqlite3_value *value) {
+bool is_null(sqlite3_value *value) {
     return sqlite3_value_type(value) == SQLITE_NULL;
 }
 
-/* `semver_key: no version: ..` */
-static void fail(sqlite3_context *context, const char *name, const struct failure *failure) {
+void fail(sqlite3_context *context, const char *name, const struct failure *failure) {
     char reason[MESSAGE], message[MESSAGE + 32];
     if (failure->status == NODE_SEMVER_OUT_OF_MEMORY) {
         sqlite3_result_error_nomem(context);
@@ -146,9 +145,9 @@ int add_functions(sqlite3 *database) {
         {"semver_satisfies", 2, semver_satisfies},
         {"semver_satisfies", 3, semver_satisfies},
     };
-    int flags = SQLITE_UTF8 | SQLITE_DETERMINISTIC | SQLITE_INNOCUOUS, status = SQLITE_OK;
+    int status = SQLITE_OK;
     for (size_t i = 0; i < sizeof functions / sizeof functions[0] && status == SQLITE_OK; i++) {
-        status = sqlite3_create_function_v2(database, functions[i].name, functions[i].arguments, flags, NULL,
+        status = sqlite3_create_function_v2(database, functions[i].name, functions[i].arguments, FUNCTION_FLAGS, NULL,
                                             functions[i].call, NULL, NULL, NULL);
     }
     return status;

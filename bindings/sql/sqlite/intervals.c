@@ -137,7 +137,7 @@ static int tell(struct cursor *cursor, const char *reason) {
     return cursor->base.pVtab->zErrMsg == NULL ? SQLITE_NOMEM : SQLITE_ERROR;
 }
 
-static int fail(struct cursor *cursor, const struct failure *failure) {
+static int refuse(struct cursor *cursor, const struct failure *failure) {
     char reason[MESSAGE];
     if (failure->status == NODE_SEMVER_OUT_OF_MEMORY) {
         return SQLITE_NOMEM;
@@ -159,7 +159,7 @@ static int fill(struct cursor *cursor, sqlite3_value *range, size_t most) {
         return SQLITE_NOMEM;
     }
     if (!intervals_of_text(text, most, &cursor->intervals, &failure)) {
-        return fail(cursor, &failure);
+        return refuse(cursor, &failure);
     }
     cursor->count = node_semver_intervals_count(&cursor->intervals);
     return SQLITE_OK;

@@ -29,7 +29,8 @@ struct text {
 struct failure {
     node_semver_status status;
     node_semver_fault fault;
-    bool is_range; /* the text is one of a range, and else of a version */
+    bool is_range;    /* the text is one of a range, and else of a version */
+    struct text text; /* that was read: it lies where the caller has it */
 };
 
 /* A key, in `room` if it fits, else in memory of its own. */
@@ -53,6 +54,22 @@ void free_key(struct key *key);
 bool is_text_of_prerelease(struct text text, bool *answer, struct failure *failure);
 bool satisfies_text(const node_semver_range *range, struct text text, bool *answer, struct failure *failure);
 
+/* Writes whether a text is a version; false if memory ran out. */
+bool is_text_of_version(struct text text, bool *answer, struct failure *failure);
+
+/* The numbers of a version and its prerelease, which lies in the text of the version and is empty for a release. */
+struct parts {
+    uint64_t numbers[3];
+    struct text prerelease;
+};
+bool parts_of_text(struct text text, struct parts *parts, struct failure *failure);
+/* The same of a text that is known to be a version: nothing is read by the library. */
+struct parts parts_of_version(struct text text);
+
+/* Writes the version that npm's `coerce` finds in a text, with its length, which is 0 if there is none. */
+enum { MAX_COERCED = 64 };
+bool coerced_text(struct text text, char room[MAX_COERCED], size_t *length, struct failure *failure);
+
 /* Makes the intervals of the range of a text of at most so many bytes. */
 bool intervals_of_text(struct text text, size_t most, node_semver_intervals *intervals, struct failure *failure);
 
@@ -60,8 +77,10 @@ bool intervals_of_text(struct text text, size_t most, node_semver_intervals *int
 bool lower_key(const node_semver_intervals *intervals, size_t place, struct key *key);
 bool upper_key(const node_semver_intervals *intervals, size_t place, struct key *key);
 
-/* The message of a failure, without the text: `no version: Context at byte 3, a number or a dot is missing`. It is cut
- * where the room ends. */
+/* The message of a failure, with the start of the text: `no version: Context at byte 3, a number or a dot is missing: "1.2"`. All
+ * but ASCII is written as \xHH, and so are control characters. A room of MESSAGE bytes holds each message; in a smaller one it
+ * is cut where the room ends. */
+enum { MESSAGE = 512 };
 void tell_failure(const struct failure *failure, char *room, size_t size);
 
 #endif

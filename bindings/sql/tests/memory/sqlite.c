@@ -40,6 +40,11 @@ static const struct statement statements[] = {
     {"select count(*) from semver_intervals", "semver_intervals: no range is given"},
     {"select semver_satisfies('^1', '1.2.3', 1)", "semver_satisfies: no range: MaxLengthError at byte 1"},
     {"select semver_satisfies('^1', '1.2.3', 2)", "1"},
+    {"select semver_is_valid('1.2.3-rc.4') || semver_is_valid('1.2')", "10"},
+    {"select semver_major(v) || ' ' || semver_minor(v) || ' ' || semver_patch(v) || ' ' || semver_prerelease(v)"
+     " from (select '1.2.3-rc.4+build' as v)", "1 2 3 rc.4"},
+    {"select semver_major('1.2')", "semver_major: no version: Context at byte 3"},
+    {"select semver_coerce('node v1.2, or so') || ifnull(semver_coerce('none'), '!')", "1.2.0!"},
 };
 
 static int passed, failed;

@@ -49,6 +49,39 @@ static char ask_satisfies(struct text range, struct text version) {
     return told(is_made, answer, &failure);
 }
 
+static char ask_validity(struct text range, struct text version) {
+    struct failure failure;
+    bool answer = false;
+    (void)range;
+    bool is_made = is_text_of_version(version, &answer, &failure);
+    return told(is_made, answer, &failure);
+}
+
+/* Whether the numbers and the prerelease are those of 1.2.3-rc.5. */
+static char ask_parts(struct text range, struct text version) {
+    struct failure failure;
+    struct parts parts;
+    (void)range;
+    if (!parts_of_text(version, &parts, &failure)) {
+        return told(false, false, &failure);
+    }
+    bool is_right = parts.numbers[0] == 1 && parts.numbers[1] == 2 && parts.numbers[2] == 3 && parts.prerelease.length == 4;
+    return is_right && memcmp(parts.prerelease.bytes, "rc.5", 4) == 0 ? 'y' : '?';
+}
+
+/* Whether a version is found, which is 1.2.0. */
+static char ask_coerced(struct text range, struct text version) {
+    struct failure failure;
+    char room[MAX_COERCED];
+    size_t length = 0;
+    (void)range;
+    bool is_made = coerced_text(version, room, &length, &failure);
+    if (is_made && length > 0 && (length != 5 || memcmp(room, "1.2.0", 5) != 0)) {
+        return '?';
+    }
+    return told(is_made, length > 0, &failure);
+}
+
 /* Whether each interval ends above where it begins; a key of an interval that is not made is memory that is out. */
 static char ask_intervals(struct text range, struct text version) {
     node_semver_intervals intervals = NODE_SEMVER_EMPTY;
@@ -109,6 +142,7 @@ int main(void) {
     static char room[BUFSIZ], word[201], long_range[500];
     struct text range = TEXT("^1.2.3-rc.4 || >=3 || 2.5"), none = TEXT("^1 || 2 foo");
     struct text version = TEXT("1.2.3-rc.5+build"), other = TEXT("2.4.0"), bad = TEXT("1.2.3.4");
+    struct text holder = TEXT("node v1.2, or so"), empty = TEXT("none");
     size_t tried = 0;
     setvbuf(stdout, room, _IOFBF, sizeof room);
     memset(word, 'a', sizeof word - 1);
@@ -125,6 +159,12 @@ int main(void) {
     tried += refuse_each("intervals_of_text", ask_intervals, range, version, 'y');
     tried += refuse_each("intervals_of_text", ask_intervals, none, version, 'r');
     tried += refuse_each("intervals_of_text", ask_intervals, long_keys, version, 'y');
+    tried += refuse_each("is_text_of_version", ask_validity, range, version, 'y');
+    tried += refuse_each("is_text_of_version", ask_validity, range, bad, 'n');
+    tried += refuse_each("parts_of_text", ask_parts, range, version, 'y');
+    tried += refuse_each("parts_of_text", ask_parts, range, bad, 'r');
+    tried += refuse_each("coerced_text", ask_coerced, range, holder, 'y');
+    tried += refuse_each("coerced_text", ask_coerced, range, empty, 'n');
     check(tried > 20, "too few requests were refused", "all calls", tried);
     printf("%zu requests were refused\n%d passed, %d failed\n", tried, passed, failed);
     return failed != 0;

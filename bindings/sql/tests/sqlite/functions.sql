@@ -104,3 +104,25 @@ insert into sorted values ('1.9.0+build');
 select group_concat(version, ' ') from (select version from sorted order by version desc);
 explain query plan select version from sorted where version > '1.9' order by version;
 select group_concat(version, ' ') from (select version from sorted where version > '1.9.0-rc.1' order by version);
+-- versions in parts; a release has no prerelease
+select v, semver_major(v), semver_minor(v), semver_patch(v), semver_prerelease(v), typeof(semver_major(v)), typeof(semver_prerelease(v))
+    from (select column1 as v from (values ('1.2.3'), ('1.2.3-rc.4'), ('10.20.30-a-b.0+c-d'), ('0.0.0+a-b'),
+    ('9007199254740991.9007199254740991.9007199254740991-0'), (null)));
+select semver_major('1.2');
+select semver_minor('v1.2.3');
+select semver_patch(x'ff');
+select semver_prerelease('1.2.3-');
+select column1, semver_is_valid(column1) from (values ('1.2.3'), ('1.2.3-rc.4+b'), ('v1.2.3'), ('1.2'), (''), ('01.2.3'), ('1.2.3 '), ('latest'),
+    ('9007199254740992.0.0'), (1.5), (null));
+select semver_is_valid(x'ff'), semver_is_valid(x'312e322e33'), semver_is_valid(hex(zeroblob(500000)));
+-- what npm's coerce says
+select column1, semver_coerce(column1) from (values ('1.2.3'), ('v1.2'), ('node-1.2'), (1), (1.5), ('1.2.3.4'), ('42.6.7.9.3-alpha'),
+    ('v3.4 replaces v3.3.1'), ('none'), (''), ('1.2.3-rc.4'), ('9007199254740992'), ('99999999999999999999'), (null));
+select semver_coerce(x'ff');
+select semver_satisfies('^1', semver_coerce('=1.9')), hex(semver_key(semver_coerce('release 2')));
+-- an error shows the text: cut, and on one line
+select semver_key('1.2.3' || char(10, 9) || '"quoted" \ ' || char(127, 8238));
+select semver_key('1.2.3-' || substr(hex(zeroblob(27)), 1, 54) || '_');
+select semver_key('1.2.3-' || substr(hex(zeroblob(27)), 1, 53) || '_');
+select semver_satisfies('^1 ' || hex(zeroblob(50)), '1.2.3');
+select count(*) from semver_intervals('^1 "foo"');

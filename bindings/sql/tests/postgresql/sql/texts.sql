@@ -12,12 +12,12 @@ explain (costs off) select version from listed where package = 'package-3' and s
     order by semver_key(version) desc limit 1;
 select version from listed where package = 'package-3' and semver_satisfies('^42 || 43', version) order by semver_key(version) desc limit 1;
 reset enable_bitmapscan;
--- of a constant range of few intervals each is looked up, of one of many the hull
+-- of a constant range each interval is looked up
 explain (costs off) select count(*) from listed where package = 'package-3' and semver_satisfies('<0.0.5 || >=99', version);
 select count(*) from listed where package = 'package-3' and semver_satisfies('<0.0.5 || >=99', version);
 select count(*) from published where package = 'package-3' and version <@ '<0.0.5 || >=99';
-explain (costs off) select count(*) from listed where package = 'package-3'
-    and semver_satisfies('1.1 || 2.2 || 3.3 || 4.4 || 5.5 || 6.6 || 7.7 || 8.8 || 9.9', version);
+select * from looked_up($$select from listed where package = 'package-3'
+    and semver_satisfies('1.1 || 2.2 || 3.3 || 4.4 || 5.5 || 6.6 || 7.7 || 8.8 || 9.9', version)$$);
 explain (costs off) select count(*) from listed where package = 'package-3' and semver_satisfies('>2 <1', version);
 -- a parameter, and a column of another table
 set plan_cache_mode = force_generic_plan;
@@ -38,13 +38,17 @@ reset enable_hashjoin;
 reset enable_mergejoin;
 reset enable_bitmapscan;
 -- where it cannot help, the call stays: in a select list, without the package, with a range of the same row, with one that changes
--- or is a query
 explain (verbose, costs off) select semver_satisfies('^42', version) from listed;
 explain (costs off) select count(*) from listed where semver_satisfies('^42', version);
 explain (costs off) select count(*) from listed where package > 'package-3' and semver_satisfies('^42', version);
 explain (costs off) select count(*) from listed where package = 'package-3' and semver_satisfies('^' || package, version);
 explain (costs off) select count(*) from listed where package = 'package-3' and semver_satisfies('^' || random(), version);
-explain (costs off) select count(*) from listed where package = 'package-3' and semver_satisfies((select '^42'), version);
+-- a range that is a query is known once the scan begins
+select scans, found from looked_up($$select from listed where package = 'package-3' and semver_satisfies((select '^42'), version)$$);
+select count(*) from listed where package = 'package-3' and semver_satisfies((select '^42'), version);
+-- one of several packages
+select scans, found from looked_up($$select from listed where package = any ('{package-3,package-5}') and semver_satisfies('~42.7', version)$$);
+select count(*) from listed where package = any ('{package-3,package-5}') and semver_satisfies('~42.7', version);
 -- a text that is no range is an error only once a row is tested
 explain (costs off) select count(*) from listed where package = 'none' and semver_satisfies('^1 foo', version);
 select count(*) from listed where package = 'none' and semver_satisfies('^1 foo', version);

@@ -57,6 +57,28 @@ create table sorted as select ('1.' || n % 7 || '.' || n % 11 || case when n % 3
     from generate_series(1, 20000) n;
 select count(*) from (select version, lag(version) over (order by version) as before from sorted) s where version < before;
 select count(*) from (select semver_key(version) as key, lag(semver_key(version)) over (order by version) as before from sorted) s where key < before;
--- and what the server itself asks of classes of operators: that of versions also has bytes, on the right alone, and is left out
+-- and what the server itself asks of classes of operators
 select opcname, amname, amvalidate(c.oid) from pg_opclass c join pg_am a on a.oid = opcmethod
-    where opcname in ('npm_version_ops', 'npm_range_ops') and (opcname, amname) <> ('npm_version_ops', 'btree') order by opcname, amname;
+    where c.oid in (select objid from pg_depend d join pg_extension e on e.oid = d.refobjid
+        where e.extname = 'denimscree' and d.refclassid = 'pg_extension'::regclass and d.classid = 'pg_opclass'::regclass)
+    order by opcname, amname;
+-- an end of an interval is no version: its text is not read, and it has no parts
+select npm_version_end('\x010203'), npm_version_end(''), npm_version_end('\x010203') < '1.2.3', npm_version_end('\x010204') > '1.2.3',
+    length(npm_version_end(decode(repeat('01', 5000), 'hex'))::text);
+select '\x010203'::npm_version;
+select semver_major(npm_version_end('\x010203'));
+select npm_version_send(npm_version_end('\x0102'));
+-- an index over versions serves bytes on the right
+create table sorted_keys (version npm_version primary key);
+insert into sorted_keys select distinct version from sorted;
+analyze sorted_keys;
+set enable_seqscan = off;
+set enable_bitmapscan = off;
+explain (costs off) select count(*) from sorted_keys where version >= '\x010302'::bytea and version < '\x010303'::bytea;
+select count(*), (select count(*) from sorted_keys where semver_key(version) >= '\x010302' and semver_key(version) < '\x010303') as wanted
+    from sorted_keys where version >= '\x010302'::bytea and version < '\x010303'::bytea;
+explain (costs off) select count(*) from semver_intervals('~1.3.2') i join sorted_keys s on s.version >= i.lower and s.version < i.upper;
+select count(*) from sorted_keys where version = '\x010302ff'::bytea;
+select count(*) from sorted_keys where version > '\x010302ff'::bytea and version <= '\x010303ff'::bytea;
+reset enable_seqscan;
+reset enable_bitmapscan;

@@ -8,7 +8,7 @@ import subprocess
 
 import pytest
 
-from support import programs
+from support import programs, refused
 
 MEGABYTES = int(os.environ.get("SEMVER_PAIRS_MEGABYTES", "64"))
 MORE = 8 << 20  # The memory that a run may have beside what it has at the start.
@@ -51,6 +51,11 @@ def limited(waiting):
 
 def test_a_line_of_64_megabytes_is_out_of_memory(limited):
     assert (*limited.communicate(b"1" * 64000000), limited.returncode) == (b"", b"semver_pairs: out of memory\n", 1)
+
+
+def test_arguments_without_memory_are_a_failed_read():
+    ran, _ = refused.run([programs.built("semver_pairs")], "1\n1.0.0\n", number=1)
+    assert (ran.stdout, ran.stderr, ran.returncode) == ("", "semver_pairs: read failed\n", 1)
 
 
 def test_many_pairs_take_no_more_memory(limited, tmp_path):

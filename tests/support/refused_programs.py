@@ -15,7 +15,7 @@ OUT_OF_MEMORY = {
     "npm_pick": r'npm_pick: (--(packument|lock|manifest) "[^"]*": )?out of memory',
     "npm_resolve": r'npm_resolve: (--(manifest|lock) "[^"]*": )?out of memory',
     "semver": "semver: out of memory",
-    "semver_pairs": "semver_pairs: out of memory",
+    "semver_pairs": "semver_pairs: (?:out of memory|read failed)",
 }
 
 

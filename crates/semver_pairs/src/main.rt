@@ -22,7 +22,6 @@ use gauge::Gauge;
 use program::run;
 use run_error::RunError;
 use std::env;
-use std::io::ErrorKind;
 use std::process::ExitCode;
 
 /// Takes no arguments. Exits with the status of `ending`, and writes its line to standard error, if there is one. If
@@ -39,11 +38,8 @@ fn main(rt: HostRuntime) -> ExitCode {
                 Some(run(rt.alloc(), &mut reader, &mut writer))
             }
         }
-        // The words are copied, so memory may be out here too.
-        Err(error) => Some(Err(match error.kind() {
-            ErrorKind::OutOfMemory => RunError::Memory,
-            _ => RunError::Read,
-        })),
+        // Also if an allocation fails, since the words are copied: nothing was read.
+        Err(_) => Some(Err(RunError::Read)),
     };
     let (status, line) = ending(outcome.as_ref());
     if status != 0 {

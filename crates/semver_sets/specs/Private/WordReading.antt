@@ -2,7 +2,8 @@
 -- the words. No public contract uses it.
 use Rattle.std.specs.Prelude.{ℕ, ◌==◌, not, if◌then◌else◌, Bool, List, [], ◌∷◌, Option, Some, None, Ok, Err}
 use Rattle.semver_sets.specs.CaretRanges.{caret_row}
-use Rattle.semver_texts.specs.Characters.{caret, dot, greater_sign, hyphen, is_blank, is_partial_mark, is_x, tilde}
+use Rattle.semver_texts.specs.Characters.{caret, dot, equal_sign, greater_sign, hyphen, is_blank, is_partial_mark, is_x}
+use Rattle.semver_texts.specs.Characters.{less_sign, tilde}
 use Rattle.semver_sets.specs.Comparator.{Comparator}
 use Rattle.semver_sets.specs.HyphenRanges.{hyphen_comparator}
 use Rattle.semver_texts.specs.IdentifierValue.{IdentifierValue}
@@ -104,15 +105,15 @@ pub data Lead : Type 0 where
 -- the longer operator if a `=` follows here, else the shorter one
 abbrev pub with_equals : Operator → Operator → List ℕ → Operator × List ℕ
 with_equals longer shorter [] = (shorter, [])
-with_equals longer shorter (b ∷ rest) = if b == 61 then (longer, rest) else (shorter, b ∷ rest)
+with_equals longer shorter (b ∷ rest) = if b == equal_sign then (longer, rest) else (shorter, b ∷ rest)
 
 -- the longest operator that a text begins with, and the rest
 unfoldable pub read_operator : List ℕ → Option (Operator × List ℕ)
 read_operator [] = None
 read_operator (b ∷ rest) =
     if b == greater_sign then Some (with_equals greater_or_equal greater rest) else
-    if b == 61 then Some (equal, rest) else
-    if b == 60 then Some (with_equals less_or_equal less rest) else
+    if b == equal_sign then Some (equal, rest) else
+    if b == less_sign then Some (with_equals less_or_equal less rest) else
     None
 
 -- an operator and the rest without its leading blanks; or no operator, and the text

@@ -1,4 +1,4 @@
-"""The libraries of a release: for C, for Node with its native part built, and for Python as a wheel and as sources."""
+"""The libraries of a release: for C, for Node and browsers, and for Python as a wheel and as sources; and the page to try ranges."""
 import glob
 import json
 import os
@@ -74,30 +74,26 @@ def move_pkg_config(path):
 
 
 def node_package(room, out):
-    """The package for Node with its native parts, so that installing it takes no compiler."""
+    """The package for Node, for each machine: its native code is WebAssembly."""
+    run("node", os.path.join(BINDINGS, "node", "build.js"))
     at = copied("node", room)
-    run("node", os.path.join(BINDINGS, "node", "build.js"), "--library")
-    for name in [*(f"lib/lib{it}.a" for it in LIBRARIES), *(f"lib/{it}.h" for it in LIBRARIES), "LICENSE"]:
-        os.makedirs(os.path.dirname(os.path.join(at, name)), exist_ok=True)
-        shutil.copy(os.path.join(BINDINGS, "node", name), os.path.join(at, name))
-    run("node", "build.js", at=at)
-    to = os.path.join(at, "prebuilt/linux-x64")
-    os.makedirs(to)
-    for name in LIBRARIES:
-        made = os.path.join(at, f"build/Release/{name}.node")
-        run("strip", "--strip-unneeded", made)
-        check_native(made)
-        os.rename(made, os.path.join(to, f"{name}.node"))
-    shutil.rmtree(os.path.join(at, "build"))
+    for name in ("wasm", "internal/modules/inline"):
+        shutil.copytree(os.path.join(BINDINGS, "node", name), os.path.join(at, name))
+    shutil.copy(os.path.join(BINDINGS, "node", "LICENSE"), at)
     path = os.path.join(at, "package.json")
     with open(path, encoding="utf-8") as file:
         package = json.load(file)
     archives.write(os.path.join(at, "NOTICES"), licences.notices(*LIBRARIES.values()))
-    package["files"] = sorted([*package["files"], "NOTICES", "prebuilt/"])
-    # The package finds them itself, so it works where no install script is run.
-    del package["scripts"]["install"]
+    package["files"] = sorted([*package["files"], "NOTICES"])
     archives.write(path, json.dumps(package, indent=2) + "\n")
     run("npm", "pack", "--ignore-scripts", "--pack-destination", out, at=at)
+
+
+def page(out, version):
+    """The page to try ranges, over the module of the proved library."""
+    at = os.path.join(BINDINGS, "wasm")
+    run("make", "-s", "-C", at, "MODULES=node_semver")
+    run("node", os.path.join(at, "page/build.mjs"), os.path.join(at, "build/node_semver.wasm"), os.path.join(out, f"denimscree-{version}-range.html"))
 
 
 def replace(path, old, new):

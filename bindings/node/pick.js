@@ -7,7 +7,7 @@ const { errorOf } = require('./internal/pick/errors.js');
 const { keyOf, STATUS } = require('./internal/pick/key.js');
 const { own } = require('./internal/pick/members.js');
 
-// The marks of a version, whose sum the native part returns.
+// The marks of a version, whose sum the library returns.
 const IS_AVOIDED = 1;
 const IS_OUTSIDE = 2;
 const IS_MAJOR = 4;

@@ -89,13 +89,13 @@ function omitsOf(omit) {
 const optionsOf = ({ defaultTag, before, nodeVersion, lock, steps = STEPS, omit, flat, lowest, lockfile }) =>
     ({ defaultTag, before, nodeVersion, lock, steps, omit, flat, lowest, lockfile });
 
-// The arguments of the native part after the manifest and the documents.
+// The arguments of the library after the manifest and the documents.
 const argumentsOf = ({ defaultTag, before, nodeVersion, lock, steps, omit, flat, lowest, lockfile }) => [
     String(defaultTag ?? ''), timeOf(before), versionOf(nodeVersion), lockOf(lock), stepsOf(steps), ...omitsOf(omit),
     ...marksOf({ flat, lowest, lockfile }),
 ];
 
-// An answer of the native part: a lock file begins with a line of its own.
+// An answer of the library: a lock file begins with a line of its own.
 const read = (answer) => (answer.startsWith('{\n') ? { outcome: 'selected', lockfile: answer } : JSON.parse(answer));
 
 // resolve(manifest, documents, options): the versions that fit together, or what cannot be installed together.

@@ -60,6 +60,8 @@ const asked = ranges(200);
 const many = versions(10000);
 const different = ranges(1).concat(Array.from({ length: 20000 }, (_, i) => `^${i % 7}.${i}.${i * 3}`));
 
+const hyphens = Array.from({ length: 20000 }, (_, i) => `${i % 7}.${i}.${i * 3} - ${i % 7 + 1}.${i % 5}`);
+
 // How many calls a row makes at once, and what makes them. `read` is a list of SemVers, `range` a Range.
 const each = (list, call) => [list.length, (semver) => {
     const one = call(semver);
@@ -93,6 +95,8 @@ const rows = {
     '`new Range`, 20,000 ranges': each(different, (s) => (range) => new s.Range(range)),
     '`validRange`, 200 ranges again and again': each(asked, (s) => (range) => s.validRange(range)),
     '`validRange`, 20,000 ranges': each(different, (s) => (range) => s.validRange(range)),
+    '`validRange`, 20,000 hyphen ranges': each(hyphens, (s) => (range) => s.validRange(range)),
+    '`new Range` and its `range`, 20,000 hyphen ranges': each(hyphens, (s) => (range) => new s.Range(range).range),
     '`new SemVer`': each(some, (s) => (version) => new s.SemVer(version)),
     '`new SemVer`, prereleases': each(previews, (s) => (version) => new s.SemVer(version)),
     '`valid`': each(some, (s) => (version) => s.valid(version)),

@@ -1,9 +1,9 @@
-// Notes in the file LOADED which native parts of the package a process has loaded.
+// Notes in the file LOADED which modules of the package a process has loaded.
 'use strict';
 
 process.on('exit', () => {
     for (const name of ['node_semver', 'npm_pick']) {
-        if (Object.keys(require.cache).some((file) => file.endsWith(`semver/build/Release/${name}.node`))) {
+        if (Object.keys(require.cache).some((file) => file.endsWith(`semver/internal/modules/read/${name}.js`))) {
             require('node:fs').appendFileSync(process.env.LOADED, `${name}\n`);
         }
     }

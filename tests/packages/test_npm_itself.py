@@ -3,7 +3,7 @@ This npm and npm's own run the same commands in the same projects, over a regist
 status and the files are the same.
 
 `npm_itself.projects` has the projects, in the form of the rows of programs: files, then commands, the status of the first one, and the
-native parts of the package that they load at least. Each command begins with what those before it have left."""
+modules of the package that they load at least. Each command begins with what those before it have left."""
 import difflib
 import fcntl
 import hashlib
@@ -21,17 +21,15 @@ PROJECTS = rows.read(os.path.join(HERE, "npm_itself.projects"))
 LIBRARIES = ["node_semver_c", "npm_pick_c", "npm_resolve_c"]
 # Packs the package for Node, in a folder, of a copy: other tests may build in its own. Then installs it.
 INSTALL = """
-libraries=("$1"/c/lib{node_semver,npm_pick,npm_resolve}.a)
-make -s -C bindings/c BUILD="$1/c" "${libraries[@]}"
-cp -R bindings/node "$1/node"
-rm -rf "$1"/node/{build,lib}
-mkdir "$1/node/lib" "$1/install"
-cp "${libraries[@]}" bindings/c/include/*.h "$1/node/lib"
-cp LICENSE "$1/node"
-cd "$1/node"
-npm pack --pack-destination "$1"
+mkdir -p "$1/bindings/wasm" "$1/install"
+make -s -C bindings/wasm BUILD="$1/bindings/wasm/build"
+cp -R bindings/node "$1/bindings/node"
+cp LICENSE "$1"
+cd "$1/bindings/node"
+node build.js --copy
+npm pack --ignore-scripts --pack-destination "$1"
 cd "$1/install"
-npm install --offline --no-audit --no-fund "$1"/*.tgz
+npm install --ignore-scripts --offline --no-audit --no-fund "$1"/*.tgz
 """
 PICK = {"package.json": '{"name": "npm-pick-manifest", "version": "9.1.0", "main": "index.js"}',
         "index.js": "module.exports = require('semver/pick')"}
@@ -130,7 +128,7 @@ def files(folder):
 
 
 def outcome(npm, project, room, address):
-    """What each command says and leaves, and the native parts that are loaded. Both npms work at the same place, one after the other."""
+    """What each command says and leaves, and the modules of the package that are loaded. Both npms work at the same place, one after the other."""
     home, folder, loaded = (os.path.join(room, name) for name in ("home", "home/project", "loaded"))
     shutil.rmtree(home, ignore_errors=True)
     os.makedirs(folder)

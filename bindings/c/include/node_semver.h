@@ -351,6 +351,11 @@ node_semver_status node_semver_range_least_common_with_prereleases(const node_se
 #define NODE_SEMVER_HAS_KEYS 1
 size_t node_semver_version_key(const node_semver_version *version, unsigned char *room, size_t size);
 
+/* Reads a version back from its key. It has no build, since the key has none. Returns NODE_SEMVER_NONE for bytes that are no key of a
+ * version. */
+#define NODE_SEMVER_HAS_VERSION_OF_KEY 1
+node_semver_status node_semver_version_of_key(const unsigned char *key, size_t length, node_semver_version *version);
+
 /* Intervals of keys. A handle as the other two are. */
 typedef struct node_semver_intervals {
     const void *at;

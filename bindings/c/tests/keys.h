@@ -37,6 +37,26 @@ static void run_key(const node_semver_version *version, struct answer *answer) {
     }
 }
 
+/* Writes the version that is read back from the key. A key without its last byte is none. */
+static void run_key_back(const node_semver_version *version, struct answer *answer) {
+    unsigned char key[600];
+    node_semver_version made = NODE_SEMVER_EMPTY, none = NODE_SEMVER_EMPTY;
+    size_t length = node_semver_version_key(version, key, sizeof key);
+    node_semver_status status = length == 0 ? NODE_SEMVER_OUT_OF_MEMORY : node_semver_version_of_key(key, length, &made);
+    if (status != NODE_SEMVER_OK) {
+        tell_status(answer, status, NULL);
+        return;
+    }
+    node_semver_status cut = node_semver_version_of_key(key, length - 1, &none);
+    if (cut == NODE_SEMVER_NONE) {
+        tell_version(answer, &made);
+    } else {
+        tell(answer, cut == NODE_SEMVER_OUT_OF_MEMORY ? "out of memory" : "a key without its last byte");
+    }
+    node_semver_version_free(made);
+    node_semver_version_free(none);
+}
+
 /* Writes each interval: its ends, and `p` if it is of prereleases. Past the last one nothing is written. */
 static void run_intervals(node_semver_status (*make)(const node_semver_range *, node_semver_intervals *),
                           const node_semver_range *range, struct answer *answer) {

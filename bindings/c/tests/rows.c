@@ -108,6 +108,8 @@ static void run(const struct row *row, struct answer *answer) {
         run_set(row->texts[1], &v[0], answer);
     } else if (strcmp(row->call, "key") == 0) {
         run_key(&v[0], answer);
+    } else if (strcmp(row->call, "key_back") == 0) {
+        run_key_back(&v[0], answer);
     } else if (strcmp(row->call, "intervals") == 0) {
         run_intervals(node_semver_range_intervals, &r[0], answer);
     } else if (strcmp(row->call, "intervals_with") == 0) {

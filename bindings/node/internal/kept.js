@@ -1,21 +1,18 @@
 // SPDX-License-Identifier: Apache-2.0
-// The ranges of the texts that were read last: the native part keeps them, by numbers of places.
+// The ranges of the texts that were read last: the library keeps them, by numbers of places.
 'use strict';
 
 const native = require('./native.js');
 const { trimmedRange } = require('./texts.js');
 
-// How many ranges of short texts the native part keeps, `PLACES` of src/binding.h, and the greatest length of such a text.
+// How many ranges of short texts are kept, at the first places, and the greatest length of such a text.
 const PLACES = 512;
 const LONGEST_SHORT = 128;
 
-// How many ranges of longer texts it keeps in another table, and how many characters these have in all. A text that has more is
-// read at each call. So no text takes memory that grows with the calls.
+// How many ranges of longer texts are kept, at the places after these, and how many characters these have in all. A text that has more
+// is read at each call. So no text takes memory that grows with the calls.
 const LONG_PLACES = 64;
 const MOST_CHARACTERS = 2 ** 18;
-
-// The places of this load of the package. The native part frees them with this object.
-const table = native.makeTable();
 
 const REFUSED = -1;
 
@@ -50,7 +47,7 @@ const textKey = (text, flags) => `${flags}${text}`;
 const textOfKey = (key) => key.slice(1);
 
 function keep(text, flags, isTrimmed) {
-    const place = table.first + next;
+    const place = next;
     const found = native.keep(place, isTrimmed ? text : trimmedRange(text), flags) ? place : REFUSED;
     prints.delete(place);
     newer[flags][text] = found;
@@ -64,9 +61,8 @@ function keep(text, flags, isTrimmed) {
 
 // ---- longer texts ----
 
-const longTable = native.makeTable();
 const longs = Array.from({ length: 4 }, () => new Map());
-const free = Array.from({ length: LONG_PLACES }, (_, i) => longTable.first + i);
+const free = Array.from({ length: LONG_PLACES }, (_, i) => PLACES + i);
 
 // The texts in the order in which they came, of which the oldest go first.
 const inOrder = new Set();
@@ -79,11 +75,8 @@ function forgetOldest() {
     characters -= entry.text.length;
     free.push(entry.place);
     prints.delete(entry.place);
-    native.keep(entry.place, NO_RANGE, 0);
+    native.forget(entry.place);
 }
-
-// A text that is no range, for which a place is made empty.
-const NO_RANGE = '\0';
 
 function keepLong(text, flags, isTrimmed) {
     if (text.length > MOST_CHARACTERS) {
@@ -92,8 +85,10 @@ function keepLong(text, flags, isTrimmed) {
     while (free.length === 0 || characters + text.length > MOST_CHARACTERS) {
         forgetOldest();
     }
-    const place = free.pop();
+    // The place is taken once the text is read: a call that throws takes none.
+    const place = free.at(-1);
     const found = native.keep(place, isTrimmed ? text : trimmedRange(text), flags) ? place : REFUSED;
+    free.pop();
     // A string of its own, for the same reason.
     const entry = { text: textOfKey(textKey(text, flags)), flags, place };
     longs[flags].set(entry.text, found);

@@ -1,6 +1,6 @@
 // SPDX-License-Identifier: Apache-2.0
-// Functions of a list of versions. Each element is read once, as npm does, before the native part is called. The list
-// crosses as one string or as bytes, a line for each version.
+// Functions of a list of versions. Each element is read once, as npm does, and before the library is called with all of them: so
+// nothing of a user's runs in between.
 'use strict';
 
 const native = require('./native.js');
@@ -9,18 +9,7 @@ const { callKey, rangeOf } = require('./range.js');
 const {
     SemVer, compareSemVersWithBuilds, compareVersions, compareWithBuilds, keyOfSemVer,
 } = require('./semver.js');
-const { LONGEST_VERSION, strictText, trimmedVersion } = require('./texts.js');
-
-// A string may have at most 2^29 characters. Versions with more are compared one by one.
-const MOST_LINES = 2 ** 28;
-
-// The line of a key, or `undefined` for a version that no text writes. A text of several lines is no version.
-function line(key) {
-    if (typeof key !== 'string') {
-        return undefined;
-    }
-    return key.includes('\n') ? '\n' : `${key}\n`;
-}
+const { strictText, trimmedVersion } = require('./texts.js');
 
 // ---- sort ----
 
@@ -54,17 +43,17 @@ function keyOf(version, options) {
     return parseOptions(options).loose ? strictText(key) || key : key;
 }
 
-// The lines of versions, or `undefined` if they cannot be written so.
-function linesOf(versions, options) {
-    let lines = '';
+// The keys of versions, or `undefined` where no text writes one.
+function keysOf(versions, options) {
+    const keys = [];
     for (let i = 0; i < versions.length; i++) {
-        const more = line(keyOf(versions[i], options));
-        if (more === undefined || lines.length > MOST_LINES) {
+        const key = keyOf(versions[i], options);
+        if (typeof key !== 'string') {
             return undefined;
         }
-        lines += more;
+        keys.push(key);
     }
-    return lines;
+    return keys;
 }
 
 const isVersion = (version) => typeof version === 'string' || version instanceof SemVer;
@@ -77,8 +66,8 @@ function placesInOrder(versions, options, isDescending) {
         return places.sort(isDescending ? (one, other) => compareSemVersWithBuilds(read[other], read[one])
             : (one, other) => compareSemVersWithBuilds(read[one], read[other]));
     }
-    const lines = versions.every(isVersion) ? linesOf(versions, options) : undefined;
-    const order = lines === undefined ? undefined : native.order(lines, isDescending);
+    const keys = versions.every(isVersion) ? keysOf(versions, options) : undefined;
+    const order = keys === undefined ? undefined : native.order(keys, isDescending);
     return typeof order === 'object' ? order : undefined;
 }
 
@@ -121,14 +110,6 @@ const rsort = (list, options) => sorted(list, options, true);
 
 // ---- the best ----
 
-// The lines that `native.best` reads: bytes, since to make one string of many takes longer.
-const ROOM = 2 ** 16;
-const MOST_ROOM = 2 ** 20;
-let room = new Uint8Array(ROOM);
-
-const NEWLINE = 10;
-const LAST_ASCII = 127;
-
 const { forEach, slice } = Array.prototype;
 
 // The elements that `forEach` passes. A plain array is copied, which takes less time; a place without an element is then
@@ -142,44 +123,7 @@ function elementsOf(versions) {
     return list;
 }
 
-// Makes room for so many bytes more.
-function makeRoom(length, more) {
-    const larger = new Uint8Array(2 * (length + more));
-    larger.set(room.subarray(0, length));
-    room = larger;
-}
-
-// Writes a line for each element, and returns how many bytes they are; -1 if one is no text, not ASCII, or has lines. Of a
-// text that is too long for a version one character too many is written.
-function writeLines(list) {
-    let bytes = room;
-    let at = 0;
-    for (let i = 0; i < list.length; i++) {
-        const text = list[i];
-        if (typeof text !== 'string') {
-            return -1;
-        }
-        const end = at + Math.min(text.length, LONGEST_VERSION + 1);
-        if (end >= bytes.length) {
-            makeRoom(at, end + 1 - at);
-            bytes = room;
-        }
-        for (let j = 0; at < end; j++, at++) {
-            const code = text.charCodeAt(j);
-            if (code > LAST_ASCII || code === NEWLINE) {
-                return -1;
-            }
-            bytes[at] = code;
-        }
-        bytes[at++] = NEWLINE;
-    }
-    return at;
-}
-
-const isLine = (text) => /^[\x00-\x09\x0b-\x7f]*$/.test(text);
-
-// The texts of the elements as `test` reads them, or `undefined` if one has none. A text that is not ASCII or has lines is
-// no version.
+// The texts of the elements as `test` reads them, or `undefined` if one has none. It may run code of a user.
 function testedTexts(list, options) {
     const texts = [];
     for (let i = 0; i < list.length; i++) {
@@ -187,7 +131,7 @@ function testedTexts(list, options) {
         if (typeof text !== 'string') {
             return undefined;
         }
-        texts.push(isLine(text) ? text : '');
+        texts.push(text);
     }
     return texts;
 }
@@ -210,18 +154,12 @@ function best(versions, range, options, isGreatest) {
         return null;
     }
     const list = elementsOf(versions);
-    let length = wanted.loose ? -1 : writeLines(list);
-    if (length < 0) {
-        const texts = testedTexts(list, options);
-        if (texts === undefined) {
-            return bestOf(list, wanted, options, isGreatest);
-        }
-        length = writeLines(texts);
+    const texts = testedTexts(list, options);
+    if (texts === undefined) {
+        return bestOf(list, wanted, options, isGreatest);
     }
-    const place = native.best(room, length, list.length, callKey(wanted), isGreatest);
-    if (room.length > MOST_ROOM) {
-        room = new Uint8Array(ROOM);
-    }
+    // The key last: to take it may run code of a user, and a place is the range's until the next range is kept.
+    const place = native.best(texts, callKey(wanted), isGreatest);
     return place < 0 ? null : list[place];
 }
 

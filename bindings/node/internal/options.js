@@ -5,7 +5,7 @@
 const NONE = Object.freeze({});
 const LOOSE = Object.freeze({ loose: true });
 
-// The options of a range text, as the native part knows them.
+// The options of a range text, as the library knows them.
 const INCLUDES_PRERELEASES = 1;
 const IS_LOOSE = 2;
 

@@ -223,18 +223,25 @@ function cutKeys({ kind, version }) {
 
 // The text of an object that is passed for a range. As with npm, a String is one, or whatever is trimmed and divided as
 // a string is.
-function textOfRange(range) {
-    if (range instanceof Range) {
-        return range.raw;
-    }
+function textOfObject(range) {
     if (range instanceof Comparator || isForeignComparator(range)) {
         return range.value;
     }
-    const text = isForeignRange(range) ? range.raw : range.trim().split(/\s+/).join(' ');
+    return range instanceof Range || isForeignRange(range) ? textOfRaw(range.raw) : range.trim().split(/\s+/).join(' ');
+}
+
+// The same, which is a text whatever a user has put into the object.
+function textOfRange(range) {
+    const text = textOfObject(range);
     if (typeof text !== 'string') {
         throw new TypeError(`Invalid range. Must be a string. Got type "${typeof range}".`);
     }
     return text;
+}
+
+// The text of a Range, which a user may have changed into something else.
+function textOfRaw(range) {
+    return typeof range === 'string' ? range : range.trim();
 }
 
 // The Range of an argument; `undefined` if it is none.

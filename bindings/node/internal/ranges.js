@@ -99,7 +99,7 @@ const intersects = (one, other, options) => new Range(one, options).intersects(n
 // The keys of two ranges. Throws where one is none.
 const both = (one, other, options) => [keyOfRange(new Range(one, options)), keyOfRange(new Range(other, options))];
 
-// The key that the native part makes of two ranges, or null. It makes none of more than 1,000,000 pairs of sets, since the time
+// The key that the library makes of two ranges, or null. It makes none of more than 1,000,000 pairs of sets, since the time
 // grows with them.
 function madeOf(call, one, other, options) {
     const key = call(...both(one, other, options));

@@ -31,7 +31,7 @@ function putNumbers(semVer, text, read) {
     }
 }
 
-// Puts the parts of a version, of whose text the native part has read this.
+// Puts the parts of a version, of whose text the library has read this.
 function putParts(semVer, text, read) {
     putNumbers(semVer, text, read);
     if (read & IS_TRIPLE) {
@@ -47,7 +47,7 @@ function putParts(semVer, text, read) {
     semVer.version = version;
 }
 
-// What no text writes: the objects that hold such versions.
+// What no text writes: the keys of such versions, and the text that their fields had.
 const held = new WeakMap();
 
 // Marks a constructor's call that passes a key, and not what a user passed.
@@ -83,7 +83,7 @@ class SemVer {
         this.raw = made === MADE ? native.versionText(key) : text;
         putParts(this, made === MADE ? this.raw : withoutV(key), read);
         if (made === MADE && typeof key !== 'string') {
-            held.set(this, key);
+            held.set(this, { key, text: textOf(this) });
         }
     }
 
@@ -170,7 +170,11 @@ const isWritten = ({ major, minor, patch }, text) => text.length <= LONGEST_VERS
 // The key of a SemVer, and its version; and the SemVer of a key, or null.
 function keyOfSemVer(semVer) {
     const text = textOf(semVer);
-    return isWritten(semVer, text) ? text : held.get(semVer) ?? text;
+    if (isWritten(semVer, text)) {
+        return text;
+    }
+    const own = held.get(semVer);
+    return own !== undefined && own.text === text ? own.key : text;
 }
 const semVerOfKey = (key, options) => (key === null ? null : new SemVer(key, options, MADE));
 

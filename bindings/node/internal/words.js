@@ -12,9 +12,9 @@ const { semVerOfKey } = require('./semver.js');
 const { withoutBuild } = require('./texts.js');
 
 // The kinds of cuts, by their numbers in node_semver.h.
-const [BEFORE, AFTER] = [1, 2];
+const [START, BEFORE, AFTER, END] = [0, 1, 2, 3];
 
-// The comparators of a set, of which the native part gives the kinds of its two cuts and the keys of their versions.
+// The comparators of a set, of which the library gives the kinds of its two cuts and the keys of their versions.
 function comparatorsOf([lower, from, upper, to], options) {
     if (lower === BEFORE && upper === AFTER && typeof from === 'string' && withoutBuild(from) === withoutBuild(to)) {
         return [comparatorOf('', semVerOfKey(from, options.loose), options)];
@@ -62,6 +62,17 @@ function isJoined(text, next) {
     return /(?:[<>]|(?<![v=])=)$/.test(text) && /^[v=]*[\dxX*]/.test(next);
 }
 
+// The comparators of a hyphen range in strict form, by the two cuts of its one set; `undefined` for another alternative, and where the
+// ends do not lie so. Where all words have to be comparators, the library reads one with a hyphen between two as nothing else.
+function comparatorsOfHyphen(alternative, cuts, flags, options) {
+    if (flags & IS_LOOSE || cuts.length !== 4 || !/^\S+ - \S+$/.test(alternative)) {
+        return undefined;
+    }
+    const [lower, from, upper, to] = cuts;
+    const areEnds = (lower === BEFORE || lower === AFTER) && (upper === BEFORE || upper === AFTER);
+    return areEnds ? [...comparatorsOf([lower, from, END, null], options), ...comparatorsOf([START, null, upper, to], options)] : undefined;
+}
+
 // The words of an alternative, as the library divides it. The two sides of a hyphen range are words, each with a star on
 // its other side.
 function wordsOf(alternative, flags) {
@@ -82,10 +93,15 @@ function wordsOf(alternative, flags) {
 
 // The comparators of an alternative; none if the library refuses it.
 function comparatorsOfText(alternative, flags, options) {
-    if (native.sets(textKey(alternative, flags)) === null) {
+    const cuts = native.sets(textKey(alternative, flags));
+    if (cuts === null) {
         return [];
     }
     const least = flags & INCLUDES_PRERELEASES ? '>=0.0.0-0' : '>=0.0.0';
+    const ends = comparatorsOfHyphen(alternative, cuts, flags, options);
+    if (ends !== undefined && ends[0].value !== least) {
+        return ends;
+    }
     const found = new Map();
     for (const word of wordsOf(alternative, flags)) {
         for (const comparator of comparatorsOfWord(word, flags, options)) {

@@ -1,54 +1,27 @@
 // SPDX-License-Identifier: Apache-2.0
-// Arguments that run code of their own while they are read, and objects of other packages. Each test has a process of
+// Arguments that run code of their own while they are read, and objects that have nothing. Each test has a process of
 // its own, since it could end it.
 'use strict';
 
 const assert = require('node:assert');
 const { spawnSync } = require('node:child_process');
-const fs = require('node:fs');
-const os = require('node:os');
 const path = require('node:path');
 const { describe, test } = require('node:test');
 
 const root = path.join(__dirname, '..');
 
-// Another package, whose externals point nowhere.
-const source = `
-    #include <node_api.h>
-    static napi_value external(napi_env env, napi_callback_info info) {
-        napi_value result = NULL;
-        (void)info;
-        napi_create_external(env, (void *)8, NULL, NULL, &result);
-        return result;
-    }
-    NAPI_MODULE_INIT() {
-        napi_value call = NULL;
-        napi_create_function(env, "external", NAPI_AUTO_LENGTH, external, NULL, &call);
-        return call;
-    }
-`;
-const room = fs.mkdtempSync(path.join(os.tmpdir(), 'attacks-'));
-const foreign = path.join(room, 'foreign.node');
-process.once('exit', () => fs.rmSync(room, { recursive: true }));
-const include = path.join(path.dirname(fs.realpathSync(process.execPath)), '../include/node');
-const { status, stderr } = spawnSync('cc', ['-shared', '-fPIC', `-I${include}`, '-x', 'c', '-', '-o', foreign],
-    { input: source, encoding: 'utf8' });
-assert.strictEqual(status, 0, stderr);
-
 // What a script writes with `say`, in a process of its own. `evict` makes each place of the kept ranges empty.
 function said(script) {
     const before = `
         const semver = require(${JSON.stringify(root)});
-        const native = require(${JSON.stringify(path.join(root, 'build/Release/node_semver.node'))});
+        const native = require(${JSON.stringify(path.join(root, 'internal/native.js'))});
         const say = (value) => process.stdout.write(JSON.stringify(value) + '\\n');
         const outcome = (call) => { try { return call(); } catch (error) { return error.constructor.name; } };
         const evict = () => { for (let i = 0; i < 600; i++) semver.validRange('foo' + i); };
-        const external = require(${JSON.stringify(foreign)})();
-        if (!require('node:util').types.isExternal(external)) throw new Error('no external');
+        const external = Object.freeze(Object.create(null));
     `;
-    // What is freed is written over, so that a use of it is seen.
     const { status, signal, stdout, stderr } = spawnSync(process.execPath, ['--expose-gc', '-e', before + script],
-        { encoding: 'utf8', env: { ...process.env, MALLOC_PERTURB_: '165' } });
+        { encoding: 'utf8' });
     assert.deepStrictEqual({ status, signal }, { status: 0, signal: null }, stderr);
     return stdout.trim().split('\n').filter(Boolean).map((text) => JSON.parse(text));
 }
@@ -90,7 +63,7 @@ describe('the process goes on', () => {
             say(range.sets.length);
         `), [3]);
     });
-    test("a list's own methods return an external of another package", () => {
+    test("a list's own methods return an object that has nothing", () => {
         assert.deepStrictEqual(said(`
             for (const name of ['filter', 'map', 'forEach', 'sort', 'push', 'slice', 'concat']) {
                 const list = ['1.0.0', '2.0.0', '0.1.0'];
@@ -102,7 +75,7 @@ describe('the process goes on', () => {
             say(semver.sort(['2.0.0', '1.0.0']));
         `), [['1.0.0', '2.0.0']]);
     });
-    test('an external of another package stands for each argument', () => {
+    test('an object that has nothing stands for each argument', () => {
         const [results] = said(`
             const list = { forEach: (call) => call(external) };
             say(Object.entries(semver).filter(([name]) => name !== 'RELEASE_TYPES').flatMap(([, call]) => [
@@ -132,7 +105,7 @@ describe('the process goes on', () => {
             say(semver.satisfies('1.2.3', '^1'));
         `);
     });
-    test('the native part is called with anything', () => {
+    test('the calls of the library get anything', () => {
         const [count] = said(`
             const version = native.leastBeyond('0>1.2.9007199254740991', '0<1');
             const range = native.fromSets([1, version, 3, null]);
@@ -150,15 +123,14 @@ describe('the process goes on', () => {
             for (const [name, call] of Object.entries(native)) {
                 if (typeof call !== 'function') continue;
                 outcome(() => call());
-                if (name === 'makeTable') continue;
                 for (const one of values) {
                     outcome(() => call(one));
                     for (const other of values) {
                         outcome(() => call(one, other));
                         outcome(() => call(one, other, true));
-                        outcome(() => call(one, 64, 64, other, true));
-                        outcome(() => call(one, other, 3, '0^1', false));
-                        outcome(() => call(one, 4294967295, other, '0^1', true));
+                        outcome(() => call([one], other, true));
+                        outcome(() => call([one, other], '0^1', false));
+                        outcome(() => call(other, [one], one, other));
                         outcome(() => call(one, other, 3, 0));
                         count++;
                     }
@@ -169,31 +141,12 @@ describe('the process goes on', () => {
         `);
         assert.ok(count > 20000, `${count} calls`);
     });
-    test('another thread cannot write the lines of a list as they are read', () => {
-        assert.deepStrictEqual(said(`
-            const shared = new Uint8Array(new SharedArrayBuffer(1 << 20)).fill(10);
-            const lines = (bytes) => outcome(() => native.best(bytes, 6, 1, '0^1', true));
-            shared.set(Buffer.from('1.2.3\\n'));
-            say([lines(shared), lines(Uint8Array.from(shared)), lines(new Uint8Array(new ArrayBuffer(8, { maxByteLength: 16 })))]);
-            const { Worker } = require('node:worker_threads');
-            const worker = new Worker(\`
-                const { workerData } = require('node:worker_threads');
-                for (;;) for (let i = 0; i < workerData.length; i++) Atomics.store(workerData, i, i % 2 ? 10 : 49);
-            \`, { eval: true, workerData: shared });
-            worker.once('online', () => {
-                for (let i = 0; i < 2000; i++) {
-                    for (let lines = 0; lines < 4; lines++) outcome(() => native.best(shared, 1 << 18, lines, '0*', true));
-                }
-                process.exit();
-            });
-        `), [['TypeError', 0, -1]]);
-    });
-    test('no memory of the native part is seen by JavaScript, which could transfer it', () => {
+    test('no memory of the library is seen by JavaScript, which could write to it', () => {
         assert.deepStrictEqual(said(`
             const seen = Object.values(native).filter((value) => typeof value !== 'function');
-            for (const value of seen) structuredClone(value.buffer, { transfer: [value.buffer] });
-            say([seen.length, new semver.SemVer('1.2.3').minor, new semver.SemVer('4.5.65536-rc').patch]);
-        `), [[0, 2, 65536]]);
+            const given = semver.key('1.2.3').buffer.byteLength + semver.Range.fromSets(new semver.Range('1').sets).intervals()[0].lower.buffer.byteLength;
+            say([seen.length, given < 1 << 17]);
+        `), [[0, true]]);
     });
     test('a version is passed for a range, and a range for a version', () => {
         assert.deepStrictEqual(said(`

@@ -16,7 +16,7 @@ const root = path.join(__dirname, '..');
 // The package, whose JavaScript is loaded anew.
 function loadAgain() {
     const kept = { ...require.cache };
-    Object.keys(require.cache).filter((file) => file.startsWith(root) && !file.endsWith('.node'))
+    Object.keys(require.cache).filter((file) => file.startsWith(root))
         .forEach((file) => { delete require.cache[file]; });
     const again = require('..');
     Object.assign(require.cache, kept);

@@ -1,12 +1,11 @@
 // SPDX-License-Identifier: Apache-2.0
-// The package is loaded again and again, as by a test runner with a module registry for each file; and it is loaded where
-// its native part is not there.
+// The package is loaded again and again, as by a test runner with a module registry for each file; by modules; and with options of Node
+// that forbid what it does not need.
 'use strict';
 
 const assert = require('node:assert');
 const { spawnSync } = require('node:child_process');
 const fs = require('node:fs');
-const os = require('node:os');
 const path = require('node:path');
 const { test } = require('node:test');
 const { setImmediate: turn } = require('node:timers/promises');
@@ -15,18 +14,17 @@ const root = path.join(__dirname, '..');
 const { name } = require('../package.json');
 const inside = (file) => file.startsWith(root + path.sep) && !file.startsWith(__dirname + path.sep);
 
-// The package, whose JavaScript is loaded anew, over the native part that is there or over one that is loaded anew.
-function load(isNativeAnew) {
-    Object.keys(require.cache).filter((file) => inside(file) && (isNativeAnew || !file.endsWith('.node')))
-        .forEach((file) => { delete require.cache[file]; });
+// The package, loaded anew.
+function load() {
+    Object.keys(require.cache).filter(inside).forEach((file) => { delete require.cache[file]; });
     module.children.length = 0;
     return require('..');
 }
 
 const range = (i) => `^1.${i}.0 || >=3.0.0-rc.${i} <4`;
 
-test('loads over one native part keep their ranges apart', () => {
-    const loads = Array.from({ length: 5 }, () => load(false));
+test('loads keep their ranges apart', () => {
+    const loads = Array.from({ length: 5 }, load);
     assert.strictEqual(new Set(loads.map(({ satisfies }) => satisfies)).size, 5);
     for (let i = 0; i < 2000; i++) {
         loads.forEach(({ satisfies, validRange }, j) => {
@@ -36,17 +34,18 @@ test('loads over one native part keep their ranges apart', () => {
     }
 });
 
-const LOADS = 1500;
+const LOADS = 300;
+const MOST = 60 << 20;
 
 // How many bytes the process has more after so many loads than after a third of them.
-async function growth(isNativeAnew) {
+async function growth() {
     const loop = async (times) => {
         for (let i = 0; i < times; i++) {
-            const semver = load(isNativeAnew);
+            const semver = load();
             semver.satisfies('1.2.3', range(i));
             semver.maxSatisfying(['1.2.3', '1.4.0'], new semver.Range(range(i)));
             semver.sort([semver.inc('1.2.3', 'patch'), '1.0.0']);
-            if (i % 50 === 0) {
+            if (i % 20 === 0) {
                 globalThis.gc();
                 await turn();
             }
@@ -59,99 +58,40 @@ async function growth(isNativeAnew) {
     return await loop(2 * LOADS / 3) - before;
 }
 
-const MOST = 30 << 20;
+test(`${LOADS} loads`, async () => {
+    const grown = await growth();
+    assert.ok(grown < MOST, `${grown} bytes more`);
+});
 
-for (const isNativeAnew of [false, true]) {
-    test(`${LOADS} loads${isNativeAnew ? ' of the native part' : ''}`, async () => {
-        const grown = await growth(isNativeAnew);
-        assert.ok(grown < MOST, `${grown} bytes more`);
-    });
-}
-
-// What a process says that loads the package of a folder.
-function said(folder, ...options) {
-    const { stderr } = spawnSync(process.execPath, [...options, '-e', `require(${JSON.stringify(folder)})`],
-        { encoding: 'utf8' });
-    return stderr;
-}
-
-// Calls with a copy of the package that has no native parts.
-function withCopy(call) {
-    const room = fs.mkdtempSync(path.join(os.tmpdir(), 'loads-'));
-    try {
-        ['index.js', 'pick.js', 'resolve.js', 'internal', 'package.json'].forEach((name) =>
-            fs.cpSync(path.join(root, name), path.join(room, name), { recursive: true }));
-        call(room);
-    } finally {
-        fs.rmSync(room, { recursive: true });
-    }
-}
-
-const native = (name) => Object.keys(require.cache).find((file) => file.endsWith(`${path.sep}${name}`))
-    ?? path.join(root, 'build/Release', name);
-
-// Puts native parts into a folder of a copy: those that are there, or files that are none.
-function put(room, folder, areLoadable) {
-    fs.mkdirSync(path.join(room, folder), { recursive: true });
-    for (const name of ['node_semver.node', 'npm_pick.node', 'npm_resolve.node']) {
-        const file = path.join(room, folder, name);
-        if (areLoadable) {
-            fs.copyFileSync(native(name), file);
-        } else {
-            fs.writeFileSync(file, 'no library');
-        }
-    }
-}
-
-test('a package that was installed without its scripts says what to do', () => withCopy((room) => {
-    for (const module of ['', '/pick.js', '/resolve.js']) {
-        const text = said(room + module);
-        assert.ok(text.includes(`npm rebuild ${name}`) && text.includes('--ignore-scripts'), text);
-        assert.ok(text.includes("code: 'MODULE_NOT_FOUND'"), text);
-    }
-}));
-
-// A Node that says that it is another one.
-const FOREIGN = {
-    'linux on arm64': "Object.defineProperty(process, 'arch', { value: 'arm64' });",
-    'darwin on x64': "Object.defineProperty(process, 'platform', { value: 'darwin' });",
-    'linux on x64 without glibc': "process.report.getReport = () => ({ header: {} });",
-};
-test('a machine that the package is not for is named', () => withCopy((room) => {
-    for (const [machine, script] of Object.entries(FOREIGN)) {
-        fs.writeFileSync(path.join(room, 'foreign.js'), script);
-        for (const module of ['', '/pick.js', '/resolve.js']) {
-            const text = said(room + module, '--require', path.join(room, 'foreign.js'));
-            assert.ok(text.includes(`is not loaded. It is for linux on x64 with glibc, and this Node is for ${machine}. (`), text);
-            assert.ok(text.includes("code: 'MODULE_NOT_FOUND'") && !text.includes('npm rebuild'), text);
-        }
-    }
-}));
-
-const prebuilt = `prebuilt/${process.platform}-${process.arch}`;
-const uses = (room) => spawnSync(process.execPath, ['-e', `
-    const semver = require(${JSON.stringify(room)});
-    const pick = require(${JSON.stringify(`${room}/pick.js`)});
-    const resolve = require(${JSON.stringify(`${room}/resolve.js`)});
+const USES = `
+    const semver = require('.');
+    const pick = require('./pick.js');
+    const resolve = require('./resolve.js');
     console.log(semver.satisfies('1.9.0', '^1.2'), pick({ versions: { '1.9.0': { version: '1.9.0' } } }, '^1').version,
         resolve({}, {}).outcome);
-`], { encoding: 'utf8' }).stdout;
+`;
+const said = (...words) => {
+    const { stdout, stderr } = spawnSync(process.execPath, words, { cwd: root, encoding: 'utf8' });
+    return stdout || stderr;
+};
 
-test('native parts in `prebuilt` are found without an install script', () => {
-    withCopy((room) => {
-        put(room, prebuilt, true);
-        assert.strictEqual(uses(room), 'true 1.9.0 selected\n');
-    });
-    withCopy((room) => {
-        put(room, prebuilt, true);
-        put(room, 'build/Release', false);
-        assert.strictEqual(uses(room), 'true 1.9.0 selected\n');
-    });
-    withCopy((room) => {
-        put(room, prebuilt, false);
-        const text = said(room);
-        assert.ok(text.includes('the native part is not loaded') && text.includes("code: 'ERR_DLOPEN_FAILED'"), text);
-    });
+for (const option of ['--no-addons', '--disallow-code-generation-from-strings', '--frozen-intrinsics', '--disable-proto=throw']) {
+    test(`Node with ${option}`, () => assert.match(said(option, '-e', USES), /^true 1\.9\.0 selected\n/));
+}
+
+test('a worker thread that has nothing of its parent', () => {
+    assert.strictEqual(said('-e', `new (require('node:worker_threads').Worker)(${JSON.stringify(USES)}, { eval: true, env: {} });`),
+        'true 1.9.0 selected\n');
+});
+
+test('nothing is run when the package is installed, and it is for each machine', () => {
+    const { scripts, os, cpu, libc, dependencies, imports } = require('../package.json');
+    assert.deepStrictEqual([os, cpu, libc, dependencies, scripts.install, scripts.preinstall, scripts.postinstall], Array(7).fill(undefined));
+    for (const conditions of Object.values(imports)) {
+        for (const file of Object.values(conditions)) {
+            assert.ok(fs.existsSync(path.join(root, file)), file);
+        }
+    }
 });
 
 test('each name can be imported by a module', () => {
@@ -180,35 +120,4 @@ test('each file of a function or a class can be imported by a module', async () 
             }
         }
     }
-});
-
-// Debian's package esbuild.
-test('a bundle that leaves the package out', () => {
-    const room = fs.mkdtempSync(path.join(os.tmpdir(), 'bundle-'));
-    try {
-        fs.mkdirSync(path.join(room, 'node_modules'));
-        fs.symlinkSync(root, path.join(room, 'node_modules', name));
-        fs.writeFileSync(path.join(room, 'app.js'), `import { satisfies } from '${name}';\nconsole.log(satisfies('1.9.0', '^1.2'));\n`);
-        const bundle = (...more) => {
-            fs.rmSync(path.join(room, 'out'), { recursive: true, force: true });
-            const words = ['app.js', '--bundle', '--platform=node', '--outfile=out/app.js', '--log-level=error', ...more];
-            const { status, stderr, error } = spawnSync('esbuild', words, { cwd: room, encoding: 'utf8' });
-            assert.strictEqual(error, undefined, 'there is no esbuild: apt-get install esbuild');
-            assert.deepStrictEqual({ status, stderr }, { status: 0, stderr: '' });
-            return spawnSync(process.execPath, ['out/app.js'], { cwd: room, encoding: 'utf8' });
-        };
-        assert.strictEqual(bundle(`--external:${name}`).stdout, 'true\n');
-        fs.writeFileSync(path.join(room, 'package.json'), '{"type": "module"}');
-        assert.strictEqual(bundle(`--external:${name}`, '--format=esm').stdout, 'true\n');
-        fs.rmSync(path.join(room, 'package.json'));
-        const text = bundle().stderr;
-        assert.ok(text.includes('a bundler has to leave this package out'), text);
-    } finally {
-        fs.rmSync(room, { recursive: true });
-    }
-});
-
-test('Node without native parts says what it lacks', () => {
-    const text = said(root, '--no-addons');
-    assert.ok(text.includes('--no-addons') && text.includes("code: 'ERR_DLOPEN_DISABLED'"), text);
 });

@@ -1,6 +1,6 @@
 // SPDX-License-Identifier: Apache-2.0
 // Long texts in each function that reads one: each call returns, or throws a TypeError, and the work on texts is
-// linear. Counted are the calls of the native part and of the methods of strings and of regular expressions, each with the
+// linear. Counted are the calls of the library and of the methods of strings and of regular expressions, each with the
 // characters that it gets. `npm run speed -- long` measures the time.
 'use strict';
 

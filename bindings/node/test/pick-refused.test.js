@@ -1,15 +1,13 @@
 // SPDX-License-Identifier: Apache-2.0
-// Each allocation of each call of `pick` refused in turn, alone and with all that follow. The native part is built with
-// refused/refused.c for this.
+// Each request for memory of each call of `pick` refused in turn.
 'use strict';
 
 const path = require('node:path');
 const { build, testEach } = require('./refused/refuse.js');
 const { large } = require('./documents.js');
 
-const room = build('pick/pick.c', [], 'npm_pick');
-const pick = require(path.join(room, 'pick.js'));
-const native = require(path.join(room, 'build/Release/npm_pick.node'));
+const copy = build('npm_pick');
+const pick = require(path.join(copy.room, 'pick.js'));
 
 const long = `1.0.0-${'a'.repeat(400)}`;
 const document = large(12);
@@ -28,7 +26,7 @@ function told(wanted, options) {
     }
 }
 
-testEach(native, {
+testEach(copy, {
     'a range': () => told('^1'),
     'a range without the version of `latest`': () => told('~2.0'),
     'a version': () => told('=v1.0.1'),
@@ -39,4 +37,4 @@ testEach(native, {
     'published before a day': () => told('*', { before: '2015-01-01T03:00:00.000Z' }),
     'a range with none': () => told('^9'),
     'no range and no tag': () => told('a b'),
-}, 400);
+}, 200);

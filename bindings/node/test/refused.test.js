@@ -1,18 +1,17 @@
 // SPDX-License-Identifier: Apache-2.0
-// Each allocation of each call refused in turn, alone and with all that follow: the call throws `ERR_MEMORY_ALLOCATION_FAILED` or returns what it
-// returns otherwise, loses no block, and may be made again. The native part is built with refused/refused.c for this.
+// Each request for memory of each call refused in turn: the call throws `ERR_MEMORY_ALLOCATION_FAILED` or returns what it returns
+// otherwise, loses no block, and may be made again.
 'use strict';
 
 const assert = require('node:assert');
-const fs = require('node:fs');
 const path = require('node:path');
 const { test } = require('node:test');
-const { build, outcome, root, testEach } = require('./refused/refuse.js');
+const { build, outcome, refuse, testEach } = require('./refused/refuse.js');
 
-const sources = fs.readdirSync(path.join(root, 'src')).filter((file) => file.endsWith('.c') && file !== 'module.c');
-const room = build('module.c', sources, 'node_semver');
-const semver = require(room);
-const native = require(path.join(room, 'build/Release/node_semver.node'));
+const copy = build('node_semver');
+const semver = require(copy.room);
+const native = require(path.join(copy.room, 'internal/native.js'));
+semver.valid('1.2.3');
 
 const long = '^1.2.3-alpha.1 || '.repeat(40) + '>=2.0.0-rc.1';
 const ranges = ['>=1.2.3-rc.4.a.b <2.0.0-beta.9+c || 5.x || 7.1.2-x', long].map((text) => new semver.Range(text));
@@ -70,7 +69,6 @@ const calls = {
     intersects: () => semver.intersects(ranges[0], ranges[1]),
     'intersect, many sets': () => semver.intersect(many, many).sets.length,
     'intersect, many sets, printed': () => semver.intersect(many, many).raw,
-    'the table of the ranges that are kept': () => typeof native.makeTable().first,
 };
 
 function rethrown(error) {
@@ -80,15 +78,27 @@ function rethrown(error) {
     throw error;
 }
 
-testEach(native, calls, 600);
+testEach(copy, calls, 300);
 
-test('a range is not kept if memory runs out as it is read', async () => {
-    for (let count = 0; count < 3; count++) {
-        const text = `>=1.2.3-rc.${count}.a.b <2`;
-        native.refuse(count, true);
+test('a range is not kept if memory runs out as it is read', () => {
+    for (let n = 1; n < 5; n++) {
+        const text = `>=1.2.3-rc.${n}.a.b <2`;
+        refuse(copy, n);
         outcome(() => semver.satisfies('1.2.3', text));
-        native.refuse(-1, false);
+        refuse(copy, 0);
         assert.strictEqual(semver.satisfies('1.2.3', text), true);
         assert.strictEqual(semver.satisfies('2.2.3', text), false);
     }
+});
+
+test('a long range takes no place if memory runs out as it is read', () => {
+    const text = (i) => `${'>=1.2.3 '.repeat(20)}<2.${i}.0`;
+    for (let i = 0; i < 130; i++) {
+        semver.valid('1.2.3');
+        refuse(copy, 1);
+        assert.throws(() => new semver.Range(text(i)), { code: 'ERR_MEMORY_ALLOCATION_FAILED' });
+        refuse(copy, 0);
+    }
+    assert.strictEqual(semver.validRange(text(0)), '>=1.2.3 <2.0.0');
+    assert.strictEqual(semver.maxSatisfying(['1.2.3', '1.9.0', '2.0.0'], text(1)), '2.0.0');
 });

@@ -1,15 +1,13 @@
 // SPDX-License-Identifier: Apache-2.0
-// Each allocation of each call of `resolve` refused in turn, alone and with all that follow. The native part is built with
-// refused/refused.c for this.
+// Each request for memory of each call of `resolve` refused in turn.
 'use strict';
 
 const path = require('node:path');
 const { build, testEach } = require('./refused/refuse.js');
 const { react, tree } = require('./resolve-rows.json');
 
-const room = build('resolve/resolve.c', [], 'npm_resolve');
-const resolve = require(path.join(room, 'resolve.js'));
-const native = require(path.join(room, 'build/Release/npm_resolve.node'));
+const copy = build('npm_resolve');
+const resolve = require(path.join(copy.room, 'resolve.js'));
 
 const asks = (dependencies) => ({ dependencies });
 
@@ -25,7 +23,7 @@ function told(...asked) {
     }
 }
 
-testEach(native, {
+testEach(copy, {
     'versions that fit together': () => told(asks({ react: '^18', 'react-hot': '*' }), react),
     'with options': () => told(asks({ 'react-hot': '*' }), react, { defaultTag: 'old', before: '2023-01-01', omit: 'dev' }),
     'none that do': () => told(asks({ react: '^18', 'react-hot': '^4' }), react),
@@ -37,4 +35,4 @@ testEach(native, {
     'no steps': () => told(asks({ react: '*' }), react, { steps: 0 }),
     'no manifest': () => told(7, react),
     'no documents': () => told(asks({ react: '*' }), 7),
-}, 700);
+}, 350);

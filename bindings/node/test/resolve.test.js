@@ -200,11 +200,11 @@ test('the arguments are not changed', () => {
     assert.strictEqual(resolve(manifest, documents).outcome, 'selected');
 });
 
-test('the native part is loaded by nothing else', () => {
+test('its module is loaded by nothing else', () => {
     const script = `
         require(${JSON.stringify(root)});
         require(${JSON.stringify(path.join(root, 'pick.js'))});
-        const loaded = () => Object.keys(require.cache).some((file) => file.endsWith('npm_resolve.node'));
+        const loaded = () => Object.keys(require.cache).some((file) => file.endsWith('modules/read/npm_resolve.js'));
         console.log(loaded(), typeof require(${JSON.stringify(path.join(root, 'resolve.js'))}), loaded());
     `;
     assert.strictEqual(spawnSync(process.execPath, ['-e', script], { encoding: 'utf8' }).stdout, 'false function true\n');

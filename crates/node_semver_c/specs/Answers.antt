@@ -12,6 +12,7 @@ use Rattle.semver_cuts.specs.CommonSpans.{common_spans}
 use Rattle.semver_cuts.specs.Ends.{Ends}
 use Rattle.semver_cuts.specs.Difference.{AreDifference}
 use Rattle.semver_cuts.specs.Sharing.{ShareCut}
+use Rattle.semver_keys.specs.VersionOfKey.{IsNoKey, IsVersionOfKey}
 use Rattle.semver_texts.specs.Comparison.{version_cmp}
 use Rattle.semver_sets.specs.Meaning.{RangeAdmits}
 use Rattle.semver_sets.specs.Merging.{AreSetsOfText}
@@ -147,6 +148,11 @@ pub record IsCoercion (rtl : Bool) (text : List ℕ) (answer : Option VersionVal
 pub record IsFullCoercion (rtl : Bool) (text : List ℕ) (answer : Option VersionValue) : Type 0 where
   pub found : IfSome answer (IsCoercedWithPrerelease rtl text)
   pub none : IfNone answer ((v : VersionValue) → ¬ IsCoercedWithPrerelease rtl text v)
+
+-- the result of `semver_keys::version_of_key`
+pub record IsReadBack (key : List ℕ) (answer : Option VersionValue) : Type 0 where
+  pub version : IfSome answer (IsVersionOfKey key)
+  pub none : IfNone answer (IsNoKey key)
 
 -- ---- the same calls with prereleases included
 

@@ -1,6 +1,6 @@
-//! Exports of the keys of versions, and of the intervals of keys that a range is.
+//! Exports of the keys of versions, which are also read back, and of the intervals of keys that a range is.
 ghost use Rattle.std.specs.Prelude.{◌≡◌, ◌<◌, ◌≤◌, IsTrue, None, length, slice_index_or};
-ghost use Rattle.node_semver_c.specs.Answers.{IsMade};
+ghost use Rattle.node_semver_c.specs.Answers.{IsFound, IsMade, IsReadBack};
 ghost use Rattle.node_semver_c.specs.Keys.{no_interval};
 ghost use Rattle.node_semver_c.specs.Printed.{IsPrinted, IsPut};
 ghost use Rattle.semver_keys.specs.Intervals.{AreFew, AreInOrder, AreIntervalsOf, AreIntervalsOfBoth};
@@ -9,11 +9,13 @@ ghost use Rattle.semver_sets.specs.Meaning.{RangeAdmits, RangeContains};
 
 use crate::handle::intervals::{IntervalsHandle, IntervalsRef};
 use crate::handle::range::RangeRef;
-use crate::handle::version::VersionRef;
+use crate::handle::version::{VersionHandle, VersionRef};
 use crate::intervals::Intervals;
-use crate::status::{OUT_OF_MEMORY, keep_intervals};
+use crate::status::{OUT_OF_MEMORY, keep_intervals, keep_version_found};
 use crate::text::{copy, put_bytes};
-use semver_keys::{KeyInterval, range_intervals, range_intervals_with_prereleases, version_key};
+use semver_keys::{
+    KeyInterval, range_intervals, range_intervals_with_prereleases, version_key, version_of_key,
+};
 use std::alloc::Global;
 
 /// `semver_keys::version_key`: writes the key.
@@ -26,6 +28,22 @@ pub extern "C" fn node_semver_version_key(
     ensures key { IsPrinted (Keys.version_key version.now.value) room.old room.new result }
 {
     put_bytes(version_key(alloc, version.get()), room)
+}
+
+/// `semver_keys::version_of_key`: puts the version of a key into the handle.
+#[unsafe(no_mangle)]
+pub extern "C" fn node_semver_version_of_key(
+    alloc: Global,
+    key: &[u8],
+    answer: &mut VersionHandle,
+) -> u32
+    requires empty { answer.old.value ≡ None }
+    ensures { IsFound (IsReadBack key.now) result answer.new.value }
+{
+    match version_of_key(alloc, key) {
+        Ok(found) => keep_version_found(alloc, found, answer),
+        Err(_) => OUT_OF_MEMORY,
+    }
 }
 
 /// `semver_keys::range_intervals`: puts the intervals into the handle.

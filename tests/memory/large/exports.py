@@ -172,6 +172,11 @@ class Exports:
         self.free("version", version)
         return said
 
+    def version_of_key(self, numbers):
+        """The print of the version that is read back from a key, whose bytes are given as numbers."""
+        key = bytes(map(int, numbers.split()))
+        return self.printed("version", "version_of_key", key, ctypes.c_size_t(len(key)))
+
     def intervals(self, text, call="range_intervals"):
         """The ends of the intervals of a range, and `p` for those of prereleases."""
         wanted = self.made("range", "range_parse", text)
@@ -219,5 +224,6 @@ class Exports:
                   "Identifiers::to_vec": lambda text: self.identifiers("pre_release", text),
                   "build_print": lambda text: self.identifiers("build", text),
                   "Range::satisfies, read anew": self.satisfies, "key": self.key, "intervals": self.intervals,
+                  "semver_keys::version_of_key": self.version_of_key,
                   "intervals, with prereleases": self.included_intervals}
         return others[name](*words) if name in others else None

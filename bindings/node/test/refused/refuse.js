@@ -1,34 +1,40 @@
 // SPDX-License-Identifier: Apache-2.0
-// A copy of the package whose native part refuses allocations, and a test of each of some calls.
+// A copy of the package over modules whose heap refuses requests, and a test of each of some calls.
 'use strict';
 
 const assert = require('node:assert');
-const { spawnSync } = require('node:child_process');
 const fs = require('node:fs');
 const os = require('node:os');
 const path = require('node:path');
 const { test } = require('node:test');
-const { setImmediate: turn } = require('node:timers/promises');
 
 const root = path.join(__dirname, '../..');
 
-// Builds a native part with refused.c in a copy of the package, and returns its folder. `native` is the source with the
-// exports, `sources` are the others, and `made` is the name of the native part and of its library.
-function build(native, sources, made) {
+// The modules of `make -C bindings/wasm` for tests: in the clone that this folder is in, or where the variable says.
+const TESTED = process.env.DENIMSCREE_TESTED_WASM ?? path.join(root, '../wasm/build/tested');
+
+// A folder with a copy of the package over the tested modules, and what each instance of one of them exports.
+function build(name) {
     const room = fs.mkdtempSync(path.join(os.tmpdir(), 'refused-'));
     process.once('exit', () => fs.rmSync(room, { recursive: true }));
-    for (const name of ['index.js', 'pick.js', 'resolve.js', 'package.json', 'internal', 'build/Release']) {
-        fs.cpSync(path.join(root, name), path.join(room, name), { recursive: true });
+    for (const file of ['index.js', 'pick.js', 'resolve.js', 'package.json', 'internal']) {
+        fs.cpSync(path.join(root, file), path.join(room, file), { recursive: true });
     }
-    const include = path.join(path.dirname(fs.realpathSync(process.execPath)), '../include/node');
-    const { status, stderr } = spawnSync('cc', ['-shared', '-fPIC', '-std=c11', '-DNAPI_VERSION=8', `-I${include}`,
-        `-I${path.join(root, 'lib')}`, `-DNATIVE="../../src/${native}"`, ...sources.map((file) => path.join(root, 'src', file)),
-        path.join(__dirname, 'refused.c'), path.join(root, `lib/lib${made}.a`), '-Wl,--exclude-libs,ALL',
-        ...['malloc', 'calloc', 'realloc', 'free'].map((name) => `-Wl,--wrap=${name}`),
-        '-o', path.join(room, `build/Release/${made}.node`)], { encoding: 'utf8' });
-    assert.strictEqual(status, 0, stderr);
-    return room;
+    fs.cpSync(TESTED, path.join(room, 'wasm'), { recursive: true });
+    const instances = [];
+    const { Instance } = WebAssembly;
+    WebAssembly.Instance = function (...given) {
+        const instance = new Instance(...given);
+        if (Object.keys(instance.exports).some((one) => one.startsWith(name))) {
+            instances.push(instance.exports);
+        }
+        return instance;
+    };
+    return { room, instances };
 }
+
+// The n-th request from now on is refused, in the instance that there is; 0: none.
+const refuse = ({ instances }, n) => instances.at(-1).heap_refuse(n);
 
 // What the call returns, or `undefined` if it says that memory ran out.
 function outcome(call) {
@@ -40,45 +46,42 @@ function outcome(call) {
     }
 }
 
-// The blocks that are left when all objects are freed that nothing uses.
-async function blocks({ refuse }) {
-    for (let i = 0; i < 3; i++) {
-        globalThis.gc();
-        await turn();
-    }
-    return refuse(-1, false);
-}
-
-// Makes the call until no allocation is refused, and returns how many were.
-function refuseEach({ refuse, refusals }, call, expected, isOne) {
-    for (let count = 0; ; count++) {
-        refuse(count, isOne);
+// Makes the call with each of its requests refused in turn, and returns how many there were. After one that was refused the call
+// returns what it does, from a new instance.
+function refuseEach(copy, call, expected) {
+    for (let n = 1; ; n++) {
+        const before = copy.instances.length;
+        refuse(copy, n);
         const result = outcome(call);
-        const isRefused = refusals() > 0;
-        refuse(-1, false);
-        assert.ok(result !== undefined || isRefused, `${count} allocations`);
+        const isRefused = copy.instances.length === before && copy.instances.at(-1).heap_requests() >= n;
+        refuse(copy, 0);
+        assert.ok(result !== undefined || isRefused, `request ${n}`);
         if (result !== undefined) {
-            assert.deepStrictEqual(result, expected, `${count} allocations`);
+            assert.deepStrictEqual(result, expected, `request ${n}`);
         }
-        assert.deepStrictEqual(call(), expected, `after ${count} allocations`);
+        assert.deepStrictEqual(call(), expected, `after request ${n}`);
         if (!isRefused) {
-            return count;
+            return n - 1;
         }
     }
 }
 
-// A test of each call, and one that so many allocations were refused.
-function testEach(native, calls, least) {
+// A test of each call, and one that so many requests were refused.
+function testEach(copy, calls, least) {
     let total = 0;
     for (const [name, call] of Object.entries(calls)) {
-        test(`${name}: each allocation is refused`, async () => {
+        test(`${name}: each request for memory is refused`, () => {
             const expected = call();
-            const before = await blocks(native);
-            total += refuseEach(native, call, expected, true) + refuseEach(native, call, expected, false);
-            assert.strictEqual(await blocks(native), before, 'blocks');
+            call();
+            const [before, made] = [copy.instances.at(-1), copy.instances.length];
+            const blocks = before.heap_blocks();
+            call();
+            assert.strictEqual(copy.instances.length, made, 'no new instance');
+            assert.strictEqual(before.heap_blocks(), blocks, 'blocks');
+            total += refuseEach(copy, call, expected);
         });
     }
-    test('allocations were refused', () => assert.ok(total > least, `${total} allocations`));
+    test('requests were refused', () => assert.ok(total > least, `${total} requests`));
 }
 
-module.exports = { root, build, outcome, testEach };
+module.exports = { root, build, refuse, outcome, testEach };

@@ -1,0 +1,104 @@
+// SPDX-License-Identifier: Apache-2.0
+// Texts that are passed to the module, and those that it prints.
+'use strict';
+
+const { m, allocate, view } = require('./memory.js');
+const { outOfMemory } = require('./errors.js');
+
+const LAST_ASCII = 127;
+// A shorter text is written letter by letter, which takes less time.
+const SHORT = 96;
+const SHORT_PRINT = 40;
+// The most bytes of UTF-8 that a unit of a string takes.
+const WIDEST = 3;
+
+const encoder = new TextEncoder();
+const decoder = new TextDecoder('latin1');
+
+function grow(which, size) {
+    m.f.heap_free(m.texts[which]);
+    m.sizes[which] = 0;
+    m.texts[which] = allocate(size);
+    m.sizes[which] = size;
+}
+
+// Writes a text at one of the two places, and returns how many bytes it has.
+function put(which, text) {
+    const { length } = text;
+    if (length * WIDEST > m.sizes[which]) {
+        grow(which, length * WIDEST);
+    }
+    const { u8 } = m;
+    const to = m.texts[which];
+    if (length <= SHORT) {
+        let i = 0;
+        for (; i < length; i++) {
+            const code = text.charCodeAt(i);
+            if (code > LAST_ASCII) {
+                break;
+            }
+            u8[to + i] = code;
+        }
+        if (i === length) {
+            return length;
+        }
+    }
+    return encoder.encodeInto(text, u8.subarray(to, to + m.sizes[which])).written;
+}
+
+const ofCodes = String.fromCharCode;
+
+// The text of so many bytes of ASCII at a place. Eight letters at a time, since each call takes as long as eight letters.
+function taken(at, length) {
+    const b = m.u8;
+    if (length > SHORT_PRINT) {
+        return decoder.decode(b.subarray(at, at + length));
+    }
+    let text = '';
+    let left = length;
+    for (; left >= 8; left -= 8, at += 8) {
+        text += ofCodes(b[at], b[at + 1], b[at + 2], b[at + 3], b[at + 4], b[at + 5], b[at + 6], b[at + 7]);
+    }
+    for (; left >= 3; left -= 3, at += 3) {
+        text += ofCodes(b[at], b[at + 1], b[at + 2]);
+    }
+    return left === 2 ? text + ofCodes(b[at], b[at + 1]) : left === 1 ? text + ofCodes(b[at]) : text;
+}
+
+// Makes room for so many bytes of a print.
+function makeRoom(size) {
+    m.f.heap_free(m.room);
+    m.roomSize = 0;
+    m.room = allocate(size);
+    m.roomSize = size;
+}
+
+// Calls a function that prints to the room, until the print fits, and returns its length.
+function printed(call, slot, place) {
+    for (;;) {
+        const length = (place === undefined ? call(slot, m.room, m.roomSize) : call(slot, place, m.room, m.roomSize)) >>> 0;
+        view();
+        if (length <= m.roomSize) {
+            return length;
+        }
+        makeRoom(length);
+    }
+}
+
+// The text of a print, which has letters.
+function print(call, slot) {
+    const length = printed(call, slot);
+    if (length === 0) {
+        throw outOfMemory();
+    }
+    return taken(m.room, length);
+}
+
+// Bytes that a function prints: a Buffer where there are Buffers.
+function bytes(call, slot, place) {
+    const length = printed(call, slot, place);
+    const part = m.u8.subarray(m.room, m.room + length);
+    return typeof Buffer === 'undefined' ? part.slice() : Buffer.from(part);
+}
+
+module.exports = { put, taken, print, bytes };

@@ -4,9 +4,10 @@
 'use strict';
 
 const native = require('./native.js');
+const { caught } = require('./errors.js');
 const { isForeignSemVer } = require('./foreign.js');
 const { parseOptions } = require('./options.js');
-const { SemVer } = require('./semver.js');
+const { SemVer, semVerOfTriple } = require('./semver.js');
 const { parse } = require('./versions.js');
 
 const NUMBERS = '(^|[^\\d])(\\d{1,16})(?:\\.(\\d{1,16}))?(?:\\.(\\d{1,16}))?';
@@ -36,6 +37,18 @@ function lastMatch(text, pattern) {
     return found;
 }
 
+// The SemVer of what the library has found: nothing, a triple of small numbers, or a text.
+function semVerOf(found, options) {
+    if (typeof found !== 'number') {
+        return found === null ? null : parse(found, options);
+    }
+    try {
+        return semVerOfTriple(found, options);
+    } catch (error) {
+        return caught(error, null);
+    }
+}
+
 function coerce(version, options) {
     if (version instanceof SemVer) {
         return version;
@@ -48,8 +61,7 @@ function coerce(version, options) {
     if (!parseOptions(options).loose) {
         // From the right it counts where a text ends: the library counts bytes, and npm characters.
         const counted = rtl ? text.replace(/[^\x00-\x7f]$/, ' ') : text;
-        const found = native.coerce(counted, !!rtl, !!includePrerelease);
-        return found === null ? null : parse(found, options);
+        return semVerOf(native.coerce(counted, !!rtl, !!includePrerelease), options);
     }
     const match = rtl ? lastMatch(text, includePrerelease ? NEXT_FULL : NEXT)
         : (includePrerelease ? FIRST_FULL : FIRST).exec(text);

@@ -5,7 +5,7 @@
 const native = require('./native.js');
 const { isForeignComparator } = require('./foreign.js');
 const { flagsOf, parseOptions } = require('./options.js');
-const { keptKey } = require('./kept.js');
+const { REFUSED, keptKey } = require('./kept.js');
 const { SemVer, compareVersions, keyOfSemVer } = require('./semver.js');
 const { cmp } = require('./versions.js');
 const { safeRe, t } = require('./npm/re.js');
@@ -111,7 +111,8 @@ function readVersion(version, text, isLoose) {
 function admits(text, version, options) {
     const flags = flagsOf(parseOptions(options));
     const key = keyOfSemVer(new SemVer(version, options));
-    return native.satisfies(key, keptKey(text, flags));
+    const wanted = keptKey(text, flags);
+    return wanted !== REFUSED && native.satisfies(key, wanted);
 }
 
 // Whether two comparators that are half-lines meet. npm counts what lies below `<0.0.0` as nothing.

@@ -1,5 +1,5 @@
 // SPDX-License-Identifier: Apache-2.0
-// The ranges of the texts that were read last: the library keeps them, by numbers of places.
+// The ranges of the texts that were read last: the library keeps them, at places.
 'use strict';
 
 const native = require('./native.js');
@@ -10,91 +10,90 @@ const PLACES = 512;
 const LONGEST_SHORT = 128;
 
 // How many ranges of longer texts are kept, at the places after these, and how many characters these have in all. A text that has more
-// is read at each call. So no text takes memory that grows with the calls.
+// than half of them is read at each call. So no text takes memory that grows with the calls.
 const LONG_PLACES = 64;
 const MOST_CHARACTERS = 2 ** 18;
 
 const REFUSED = -1;
 
-// The places of the texts that are kept, by their options; -1 for a text that is refused. There are two halves: the older
-// one is forgotten, and its places used again, when the newer one is full. That takes less time than to forget the oldest
-// text each time. They are objects and not Maps, since the name of a property is a string of its own: a text that was cut
-// from a long string would keep the long string in memory.
-const HALF = PLACES / 2;
-const emptyHalf = () => Array.from({ length: 4 }, () => Object.create(null));
-let older = emptyHalf();
-let newer = emptyHalf();
-let next = 0;
-
-// The print of the range at each place, which is made at its first use.
-const prints = new Map();
-
-// The place of a range text that is read with such options, from now on if it was not kept; or -1; or `undefined` for a
-// text that is too long. The next text that is kept may take the place, so nothing runs between this and the call that
-// gets the place.
-function placeOf(text, flags, isTrimmed) {
-    if (text.length > LONGEST_SHORT) {
-        return longs[flags].get(text) ?? keepLong(text, flags, isTrimmed);
-    }
-    return newer[flags][text] ?? older[flags][text] ?? keep(text, flags, isTrimmed);
-}
-
-// The key of a range text: its place, or the text itself; or -1.
-const keptKey = (text, flags, isTrimmed) => placeOf(text, flags, isTrimmed) ?? textKey(trimmedRange(text), flags);
-
 // The key of a range text, which stays its key.
 const textKey = (text, flags) => `${flags}${text}`;
 const textOfKey = (key) => key.slice(1);
 
-function keep(text, flags, isTrimmed) {
-    const place = next;
-    const found = native.keep(place, isTrimmed ? text : trimmedRange(text), flags) ? place : REFUSED;
-    prints.delete(place);
-    newer[flags][text] = found;
-    next = (next + 1) % PLACES;
-    if (next % HALF === 0) {
-        older = newer;
-        newer = emptyHalf();
+// The ranges of texts, by their options; REFUSED for a text that is refused. They are objects and not Maps, since the name of a property is
+// a string of its own: a text that was cut from a long string would keep the long string in memory.
+const noRanges = () => [{ __proto__: null }, { __proto__: null }, { __proto__: null }, { __proto__: null }];
+
+// The places from `first` on. There are two halves of them: the older one is forgotten, and its places used again, when the newer one is
+// full. That takes less time than to forget the oldest text each time.
+class Places {
+    older = noRanges();
+    newer = noRanges();
+    count = 0;
+    characters = 0;
+
+    constructor(first, places, mostCharacters) {
+        this.first = first;
+        this.half = places / 2;
+        this.mostOfHalf = mostCharacters / 2;
+        // Whether the newer half has the upper places.
+        this.isUpper = false;
     }
-    return found;
+
+    get(text, flags) {
+        return this.newer[flags][text] ?? this.older[flags][text];
+    }
+
+    // The first place of the newer half.
+    start() {
+        return this.first + (this.isUpper ? this.half : 0);
+    }
+
+    // Where the next range is kept, whose text has so many characters.
+    next(length) {
+        if (this.count === this.half || this.characters + length > this.mostOfHalf) {
+            this.forgetOlder();
+        }
+        return this.start() + this.count;
+    }
+
+    forgetOlder() {
+        this.older = this.newer;
+        this.newer = noRanges();
+        this.isUpper = !this.isUpper;
+        this.count = 0;
+        this.characters = 0;
+        native.forget(this.start(), this.half);
+    }
+
+    put(text, flags, range) {
+        this.newer[flags][text] = range;
+        this.count++;
+        this.characters += text.length;
+    }
 }
 
-// ---- longer texts ----
+const short = new Places(0, PLACES, PLACES * LONGEST_SHORT);
+const long = new Places(PLACES, LONG_PLACES, MOST_CHARACTERS);
 
-const longs = Array.from({ length: 4 }, () => new Map());
-const free = Array.from({ length: LONG_PLACES }, (_, i) => PLACES + i);
+const placesOf = ({ length }) => (length <= LONGEST_SHORT ? short : length <= long.mostOfHalf ? long : undefined);
 
-// The texts in the order in which they came, of which the oldest go first.
-const inOrder = new Set();
-let characters = 0;
-
-function forgetOldest() {
-    const [entry] = inOrder;
-    inOrder.delete(entry);
-    longs[entry.flags].delete(entry.text);
-    characters -= entry.text.length;
-    free.push(entry.place);
-    prints.delete(entry.place);
-    native.forget(entry.place);
+// Reads the range of a text, and keeps it.
+function keep(places, text, flags, isTrimmed) {
+    const key = textKey(isTrimmed ? text : trimmedRange(text), flags);
+    const range = native.keep(key, places.next(text.length)) ?? REFUSED;
+    places.put(text, flags, range);
+    return range;
 }
 
-function keepLong(text, flags, isTrimmed) {
-    if (text.length > MOST_CHARACTERS) {
-        return undefined;
-    }
-    while (free.length === 0 || characters + text.length > MOST_CHARACTERS) {
-        forgetOldest();
-    }
-    // The place is taken once the text is read: a call that throws takes none.
-    const place = free.at(-1);
-    const found = native.keep(place, isTrimmed ? text : trimmedRange(text), flags) ? place : REFUSED;
-    free.pop();
-    // A string of its own, for the same reason.
-    const entry = { text: textOfKey(textKey(text, flags)), flags, place };
-    longs[flags].set(entry.text, found);
-    inOrder.add(entry);
-    characters += text.length;
-    return found;
+// The range of a text that is read with such options, which is kept from now on if it was not; or REFUSED; or `undefined` for a text that
+// is too long.
+function rangeOfText(text, flags, isTrimmed) {
+    const places = placesOf(text);
+    return places === undefined ? undefined : places.get(text, flags) ?? keep(places, text, flags, isTrimmed);
 }
 
-module.exports = { REFUSED, keptKey, placeOf, prints, textKey, textOfKey };
+// The key of a range text: its range, or the text itself; or REFUSED.
+const keptKey = (text, flags) => rangeOfText(text, flags) ?? textKey(trimmedRange(text), flags);
+
+module.exports = { REFUSED, keptKey, rangeOfText, textKey, textOfKey };

@@ -4,11 +4,13 @@
 'use strict';
 
 const native = require('./native.js');
+const { List, Numbers, add } = require('./builtins.js');
 const { parseOptions } = require('./options.js');
 const { callKey, rangeOf } = require('./range.js');
 const {
-    SemVer, compareSemVersWithBuilds, compareVersions, compareWithBuilds, keyOfSemVer,
+    SemVer, compareSemVersWithBuilds, compareVersions, compareWithBuilds, keyOfSemVer, numberOfTriple,
 } = require('./semver.js');
+const { sortPlaces } = require('./sort.js');
 const { strictText, trimmedVersion } = require('./texts.js');
 
 // ---- sort ----
@@ -19,7 +21,7 @@ const sortArray = Array.prototype.sort;
 
 // The elements of an array but `undefined`, and how many places have an element.
 function elements(list) {
-    const values = [];
+    const values = new List();
     const { length } = list;
     let count = 0;
     for (let i = 0; i < length; i++) {
@@ -27,7 +29,7 @@ function elements(list) {
             const value = list[i];
             count++;
             if (value !== undefined) {
-                values.push(value);
+                add(values, value);
             }
         }
     }
@@ -43,30 +45,51 @@ function keyOf(version, options) {
     return parseOptions(options).loose ? strictText(key) || key : key;
 }
 
-// The keys of versions, or `undefined` where no text writes one.
+// The keys of texts and SemVers; or `undefined` where a value is neither, or no text writes a version.
 function keysOf(versions, options) {
-    const keys = [];
+    const keys = new List();
+    for (let i = 0; i < versions.length; i++) {
+        if (typeof versions[i] !== 'string' && !(versions[i] instanceof SemVer)) {
+            return undefined;
+        }
+    }
     for (let i = 0; i < versions.length; i++) {
         const key = keyOf(versions[i], options);
         if (typeof key !== 'string') {
             return undefined;
         }
-        keys.push(key);
+        add(keys, key);
     }
     return keys;
 }
 
-const isVersion = (version) => typeof version === 'string' || version instanceof SemVer;
+// The places of SemVers in the order of their fields. Most are compared by a number that holds the three of a triple.
+function placesOfSemVers(versions, options, isDescending) {
+    const read = new List();
+    const numbers = new Numbers(versions.length);
+    for (let i = 0; i < versions.length; i++) {
+        add(read, new SemVer(versions[i], options));
+        numbers[i] = numberOfTriple(read[i]);
+    }
+    const ascending = (one, other) => numbers[one] - numbers[other] || compareSemVersWithBuilds(read[one], read[other]);
+    return sortPlaces(versions.length, isDescending ? (one, other) => ascending(other, one) : ascending);
+}
+
+function areSemVers(versions) {
+    for (let i = 0; i < versions.length; i++) {
+        if (!(versions[i] instanceof SemVer)) {
+            return false;
+        }
+    }
+    return true;
+}
 
 // The places of versions in their order: of SemVers by their fields, else as the library finds it; or `undefined`.
 function placesInOrder(versions, options, isDescending) {
-    if (versions.every((version) => version instanceof SemVer)) {
-        const read = versions.map((version) => new SemVer(version, options));
-        const places = read.map((_, place) => place);
-        return places.sort(isDescending ? (one, other) => compareSemVersWithBuilds(read[other], read[one])
-            : (one, other) => compareSemVersWithBuilds(read[one], read[other]));
+    if (areSemVers(versions)) {
+        return placesOfSemVers(versions, options, isDescending);
     }
-    const keys = versions.every(isVersion) ? keysOf(versions, options) : undefined;
+    const keys = keysOf(versions, options);
     const order = keys === undefined ? undefined : native.order(keys, isDescending);
     return typeof order === 'object' ? order : undefined;
 }
@@ -75,11 +98,11 @@ function placesInOrder(versions, options, isDescending) {
 function ordered(versions, options, isDescending) {
     const places = versions.length > 1 ? placesInOrder(versions, options, isDescending) : undefined;
     if (places === undefined) {
-        return versions.sort((isDescending ? byBuildDown : byBuild)(options));
+        return Array.from(versions).sort((isDescending ? byBuildDown : byBuild)(options));
     }
-    const list = [];
-    for (let i = 0; i < places.length; i++) {
-        list.push(versions[places[i]]);
+    const list = new List();
+    for (let i = 0; i < versions.length; i++) {
+        add(list, versions[places[i]]);
     }
     return list;
 }
@@ -118,20 +141,20 @@ function elementsOf(versions) {
     if (Array.isArray(versions) && versions.constructor === Array && versions.forEach === forEach) {
         return slice.call(versions);
     }
-    const list = [];
-    versions.forEach((version) => { list.push(version); });
+    const list = new List();
+    versions.forEach((version) => { add(list, version); });
     return list;
 }
 
 // The texts of the elements as `test` reads them, or `undefined` if one has none. It may run code of a user.
 function testedTexts(list, options) {
-    const texts = [];
+    const texts = new List();
     for (let i = 0; i < list.length; i++) {
         const text = list[i] ? keyOf(list[i], options) : '';
         if (typeof text !== 'string') {
             return undefined;
         }
-        texts.push(text);
+        add(texts, text);
     }
     return texts;
 }
@@ -139,7 +162,8 @@ function testedTexts(list, options) {
 // One after the other.
 function bestOf(list, range, options, isGreatest) {
     let found = null;
-    for (const version of list) {
+    for (let i = 0; i < list.length; i++) {
+        const version = list[i];
         if (range.test(version)) {
             const order = found === null ? 1 : compareVersions(version, found, options) * (isGreatest ? 1 : -1);
             found = order > 0 ? version : found;
@@ -158,7 +182,6 @@ function best(versions, range, options, isGreatest) {
     if (texts === undefined) {
         return bestOf(list, wanted, options, isGreatest);
     }
-    // The key last: to take it may run code of a user, and a place is the range's until the next range is kept.
     const place = native.best(texts, callKey(wanted), isGreatest);
     return place < 0 ? null : list[place];
 }

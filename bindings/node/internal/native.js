@@ -1,15 +1,15 @@
 // SPDX-License-Identifier: Apache-2.0
-// The calls of the proved library. It gets a key for a version or a range: its text, or an object that holds what no text writes. A
-// range that is kept has the number of its place as a key.
+// The calls of the proved library. It gets a key for a version or a range: its text, or an object that holds what no text writes, or a
+// range that is kept.
 'use strict';
 
 const { versionText, readVersion, compare, compareBuild, diff, bump, coerce, sortKey } = require('./wasm/versions.js');
-const { keep, forget, rangeText, sets, fromSets, refusedAt, satisfies } = require('./wasm/ranges.js');
+const { isKept, keep, forget, rangeText, sets, fromSets, refusedAt, satisfies } = require('./wasm/ranges.js');
 const { intersect, difference, leastBeyond, leastCommon } = require('./wasm/pairs.js');
 const { order, best, intervals } = require('./wasm/lists.js');
 
 module.exports = {
     versionText, readVersion, compare, compareBuild, diff, bump, coerce,
-    rangeText, keep, forget, satisfies, best, order,
+    rangeText, isKept, keep, forget, satisfies, best, order,
     intersect, difference, leastBeyond, leastCommon, sets, fromSets, sortKey, intervals, refusedAt,
 };

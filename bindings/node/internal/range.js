@@ -6,7 +6,7 @@ const native = require('./native.js');
 const { caught } = require('./errors.js');
 const { isForeignComparator, isForeignRange, optionsOfForeign } = require('./foreign.js');
 const { Comparator, comparatorOf, ANY } = require('./comparator.js');
-const { REFUSED, keptKey, placeOf, textKey, textOfKey } = require('./kept.js');
+const { REFUSED, keptKey, rangeOfText, textKey, textOfKey } = require('./kept.js');
 const { flagsOf, parseOptions } = require('./options.js');
 const { SemVer, keyOfSemVer, semVerOfKey } = require('./semver.js');
 const { strictText, trimmedRange, trimmedVersion } = require('./texts.js');
@@ -34,9 +34,10 @@ const standIns = new WeakMap();
 const MADE = Symbol('made');
 
 class Range {
-    // The text and its options; or the key of a range that was made of others.
+    // The text and its options, and what the library keeps of it; or the key of a range that was made of others.
     #text;
     #flags;
+    #kept;
     #made;
     #set;
     #range;
@@ -57,7 +58,8 @@ class Range {
         } else {
             this.raw = typeof range === 'string' ? trimmedRange(range) : textOfRange(range);
             this.#text = this.raw;
-            if (!isRead(this.raw, this.#flags)) {
+            this.#kept = rangeOfText(this.raw, this.#flags, true);
+            if (this.#kept === REFUSED || (this.#kept === undefined && !isRead(this.raw, this.#flags))) {
                 throw new TypeError(refusal(this.raw, this.#flags));
             }
         }
@@ -69,7 +71,13 @@ class Range {
         own = (range) => (#text in range ? range : standIn(range));
         callKey = (range) => {
             const mine = own(range);
-            return mine.#made ?? keptKey(mine.#text, mine.#flags, true);
+            if (mine.#made !== undefined) {
+                return mine.#made;
+            }
+            if (mine.#kept === undefined || !native.isKept(mine.#kept)) {
+                mine.#kept = rangeOfText(mine.#text, mine.#flags, true);
+            }
+            return mine.#kept ?? textKey(mine.#text, mine.#flags);
         };
         keyOfRange = (range) => {
             const mine = own(range);
@@ -80,8 +88,7 @@ class Range {
 
     // The range of these sets in their order, or null if there is none.
     static fromSets(sets) {
-        const cuts = [...sets].flatMap(({ lower, upper }) => [...cutKeys(lower), ...cutKeys(upper)]);
-        return rangeOfKey(native.fromSets(cuts));
+        return rangeOfKey(native.fromSets([...sets].flatMap(({ lower, upper }) => [...cutKeys(lower), ...cutKeys(upper)])));
     }
 
     // The sets of the range in the order of its text. A set lies from the lower cut up to the upper one.
@@ -175,20 +182,14 @@ class Range {
     }
 }
 
-// Whether the library reads the text.
-function isRead(text, flags) {
-    const place = placeOf(text, flags, true);
-    return place === undefined ? native.refusedAt(textKey(text, flags)) === null : place !== REFUSED;
-}
+// Whether the library reads a text that is too long to be kept.
+const isRead = (text, flags) => native.refusedAt(textKey(text, flags)) === null;
 
 // A word with `||` whose operator is joined with a partial that follows. The words of other texts are joined as the library
 // joins them.
 const isJoined = (word, next) => word.includes(BAR) && /[<>=~^]/.test(word.at(-1)) && /^[v=]*[\dxX*]/.test(next);
 
-const joined = (text) => text.split(' ').reduce((list, word, i, words) => {
-    list.push(i > 0 && !isJoined(words[i - 1], word) ? ' ' : '', word);
-    return list;
-}, []).join('');
+const joined = (text) => text.split(' ').map((word, i, words) => (i > 0 && !isJoined(words[i - 1], word) ? ` ${word}` : word)).join('');
 
 // The Range of the text of an object that has no private fields.
 function standIn(range) {
@@ -206,8 +207,8 @@ const isSatisfiable = (comparators, options) => comparators.every((one, place) =
 
 // The version of a text that is not in the form of SemVer 2.0.0 is read again in the loose form.
 function admitsText(text, range, isLoose) {
-    return native.satisfies(text, callKey(range))
-        || (isLoose && native.satisfies(strictText(text), callKey(range)));
+    const key = callKey(range);
+    return native.satisfies(text, key) || (isLoose && native.satisfies(strictText(text), key));
 }
 
 const cutOf = (kind, key) => ({ kind: KINDS[kind], version: semVerOfKey(key) });

@@ -5,7 +5,7 @@
 const native = require('./native.js');
 const { ANY } = require('./comparator.js');
 const { caught } = require('./errors.js');
-const { REFUSED, keptKey, placeOf, prints } = require('./kept.js');
+const { REFUSED, keptKey, rangeOfText } = require('./kept.js');
 const { IS_LOOSE, flagsOf, optionsOf, parseOptions } = require('./options.js');
 const { Range, keyOfRange, rangeOf, rangeOfKey } = require('./range.js');
 const { SemVer, semVerOfKey } = require('./semver.js');
@@ -17,26 +17,20 @@ function satisfies(version, range, options) {
         const flags = flagsOf(parseOptions(options));
         const text = trimmedVersion(version);
         const key = keptKey(range, flags);
-        return key !== REFUSED && (native.satisfies(text, key)
-            || (flags >= IS_LOOSE && native.satisfies(strictText(text), keptKey(range, flags))));
+        return key !== REFUSED && (native.satisfies(text, key) || (flags >= IS_LOOSE && native.satisfies(strictText(text), key)));
     }
     return rangeOf(range, options)?.test(version) ?? false;
 }
 
 const printOf = (range, options) => new Range(range, options).range || '*';
 
-// The print of a text that is kept is kept too. It is made with options that run no code of a user, since the place may be
-// taken meanwhile.
-function keptPrint(text, place, flags) {
-    if (place === REFUSED) {
+// The print of a range that is kept is kept too. Its text is read with options that run no code of a user.
+function keptPrint(text, kept, flags) {
+    if (kept === REFUSED) {
         return null;
     }
-    let print = prints.get(place);
-    if (print === undefined) {
-        print = printOf(text, optionsOf(flags));
-        prints.set(place, print);
-    }
-    return print;
+    kept.print ??= printOf(text, optionsOf(flags));
+    return kept.print;
 }
 
 function validRange(range, options) {
@@ -45,8 +39,8 @@ function validRange(range, options) {
             return printOf(range, options);
         }
         const flags = flagsOf(parseOptions(options));
-        const place = placeOf(range, flags);
-        return place === undefined ? printOf(range, optionsOf(flags)) : keptPrint(range, place, flags);
+        const kept = rangeOfText(range, flags);
+        return kept === undefined ? printOf(range, optionsOf(flags)) : keptPrint(range, kept, flags);
     } catch (error) {
         return caught(error, null);
     }
@@ -67,7 +61,7 @@ function leastOf({ operator, semver }) {
         if (least.prerelease.length === 0) {
             least.patch++;
         } else {
-            least.prerelease.push(0);
+            least.prerelease = [...least.prerelease, 0];
         }
         least.raw = least.format();
     }

@@ -47,16 +47,37 @@ function putParts(semVer, text, read) {
     semVer.version = version;
 }
 
+// Puts the parts of a triple of small numbers, of which the library has read this.
+function putTriple(semVer, read) {
+    const major = (read / OF_MAJOR) | 0;
+    const minor = (read / OF_MINOR) & BITS;
+    const patch = (read / OF_PATCH) & BITS;
+    semVer.raw = `${headOf(major, minor)}${patch}`;
+    semVer.major = major;
+    semVer.minor = minor;
+    semVer.patch = patch;
+    semVer.prerelease = [];
+    semVer.build = [];
+    semVer.version = semVer.raw;
+}
+
 // What no text writes: the keys of such versions, and the text that their fields had.
 const held = new WeakMap();
 
-// Marks a constructor's call that passes a key, and not what a user passed.
-const MADE = Symbol('made');
+// Mark a constructor's call that passes a key, or what the library has read of a triple of small numbers, and not what a user passed.
+const [MADE, TRIPLE] = [Symbol('made'), Symbol('triple')];
 
 class SemVer {
     constructor(version, options, made = undefined) {
         const parsed = parseOptions(options);
         const { loose, includePrerelease } = parsed;
+        if (made === TRIPLE) {
+            this.options = parsed;
+            this.loose = !!loose;
+            this.includePrerelease = !!includePrerelease;
+            putTriple(this, version);
+            return;
+        }
         let text = version;
         if (typeof version !== 'string' && made !== MADE) {
             if (version instanceof SemVer && version.loose === !!loose
@@ -177,6 +198,7 @@ function keyOfSemVer(semVer) {
     return own !== undefined && own.text === text ? own.key : text;
 }
 const semVerOfKey = (key, options) => (key === null ? null : new SemVer(key, options, MADE));
+const semVerOfTriple = (read, options) => new SemVer(read, options, TRIPLE);
 
 // ---- the order ----
 
@@ -238,6 +260,13 @@ const compareBuilds = ({ build: one }, { build: other }) => compareLists(one, ot
 // Whether JavaScript has the numbers of a version exactly.
 const isExact = ({ major, minor, patch }) => !(Math.max(major, minor, patch) > Number.MAX_SAFE_INTEGER);
 
+// Where the fields of a SemVer are a triple of small numbers, as its text says them: a number that holds these three. Else no number.
+function numberOfTriple({ major, minor, patch, prerelease, build, version }) {
+    const isTriple = prerelease.length === 0 && build.length === 0 && (major & BITS) === major && (minor & BITS) === minor
+        && (patch & BITS) === patch && version === `${headOf(major, minor)}${patch}`;
+    return isTriple ? major * OF_MAJOR + minor * OF_MINOR + patch * OF_PATCH : NaN;
+}
+
 // The order of two SemVers by their fields; versions of the same text are equal. The library compares the versions that no
 // text writes.
 function compareSemVers(one, other) {
@@ -273,6 +302,6 @@ const compareWithBuilds = (one, other, options) => compareBy(one, other, options
     compareSemVersWithBuilds);
 
 module.exports = {
-    FIRST_REFUSED, SemVer, identifierOf, readVersion, semVerOfKey, keyOfSemVer, compareSemVers, compareSemVersWithBuilds,
-    compareVersions, compareWithBuilds,
+    FIRST_REFUSED, SemVer, identifierOf, readVersion, semVerOfKey, semVerOfTriple, keyOfSemVer, numberOfTriple, compareSemVers,
+    compareSemVersWithBuilds, compareVersions, compareWithBuilds,
 };

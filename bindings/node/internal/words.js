@@ -5,6 +5,7 @@
 'use strict';
 
 const native = require('./native.js');
+const { List, add } = require('./builtins.js');
 const { ANY, comparatorOf } = require('./comparator.js');
 const { textKey } = require('./kept.js');
 const { INCLUDES_PRERELEASES, IS_LOOSE } = require('./options.js');
@@ -14,20 +15,23 @@ const { withoutBuild } = require('./texts.js');
 // The kinds of cuts, by their numbers in node_semver.h.
 const [START, BEFORE, AFTER, END] = [0, 1, 2, 3];
 
-// The comparators of a set, of which the library gives the kinds of its two cuts and the keys of their versions.
-function comparatorsOf([lower, from, upper, to], options) {
+// The comparators of a set, of the kinds of its two cuts and the keys of their versions.
+function comparatorsBetween(lower, from, upper, to, options) {
     if (lower === BEFORE && upper === AFTER && typeof from === 'string' && withoutBuild(from) === withoutBuild(to)) {
         return [comparatorOf('', semVerOfKey(from, options.loose), options)];
     }
-    const found = [];
-    if (lower === BEFORE || lower === AFTER) {
-        found.push(comparatorOf(lower === BEFORE ? '>=' : '>', semVerOfKey(from, options.loose), options));
+    const least = lower === BEFORE ? '>=' : lower === AFTER ? '>' : '';
+    const most = upper === BEFORE ? '<' : upper === AFTER ? '<=' : '';
+    const one = least === '' ? undefined : comparatorOf(least, semVerOfKey(from, options.loose), options);
+    const other = most === '' ? undefined : comparatorOf(most, semVerOfKey(to, options.loose), options);
+    if (one !== undefined && other !== undefined) {
+        return [one, other];
     }
-    if (upper === BEFORE || upper === AFTER) {
-        found.push(comparatorOf(upper === BEFORE ? '<' : '<=', semVerOfKey(to, options.loose), options));
-    }
-    return found.length > 0 ? found : [comparatorOf('', ANY, options)];
+    return [one ?? other ?? comparatorOf('', ANY, options)];
 }
+
+// The same of the set whose cuts stand in a list from a place on.
+const comparatorsOf = (cuts, at, options) => comparatorsBetween(cuts[at], cuts[at + 1], cuts[at + 2], cuts[at + 3], options);
 
 // What a word has before its three numbers, these numbers, and what it has after them.
 const PARTS = /^([<>=~^v ]*)([\dxX*]+)(?:\.([\dxX*]+)(?:\.([\dxX*]+)(.*))?)?/s;
@@ -48,8 +52,9 @@ function isLeftOut(word, least) {
     return major === '0' && (isMajor || (minor === '0' && (isMinor || (patch === '0' && !/^-?00/.test(after)))));
 }
 
-// Whether the library reads a text as a partial.
-const isPartial = (text, flags) => native.sets(textKey(`^${text}`, flags)) !== null;
+// Whether the library reads a text as a range, and as a partial.
+const isRead = (text, flags) => native.refusedAt(textKey(text, flags)) === null;
+const isPartial = (text, flags) => isRead(`^${text}`, flags);
 
 // Whether the library drops the blank between two texts: after an operator, by what follows it.
 function isJoined(text, next) {
@@ -68,9 +73,10 @@ function comparatorsOfHyphen(alternative, cuts, flags, options) {
     if (flags & IS_LOOSE || cuts.length !== 4 || !/^\S+ - \S+$/.test(alternative)) {
         return undefined;
     }
-    const [lower, from, upper, to] = cuts;
+    const { 0: lower, 1: from, 2: upper, 3: to } = cuts;
     const areEnds = (lower === BEFORE || lower === AFTER) && (upper === BEFORE || upper === AFTER);
-    return areEnds ? [...comparatorsOf([lower, from, END, null], options), ...comparatorsOf([START, null, upper, to], options)] : undefined;
+    return areEnds ? [...comparatorsBetween(lower, from, END, null, options), ...comparatorsBetween(START, null, upper, to, options)]
+        : undefined;
 }
 
 // The words of an alternative, as the library divides it. The two sides of a hyphen range are words, each with a star on
@@ -80,15 +86,16 @@ function wordsOf(alternative, flags) {
     if (texts.length === 3 && texts[1] === '-' && isPartial(texts[0], flags) && isPartial(texts[2], flags)) {
         return [`${texts[0]} - *`, `* - ${texts[2]}`];
     }
-    const words = [texts[0]];
+    const words = new List();
+    add(words, texts[0]);
     for (let i = 1; i < texts.length; i++) {
         if (isJoined(texts[i - 1], texts[i])) {
-            words.push(`${words.pop()} ${texts[i]}`);
+            words[words.length - 1] += ` ${texts[i]}`;
         } else {
-            words.push(texts[i]);
+            add(words, texts[i]);
         }
     }
-    return words;
+    return Array.from(words);
 }
 
 // The comparators of an alternative; none if the library refuses it.
@@ -121,7 +128,7 @@ function comparatorsOfText(alternative, flags, options) {
 
 function comparatorsOfWord(word, flags, options) {
     const cuts = native.sets(textKey(word, flags));
-    return cuts === null ? [] : comparatorsOf(cuts, options);
+    return cuts === null ? [] : comparatorsOf(cuts, 0, options);
 }
 
 // The comparators of each alternative. Alternatives that nothing satisfies are left out beside others, and all others
@@ -169,8 +176,7 @@ function readAlternative(alternative, flags, options) {
 // The comparators of the sets of a range that was made of others.
 function setOf(key, options) {
     const cuts = native.sets(key);
-    return Array.from({ length: cuts.length / 4 }, (_, i) =>
-        comparatorsOf(cuts.slice(4 * i, 4 * i + 4), options));
+    return Array.from({ length: cuts.length / 4 }, (_, i) => comparatorsOf(cuts, 4 * i, options));
 }
 
 // ---- what npm says of a text that is refused ----
@@ -198,8 +204,8 @@ const STAR = /[<>]?=?\s*\*/;
 // The first word of a text that is refused.
 function refusedWord(text, flags) {
     const alternative = text.split('||').map((one) => one.trim())
-        .find((one) => native.sets(textKey(one, flags)) === null);
-    return glued(alternative ?? text).split(' ').find((word) => native.sets(textKey(word, flags)) === null);
+        .find((one) => !isRead(one, flags));
+    return glued(alternative ?? text).split(' ').find((word) => !isRead(word, flags));
 }
 
 // What npm says of a range text that is refused.

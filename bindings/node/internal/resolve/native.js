@@ -3,8 +3,9 @@
 'use strict';
 
 const { module: compiled } = require('#npm_resolve');
+const { List, add, listOf } = require('../builtins.js');
 const { outOfMemory } = require('../wasm/errors.js');
-const { Caller } = require('../wasm/call.js');
+const { Caller, textOf } = require('../wasm/call.js');
 
 const [OK, OUT_OF_MEMORY] = [0, 1];
 // How long most answers are at most: those of some 15,000 packages.
@@ -14,29 +15,30 @@ const LENGTH = 8;
 
 const caller = new Caller(compiled);
 
-// Makes the call with a room of this size, and once more if the answer is longer.
-function answer(it, texts, marks, steps, size) {
-    const room = it.allocate(size);
-    const result = it.allocate(LENGTH);
-    it.bytes(result, LENGTH).fill(0);
-    const status = it.exports.npm_resolve_versions(...texts, ...marks, steps, room, size, result);
-    if (status === OUT_OF_MEMORY) {
-        throw outOfMemory();
-    }
-    if (status !== OK) {
-        return status;
-    }
-    const [length] = new Uint32Array(it.exports.memory.buffer, result, 1);
-    return length > size ? answer(it, texts, marks, steps, length) : it.text(room, length);
+// The bytes of the answer, or the status.
+function answer(texts, marks, steps) {
+    return caller.run((it) => {
+        const given = new List();
+        for (let i = 0; i < texts.length; i++) {
+            it.put(texts[i], given);
+        }
+        for (let i = 0; i < marks.length; i++) {
+            add(given, marks[i] ? 1 : 0);
+        }
+        add(given, steps);
+        const status = it.ask('npm_resolve_versions', given, MOST, LENGTH);
+        if (status === OUT_OF_MEMORY) {
+            throw outOfMemory();
+        }
+        return status === OK ? it.copy(it.room, it.number(it.told)) : status;
+    });
 }
 
 // The text of the answer; or the status of npm_resolve.h for which there is none.
 function resolve(manifest, documents, defaultTag, before, node, lock, steps, omitDev, omitOptional, omitPeer, flat, lowest, lockFile) {
-    return caller.run((it) => {
-        const texts = [manifest, documents, defaultTag, before, node, lock].flatMap((text) => it.put(text));
-        const marks = [omitDev, omitOptional, omitPeer, flat, lowest, lockFile].map((mark) => (mark ? 1 : 0));
-        return answer(it, texts, marks, BigInt(steps), MOST);
-    });
+    const texts = listOf([manifest, documents, defaultTag, before, node, lock]);
+    const found = answer(texts, listOf([omitDev, omitOptional, omitPeer, flat, lowest, lockFile]), BigInt(steps));
+    return typeof found === 'number' ? found : textOf(found);
 }
 
 module.exports = { resolve };

@@ -3,6 +3,7 @@
 // that was broken off, for which no memory was left, or that made the memory large.
 'use strict';
 
+const { Bytes, List, Words, add, apply, bufferOf, encodeInto, fill, set, sizeOf } = require('../builtins.js');
 const { outOfMemory } = require('./errors.js');
 
 const MOST_MEMORY = 64 << 20;
@@ -16,7 +17,9 @@ class Caller {
     #module;
     #exports;
     #isBroken = true;
-    #taken = [];
+    #taken = new List();
+    room = 0;
+    told = 0;
 
     constructor(module) {
         this.#module = module;
@@ -27,7 +30,7 @@ class Caller {
     }
 
     bytes(at, length) {
-        return new Uint8Array(this.#exports.memory.buffer, at, length);
+        return new Bytes(bufferOf(this.#exports.memory), at, length);
     }
 
     // A block for the time of the call.
@@ -36,36 +39,72 @@ class Caller {
         if (at === 0) {
             throw outOfMemory();
         }
-        this.#taken.push(at);
+        add(this.#taken, at);
         return at;
     }
 
-    // Writes a text; returns where it is and how many bytes it has.
-    put(text) {
+    // The same, of zeros.
+    cleared(size) {
+        const at = this.allocate(size);
+        fill(this.bytes(at, size), 0);
+        return at;
+    }
+
+    // The number of 32 bits that is written at a place.
+    number(at) {
+        return new Words(bufferOf(this.#exports.memory), at, 1)[0];
+    }
+
+    // Writes a text; adds where it is and how many bytes it has to the arguments of a call.
+    put(text, given) {
         if (typeof text !== 'string') {
             throw Object.assign(new TypeError('an argument is no string'), { code: 'ERR_INVALID_ARG_TYPE' });
         }
         const at = this.allocate(text.length * WIDEST);
-        return [at, encoder.encodeInto(text, this.bytes(at, text.length * WIDEST)).written];
+        add(given, at);
+        add(given, encodeInto(encoder, text, this.bytes(at, text.length * WIDEST)).written);
     }
 
-    text(at, length) {
-        return decoder.decode(this.bytes(at, length));
+    // A copy of bytes, which outlives the call.
+    copy(at, length) {
+        const made = new Bytes(length);
+        set(made, this.bytes(at, length));
+        return made;
     }
 
-    // Runs a function that makes the call. Nothing of a user's runs inside it.
+    // Calls a function of the module that writes its answer to a room of `size` bytes, and how long it is, and maybe more, to `told` bytes.
+    // Calls it once more if the answer is longer. Returns its status; then `room` and `told` are where these lie.
+    ask(name, given, size, told) {
+        const { length } = given;
+        this.room = this.allocate(size);
+        this.told = this.cleared(told);
+        add(given, this.room);
+        add(given, size);
+        add(given, this.told);
+        const status = apply(this.#exports[name], undefined, given);
+        given.length = length;
+        const needed = this.number(this.told);
+        return needed > size ? this.ask(name, given, needed, told) : status;
+    }
+
+    // Runs a function that makes the call. Nothing of a user's runs inside it: see `builtins.js`.
     run(call) {
         if (this.#isBroken) {
             this.#exports = new WebAssembly.Instance(this.#module, {}).exports;
-            this.#taken = [];
+            this.#taken = new List();
         }
         this.#isBroken = true;
         const result = call(this);
-        this.#taken.forEach((at) => this.#exports.heap_free(at));
-        this.#taken = [];
-        this.#isBroken = this.#exports.memory.buffer.byteLength > MOST_MEMORY;
+        const taken = this.#taken;
+        for (let i = 0; i < taken.length; i++) {
+            this.#exports.heap_free(taken[i]);
+        }
+        taken.length = 0;
+        this.#isBroken = sizeOf(bufferOf(this.#exports.memory)) > MOST_MEMORY;
         return result;
     }
 }
 
-module.exports = { Caller };
+const textOf = (bytes) => decoder.decode(bytes);
+
+module.exports = { Caller, textOf };

@@ -8,6 +8,7 @@
 'use strict';
 
 const { module: compiled } = require('#node_semver');
+const { Bytes, Words, bufferOf, fill, sizeOf } = require('../builtins.js');
 const { outOfMemory } = require('./errors.js');
 
 const MOST_MEMORY = 64 << 20;
@@ -25,16 +26,20 @@ const SIZE = PLACE + 8 * PLACES;
 
 const ROOM = 1024;
 
-// `f` are the module's functions, `u8` and `u32` its memory, and `at` is the start of the block above. `texts` are two places for texts
-// that are passed, of `sizes` bytes, and `room` one for what is printed.
-const m = { f: undefined, u8: undefined, u32: undefined, at: 0, isBroken: true, texts: [0, 0], sizes: [0, 0], room: 0, roomSize: 0 };
+// `f` are the module's functions, `buffer`, `u8` and `u32` its memory of `size` bytes, and `at` is the start of the block above. `texts` are
+// two places for texts that are passed, of `sizes` bytes, and `room` one for what is printed.
+const m = {
+    f: undefined, buffer: undefined, u8: undefined, u32: undefined, size: 0, at: 0, isBroken: true,
+    texts: [0, 0], sizes: [0, 0], room: 0, roomSize: 0,
+};
 
-// The memory again: where it has grown, the old views have length 0. After each call that may have grown it.
+// The memory again: where it has grown, the old views have no bytes. After each call that may have grown it.
 function view() {
-    if (m.u8.length === 0) {
-        const { buffer } = m.f.memory;
-        m.u8 = new Uint8Array(buffer);
-        m.u32 = new Uint32Array(buffer);
+    if (m.u8[0] === undefined) {
+        m.buffer = bufferOf(m.f.memory);
+        m.u8 = new Bytes(m.buffer);
+        m.u32 = new Words(m.buffer);
+        m.size = sizeOf(m.buffer);
     }
 }
 
@@ -48,11 +53,12 @@ function allocate(size) {
 }
 
 function begin() {
-    m.u8 = m.u32 = new Uint8Array(0);
+    // (where code of a user may run for the last time)
     m.f = new WebAssembly.Instance(compiled, {}).exports;
+    m.u8 = new Bytes(0);
     view();
     m.at = allocate(SIZE);
-    m.u8.fill(0, m.at, m.at + SIZE);
+    fill(m.u8, 0, m.at, m.at + SIZE);
     m.texts = [allocate(ROOM), allocate(ROOM)];
     m.sizes = [ROOM, ROOM];
     m.room = allocate(ROOM);
@@ -62,15 +68,25 @@ function begin() {
     view();
 }
 
-// A function that calls the module. Nothing of a user's runs inside one, so a call never finds another that is not done.
-const calls = (call) => (one, two, three, four) => {
+// What stands before and after a call of the module. Nothing of a user's runs in between, so a call never finds another that is not done:
+// see `builtins.js`.
+function enter() {
     if (m.isBroken) {
         begin();
     }
     m.isBroken = true;
-    const result = call(one, two, three, four);
-    m.isBroken = m.u8.length > MOST_MEMORY;
+}
+
+function leave(result) {
+    view();
+    m.isBroken = m.size > MOST_MEMORY;
     return result;
+}
+
+// A function that calls the module.
+const calls = (call) => (one, two, three, four) => {
+    enter();
+    return leave(call(one, two, three, four));
 };
 
 // A status but OUT_OF_MEMORY, which is thrown. A text that is not UTF-8 is refused: it is half a character.
@@ -82,5 +98,5 @@ function check(status) {
 }
 
 module.exports = {
-    m, OK, NONE, REFUSED, A, B, C, D, FAULT, ANSWER, SET, ANY, PLACE, PLACES, allocate, view, calls, check,
+    m, OK, NONE, REFUSED, A, B, C, D, FAULT, ANSWER, SET, ANY, PLACE, PLACES, allocate, view, enter, leave, calls, check,
 };

@@ -3,7 +3,7 @@
 'use strict';
 
 const { m, A, B, C, OK, calls, check, view } = require('./memory.js');
-const { last, letGo, read, keyOf } = require('./ranges.js');
+const { checkRange, last, letGo, read, keyOf } = require('./ranges.js');
 const { emptied, keyOf: keyOfVersion } = require('./versions.js');
 
 // How many pairs of sets two ranges have at most of which a range is made. A range that is made of both may have a set for each pair,
@@ -14,21 +14,28 @@ const countOf = (slot) => m.f.node_semver_range_set_count(slot) >>> 0;
 const areFew = (left, right) => countOf(left) <= MOST_PAIRS / countOf(right);
 
 // A call on the ranges of two keys; null where one is refused. What is made of both includes prereleases where both do.
-const ofTwo = (call) => calls((one, other) => {
-    const left = read(one, 0, m.at + A);
-    const { isOwn, isIncluded } = last;
-    if (left === 0) {
-        return null;
-    }
-    const right = read(other, 1, m.at + B);
-    const isOtherOwn = last.isOwn;
-    const result = right === 0 ? null : call(left, right, isIncluded && last.isIncluded);
-    letGo(left, isOwn);
-    if (right !== 0) {
-        letGo(right, isOtherOwn);
-    }
-    return result;
-});
+function ofTwo(call) {
+    const called = calls((one, other) => {
+        const left = read(one, 0, m.at + A);
+        const { isOwn, isIncluded } = last;
+        if (left === 0) {
+            return null;
+        }
+        const right = read(other, 1, m.at + B);
+        const isOtherOwn = last.isOwn;
+        const result = right === 0 ? null : call(left, right, isIncluded && last.isIncluded);
+        letGo(left, isOwn);
+        if (right !== 0) {
+            letGo(right, isOtherOwn);
+        }
+        return result;
+    });
+    return (one, other) => {
+        checkRange(one);
+        checkRange(other);
+        return called(one, other);
+    };
+}
 
 // What a function of the module makes at C, as a key; null where there is none.
 function made(call, left, right, keyOfMade) {

@@ -1,17 +1,30 @@
 // SPDX-License-Identifier: Apache-2.0
-// Calls on a range. A key of a range is its text, after a digit that is the sum of its options; or the number of a place where it is
-// kept; or the cuts of its sets, in an object that holds them: of a range that no text writes.
+// Calls on a range. A key of a range is its text, after a digit that is the sum of its options; or an object that holds this text, and a
+// place where the range may be kept; or the cuts of its sets, in an object that holds them: of a range that no text writes.
 'use strict';
 
+const { List, add, codeAt, fill, listOf } = require('../builtins.js');
 const {
-    m, A, B, C, D, ANSWER, FAULT, OK, PLACE, PLACES, REFUSED, allocate, calls, check, view,
+    m, A, B, C, D, ANSWER, FAULT, OK, PLACE, PLACES, REFUSED, allocate, calls, check, enter, leave, view,
 } = require('./memory.js');
 const { put, print } = require('./texts.js');
-const { HeldVersion, emptied, free: freeVersion, keyOf: keyOfVersion, read: readVersion } = require('./versions.js');
+const { HeldVersion, checkVersion, emptied, free: freeVersion, keyOf: keyOfVersion, read: readVersion } = require('./versions.js');
 
 const [INCLUDES_PRERELEASES, IS_LOOSE] = [1, 2];
 const DIGIT_0 = 48;
 const LETTER_V = 118;
+
+// A range that is kept at a place, while no other is kept there: then it is read of its text at each call. What else the package keeps of
+// it is its print.
+class KeptRange {
+    constructor(key, place) {
+        this.key = key;
+        // (its first letter is asked of the whole text, which is then no longer a part of another)
+        this.isIncluded = (codeAt(key, 0) & INCLUDES_PRERELEASES) !== 0;
+        this.place = place;
+        this.print = undefined;
+    }
+}
 
 // A range that no text writes: its cuts, each as its kind and the key of its version or null.
 class HeldRange {
@@ -41,11 +54,6 @@ function readAt(at, length, options, slot) {
     return status === OK ? OK : check(status);
 }
 
-function readText(text, options, which, slot) {
-    const length = put(which, text);
-    return readAt(m.texts[which], length, options, slot);
-}
-
 // ---- sets ----
 
 const SET_SIZE = 32;
@@ -54,13 +62,13 @@ const VERSION = 8;
 
 // Puts cuts into memory of their own, and calls with it. Throws where they are none.
 function withCuts(cuts, call) {
-    const count = Math.floor(cuts.length / 4);
+    const count = cuts.length / 4 >>> 0;
     const at = allocate(SET_SIZE * count + SET_SIZE);
-    m.u8.fill(0, at, at + SET_SIZE * count);
+    fill(m.u8, 0, at, at + SET_SIZE * count);
     let status = OK;
     for (let i = 0; i < 2 * count && status === OK; i++) {
-        const [kind, key] = [cuts[2 * i], cuts[2 * i + 1]];
-        m.u32[at + CUT_SIZE * i >> 2] = kind;
+        const key = cuts[2 * i + 1];
+        m.u32[at + CUT_SIZE * i >> 2] = cuts[2 * i];
         status = key === null ? OK : readVersion(key, at + CUT_SIZE * i + VERSION);
     }
     const result = status === OK ? call(at, count) : status;
@@ -74,24 +82,23 @@ function withCuts(cuts, call) {
 
 const readCuts = (cuts, slot) => withCuts(cuts, (at, count) => check(m.f.node_semver_range_from_sets(at, count, emptied(slot))));
 
-// The kind of a cut and the key of its version or null, as two elements of a list.
-function putCut(cuts, place, cut) {
-    cuts[place] = m.u32[cut >> 2];
-    cuts[place + 1] = m.u32[cut + VERSION >> 2] === 0 ? null : keyOfVersion(cut + VERSION);
+// Adds the kind of a cut and the key of its version or null, as two elements, to a list.
+function addCut(cuts, cut) {
+    add(cuts, m.u32[cut >> 2]);
+    add(cuts, m.u32[cut + VERSION >> 2] === 0 ? null : keyOfVersion(cut + VERSION));
 }
 
-// The cuts of a range, each as two elements: its kind, and the key of its version or null. The list has all its places at first: a setter of
-// Array.prototype, which could free the range, is called for none of them.
+// The cuts of a range, each as two elements: its kind, and the key of its version or null.
 function cutsOf(slot) {
     const count = m.f.node_semver_range_set_count(slot) >>> 0;
-    const cuts = Array.from({ length: 4 * count }, () => null);
+    const cuts = new List();
     const at = allocate(SET_SIZE);
     for (let i = 0; i < count; i++) {
-        m.u8.fill(0, at, at + SET_SIZE);
+        fill(m.u8, 0, at, at + SET_SIZE);
         check(m.f.node_semver_range_set(slot, i, at));
         view();
-        putCut(cuts, 4 * i, at);
-        putCut(cuts, 4 * i + 2, at + CUT_SIZE);
+        addCut(cuts, at);
+        addCut(cuts, at + CUT_SIZE);
     }
     m.f.heap_free(at);
     return cuts;
@@ -99,39 +106,44 @@ function cutsOf(slot) {
 
 // ---- the ranges that are kept ----
 
-// The texts and options of the places. A new instance has read none of them: it reads each where it is asked for.
-const keptTexts = new Array(PLACES).fill(undefined);
-const keptOptions = new Uint8Array(PLACES);
+// The ranges of the places. A new instance has read none of them: it reads each where it is asked for.
+const kept = new List();
 
-// The slot of a place; 0 where it is empty.
-function keptSlot(place) {
-    const text = keptTexts[place];
-    if (text === undefined) {
-        return 0;
-    }
-    const slot = m.at + PLACE + 8 * place;
-    if (m.u32[slot >> 2] === 0) {
-        readText(text, keptOptions[place], 1, slot);
-    }
-    return slot;
+const isKept = (range) => kept[range.place] === range;
+const isPlace = (place) => (place >>> 0) === place && place < PLACES;
+
+const slotOf = (place) => m.at + PLACE + 8 * place;
+
+// The slot of a range that is kept.
+function keptSlot({ key, place }) {
+    const slot = slotOf(place);
+    return m.u32[slot >> 2] !== 0 || readKey(key, 1, slot) !== 0 ? slot : 0;
 }
 
-// Puts the range of a text at a place. If the text is refused, returns false and leaves the place empty; and so if it throws.
-const keep = calls((place, text, options) => {
-    const slot = m.at + PLACE + 8 * place;
-    keptTexts[place] = undefined;
-    free(slot);
-    if (readText(text, options, 0, slot) !== OK) {
-        return false;
+// Reads the range of a key of a text, and keeps it at a place. If the text is refused, returns null and leaves the place empty; and so if it
+// throws.
+function keep(key, place) {
+    if (typeof key !== 'string' || !isPlace(place)) {
+        wrong('no text or no place');
     }
-    keptTexts[place] = text;
-    keptOptions[place] = options;
-    return true;
-});
+    enter();
+    const slot = slotOf(place);
+    kept[place] = undefined;
+    free(slot);
+    if (readKey(key, 0, slot) === 0) {
+        return leave(null);
+    }
+    const range = new KeptRange(key, place);
+    kept[place] = range;
+    return leave(range);
+}
 
-const forget = calls((place) => {
-    keptTexts[place] = undefined;
-    free(m.at + PLACE + 8 * place);
+// Leaves so many places empty, from one on.
+const forget = calls((first, count) => {
+    for (let place = first; place < first + count && isPlace(place); place++) {
+        kept[place] = undefined;
+        free(slotOf(place));
+    }
 });
 
 // ---- keys ----
@@ -147,19 +159,27 @@ function readKey(key, which, slot) {
     return readAt(m.texts[which] + 1, length - 1, options, slot) === OK ? slot : 0;
 }
 
+const wrong = (message) => {
+    throw Object.assign(new TypeError(message), { code: 'ERR_INVALID_ARG_TYPE' });
+};
+
+// Throws where a value is no key of a range: before a call, which would be broken off.
+function checkRange(key) {
+    if (!(key instanceof KeptRange) && typeof key !== 'string' && !(key instanceof HeldRange)) {
+        wrong('no key of a range');
+    }
+}
+
 // Reads a key: the slot of its range, or 0 where it is refused.
 function read(key, which, slot) {
-    if (typeof key === 'number') {
-        last.isOwn = false;
-        last.isIncluded = (keptOptions[key] & INCLUDES_PRERELEASES) !== 0;
-        return keptSlot(key);
+    if (key instanceof KeptRange) {
+        last.isOwn = !isKept(key);
+        last.isIncluded = key.isIncluded;
+        return last.isOwn ? readKey(key.key, which, slot) : keptSlot(key);
     }
     last.isOwn = true;
     if (typeof key === 'string') {
         return readKey(key, which, slot);
-    }
-    if (!(key instanceof HeldRange)) {
-        throw Object.assign(new TypeError('no key of a range'), { code: 'ERR_INVALID_ARG_TYPE' });
     }
     last.isIncluded = key.isIncluded;
     return readCuts(key.cuts, slot) === OK ? slot : 0;
@@ -172,16 +192,22 @@ function letGo(slot, isOwn) {
 }
 
 // A call on the range of a key; null where that is refused.
-const ofOne = (call) => calls((key) => {
-    const slot = read(key, 0, m.at + A);
-    if (slot === 0) {
-        return null;
-    }
-    const { isOwn, isIncluded } = last;
-    const result = call(slot, isIncluded);
-    letGo(slot, isOwn);
-    return result;
-});
+function ofOne(call) {
+    const called = calls((key) => {
+        const slot = read(key, 0, m.at + A);
+        if (slot === 0) {
+            return null;
+        }
+        const { isOwn, isIncluded } = last;
+        const result = call(slot, isIncluded);
+        letGo(slot, isOwn);
+        return result;
+    });
+    return (key) => {
+        checkRange(key);
+        return called(key);
+    };
+}
 
 // Takes the range. Its print is its key where that is read again as the same range.
 function keyOf(slot, isIncluded) {
@@ -198,11 +224,29 @@ function keyOf(slot, isIncluded) {
 const rangeText = ofOne((slot) => print(m.f.node_semver_range_print, slot));
 const sets = ofOne(cutsOf);
 
-// The key of the range of such cuts, or null where it is none.
-const fromSets = calls((cuts) => (readCuts(cuts, m.at + C) === OK ? keyOf(m.at + C, false) : null));
+const ofCuts = calls((cuts) => (readCuts(cuts, m.at + C) === OK ? keyOf(m.at + C, false) : null));
 
-// The byte offset at which a range text is refused; null where it is read.
-const refusedAt = calls((text) => {
+// The key of the range of such cuts, or null where it is none.
+function fromSets(cuts) {
+    const list = listOf(cuts);
+    for (let i = 0; i < list.length; i += 2) {
+        if (list[i + 1] !== null) {
+            checkVersion(list[i + 1]);
+        }
+        list[i] = Number(list[i]);
+    }
+    return ofCuts(list);
+}
+
+// The byte offset at which the text of a key is refused; null where it is read.
+function refusedAt(key) {
+    if (typeof key !== 'string') {
+        wrong('no text');
+    }
+    return placeOfFault(key);
+}
+
+const placeOfFault = calls((text) => {
     const fault = m.at + FAULT;
     m.u32[fault + 8 >> 2] = 0;
     if (readKey(text, 0, m.at + A) === 0) {
@@ -222,7 +266,10 @@ function admitsAt(slot, isIncluded, at, length) {
     return call(slot, at + skipped, length - skipped, answer) === OK && m.u8[answer] !== 0;
 }
 
-const admitsText = (slot, isIncluded, text) => admitsAt(slot, isIncluded, m.texts[0], put(0, text));
+function admitsText(slot, isIncluded, text) {
+    const length = put(0, text);
+    return admitsAt(slot, isIncluded, m.texts[0], length);
+}
 
 function admitsHeld(slot, isIncluded, version) {
     const at = m.at + A;
@@ -234,8 +281,7 @@ function admitsHeld(slot, isIncluded, version) {
     return result;
 }
 
-// False too where one is refused.
-const satisfies = calls((version, range) => {
+function admits(version, range) {
     const slot = read(range, 1, m.at + B);
     if (slot === 0) {
         return false;
@@ -244,8 +290,16 @@ const satisfies = calls((version, range) => {
     const result = version instanceof HeldVersion ? admitsHeld(slot, isIncluded, version) : admitsText(slot, isIncluded, version);
     letGo(slot, isOwn);
     return result;
-});
+}
+
+// False too where one is refused.
+function satisfies(version, range) {
+    checkVersion(version);
+    checkRange(range);
+    enter();
+    return leave(admits(version, range));
+}
 
 module.exports = {
-    HeldRange, last, read, letGo, ofOne, keyOf, admitsText, keep, forget, rangeText, sets, fromSets, refusedAt, satisfies,
+    last, checkRange, read, letGo, ofOne, keyOf, admitsText, isKept, keep, forget, rangeText, sets, fromSets, refusedAt, satisfies,
 };

@@ -2,6 +2,7 @@
 // Texts that are passed to the module, and those that it prints.
 'use strict';
 
+const { Bytes, codeAt, decode, encodeInto, ofCodes, set } = require('../builtins.js');
 const { m, allocate, view } = require('./memory.js');
 const { outOfMemory } = require('./errors.js');
 
@@ -22,18 +23,26 @@ function grow(which, size) {
     m.sizes[which] = size;
 }
 
+// Makes room for so many bytes at one of the two places.
+function makeRoomFor(which, size) {
+    if (size > m.sizes[which]) {
+        grow(which, size);
+    }
+}
+
 // Writes a text at one of the two places, and returns how many bytes it has.
 function put(which, text) {
-    const { length } = text;
-    if (length * WIDEST > m.sizes[which]) {
-        grow(which, length * WIDEST);
+    if (typeof text !== 'string') {
+        throw Object.assign(new TypeError('an argument is no string'), { code: 'ERR_INVALID_ARG_TYPE' });
     }
+    const { length } = text;
+    makeRoomFor(which, length * WIDEST);
     const { u8 } = m;
     const to = m.texts[which];
     if (length <= SHORT) {
         let i = 0;
         for (; i < length; i++) {
-            const code = text.charCodeAt(i);
+            const code = codeAt(text, i);
             if (code > LAST_ASCII) {
                 break;
             }
@@ -43,16 +52,14 @@ function put(which, text) {
             return length;
         }
     }
-    return encoder.encodeInto(text, u8.subarray(to, to + m.sizes[which])).written;
+    return encodeInto(encoder, text, new Bytes(m.buffer, to, m.sizes[which])).written;
 }
-
-const ofCodes = String.fromCharCode;
 
 // The text of so many bytes of ASCII at a place. Eight letters at a time, since each call takes as long as eight letters.
 function taken(at, length) {
     const b = m.u8;
     if (length > SHORT_PRINT) {
-        return decoder.decode(b.subarray(at, at + length));
+        return decode(decoder, new Bytes(m.buffer, at, length));
     }
     let text = '';
     let left = length;
@@ -85,20 +92,30 @@ function printed(call, slot, place) {
     }
 }
 
-// The text of a print, which has letters.
-function print(call, slot) {
+// The same of a print that has letters, where there is memory for it.
+function printedLetters(call, slot) {
     const length = printed(call, slot);
     if (length === 0) {
         throw outOfMemory();
     }
+    return length;
+}
+
+// The text of such a print.
+function print(call, slot) {
+    const length = printedLetters(call, slot);
     return taken(m.room, length);
 }
 
-// Bytes that a function prints: a Buffer where there are Buffers.
+// The bytes that a function prints.
 function bytes(call, slot, place) {
     const length = printed(call, slot, place);
-    const part = m.u8.subarray(m.room, m.room + length);
-    return typeof Buffer === 'undefined' ? part.slice() : Buffer.from(part);
+    const copy = new Bytes(length);
+    set(copy, new Bytes(m.buffer, m.room, length));
+    return copy;
 }
 
-module.exports = { put, taken, print, bytes };
+// The same as a Buffer, where there are Buffers. Not amid a call.
+const bufferOf = (copy) => (typeof Buffer === 'undefined' ? copy : Buffer.from(copy.buffer));
+
+module.exports = { put, makeRoomFor, taken, printedLetters, print, bytes, bufferOf };

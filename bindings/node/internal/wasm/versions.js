@@ -3,9 +3,10 @@
 // version that no text writes.
 'use strict';
 
-const { m, A, B, D, ANY, ANSWER, FAULT, OK, REFUSED, calls, check, view } = require('./memory.js');
+const { lengthOf, set } = require('../builtins.js');
+const { m, A, B, D, ANY, ANSWER, FAULT, OK, REFUSED, calls, check, enter, leave, view } = require('./memory.js');
 const { outOfMemory } = require('./errors.js');
-const { put, print, taken, bytes } = require('./texts.js');
+const { put, makeRoomFor, print, printedLetters, taken, bytes, bufferOf } = require('./texts.js');
 
 // What `compare`, `compareBuild` and `diff` return where the first key, or the second, is no version.
 const [FIRST_REFUSED, SECOND_REFUSED] = [16, 17];
@@ -45,24 +46,31 @@ function readAt(at, length, slot) {
     return status === OK ? OK : check(status);
 }
 
-const readText = (text, slot) => readAt(m.texts[0], put(0, text), slot);
+function readText(text, slot) {
+    const length = put(0, text);
+    return readAt(m.texts[0], length, slot);
+}
 
 // Reads back a version of its key.
 function readHeld({ key }, slot) {
-    const length = put(0, '*'.repeat(key.length));
-    m.u8.set(key, m.texts[0]);
+    const length = lengthOf(key);
+    makeRoomFor(0, length);
+    set(m.u8, key, m.texts[0]);
     emptied(slot);
     const status = check(m.f.node_semver_version_of_key(m.texts[0], length, slot));
     view();
     return status;
 }
 
-// Reads a key. The caller frees what is in the slot.
-const read = (key, slot) => (typeof key === 'string' ? readText(key, slot) : key instanceof HeldVersion ? readHeld(key, slot) : wrong());
-
-function wrong() {
-    throw Object.assign(new TypeError('no key of a version'), { code: 'ERR_INVALID_ARG_TYPE' });
+// Throws where a value is no key of a version: before a call, which would be broken off.
+function checkVersion(key) {
+    if (typeof key !== 'string' && !(key instanceof HeldVersion)) {
+        throw Object.assign(new TypeError('no key of a version'), { code: 'ERR_INVALID_ARG_TYPE' });
+    }
 }
+
+// Reads a key. The caller frees what is in the slot.
+const read = (key, slot) => (typeof key === 'string' ? readText(key, slot) : readHeld(key, slot));
 
 // A print of so many letters is read again for certain: none of its numbers has more than 15 digits.
 const LONGEST_CERTAIN = 19;
@@ -75,7 +83,7 @@ function keyOf(slot) {
         free(m.at + D);
         if (!isRead) {
             const key = bytes(m.f.node_semver_version_key, slot);
-            if (key.length === 0) {
+            if (lengthOf(key) === 0) {
                 throw outOfMemory();
             }
             free(slot);
@@ -86,7 +94,12 @@ function keyOf(slot) {
     return text;
 }
 
-const versionText = calls((key) => {
+function versionText(key) {
+    checkVersion(key);
+    return textOfKey(key);
+}
+
+const textOfKey = calls((key) => {
     const slot = m.at + A;
     if (read(key, slot) !== OK) {
         return null;
@@ -125,42 +138,73 @@ function parts(at, end) {
     return packed(isLarge || number >= SMALL, numbers * SMALL + number, IS_TRIPLE);
 }
 
-// 0 where the key is none. Otherwise one number that holds the form of the version and, where they are small, its three numbers.
-const readVersion = calls((key) => {
-    if (typeof key !== 'string') {
-        const status = read(key, m.at + A);
-        free(m.at + A);
-        return status === OK ? LARGE + (key.text.includes('-') ? HAS_MORE : IS_TRIPLE) : 0;
-    }
-    const length = put(0, key);
-    const [at] = m.texts;
+function partsOfHeld(key) {
+    const status = read(key, m.at + A);
+    free(m.at + A);
+    return status === OK ? LARGE : 0;
+}
+
+function partsOfText(text) {
+    const length = put(0, text);
+    const at = m.texts[0];
     const skipped = length > 0 && m.u8[at] === LETTER_V ? 1 : 0;
     const status = m.f.node_semver_contains_strict(m.at + ANY, at + skipped, length - skipped, m.at + ANSWER);
     return status === OK ? parts(at + skipped, at + length) : 0;
-});
+}
+
+// 0 where the key is none. Otherwise one number that holds the form of the version and, where they are small, its three numbers. Of what no
+// text writes it holds neither.
+function readVersion(key) {
+    checkVersion(key);
+    enter();
+    return leave(typeof key === 'string' ? partsOfText(key) : partsOfHeld(key));
+}
 
 // ---- two versions ----
 
-const ofTwo = (name) => calls((one, other) => {
-    const [left, right] = [m.at + A, m.at + B];
-    if (read(one, left) !== OK) {
+// Reads both keys, at A and B: OK, or which key is refused.
+function readBoth(one, other) {
+    if (read(one, m.at + A) !== OK) {
         return FIRST_REFUSED;
     }
-    if (read(other, right) !== OK) {
-        free(left);
+    if (read(other, m.at + B) !== OK) {
+        free(m.at + A);
         return SECOND_REFUSED;
     }
-    const result = m.f[name](left, right);
-    free(left);
-    free(right);
+    return OK;
+}
+
+function freeBoth(result) {
+    free(m.at + A);
+    free(m.at + B);
     return result;
-});
+}
 
 // -1, 0 or 1, or which key is refused.
-const compare = ofTwo('node_semver_version_compare');
-const compareBuild = ofTwo('node_semver_version_compare_build');
+function compare(one, other) {
+    checkVersion(one);
+    checkVersion(other);
+    enter();
+    const refused = readBoth(one, other);
+    return leave(refused === OK ? freeBoth(m.f.node_semver_version_compare(m.at + A, m.at + B)) : refused);
+}
+
+function compareBuild(one, other) {
+    checkVersion(one);
+    checkVersion(other);
+    enter();
+    const refused = readBoth(one, other);
+    return leave(refused === OK ? freeBoth(m.f.node_semver_version_compare_build(m.at + A, m.at + B)) : refused);
+}
+
 // The number of the bump in node_semver.h, or which key is refused.
-const diff = ofTwo('node_semver_version_diff');
+function diff(one, other) {
+    checkVersion(one);
+    checkVersion(other);
+    enter();
+    const refused = readBoth(one, other);
+    return leave(refused === OK ? freeBoth(m.f.node_semver_version_diff(m.at + A, m.at + B)) : refused);
+}
 
 // ---- versions that are made ----
 
@@ -177,10 +221,12 @@ function made(status) {
 }
 
 // The print of the version after the bump; or the status of node_semver.h for which there is none.
-const bump = calls((key, number, identifier, base) => {
-    if (typeof identifier !== 'string') {
-        return INVALID_IDENTIFIER;
-    }
+function bump(key, number, identifier, base) {
+    checkVersion(key);
+    return typeof identifier === 'string' ? bumped(key, Number(number), identifier, Number(base)) : INVALID_IDENTIFIER;
+}
+
+const bumped = calls((key, number, identifier, base) => {
     const slot = m.at + A;
     if (read(key, slot) !== OK) {
         return REFUSED;
@@ -191,31 +237,46 @@ const bump = calls((key, number, identifier, base) => {
     return result;
 });
 
-// The print of the version that is found in the text, or null. If full, it has the prerelease and the build that follow.
+// The version that is found in the text: where it is a triple of small numbers, what `readVersion` returns of it; else its print; or null. If
+// full, it has the prerelease and the build that follow.
 const coerce = calls((text, rtl, full) => {
     if (typeof text !== 'string') {
         return null;
     }
     const length = put(0, text);
+    const slot = emptied(m.at + B);
     const call = full ? m.f.node_semver_version_coerce_with_prerelease : m.f.node_semver_version_coerce;
-    const result = made(call(m.texts[0], length, rtl ? 1 : 0, emptied(m.at + B)));
-    return typeof result === 'string' ? result : null;
+    const status = check(call(m.texts[0], length, rtl ? 1 : 0, slot));
+    view();
+    if (status !== OK) {
+        return null;
+    }
+    const letters = printedLetters(m.f.node_semver_version_print, slot);
+    free(slot);
+    const found = parts(m.room, m.room + letters);
+    return (found & IS_TRIPLE + LARGE) === IS_TRIPLE ? found : taken(m.room, letters);
 });
 
-// The bytes that sort as versions do, or null where the key is refused.
-const sortKey = calls((key) => {
+const keyBytes = calls((key) => {
     const slot = m.at + A;
     if (read(key, slot) !== OK) {
         return null;
     }
     const found = bytes(m.f.node_semver_version_key, slot);
     free(slot);
-    if (found.length === 0) {
+    if (lengthOf(found) === 0) {
         throw outOfMemory();
     }
     return found;
 });
 
+// The bytes that sort as versions do, or null where the key is refused.
+function sortKey(key) {
+    checkVersion(key);
+    const found = keyBytes(key);
+    return found === null ? null : bufferOf(found);
+}
+
 module.exports = {
-    HeldVersion, emptied, free, read, readText, keyOf, versionText, readVersion, compare, compareBuild, diff, bump, coerce, sortKey,
+    HeldVersion, checkVersion, emptied, free, read, readText, keyOf, versionText, readVersion, compare, compareBuild, diff, bump, coerce, sortKey,
 };

@@ -67,12 +67,4 @@ uint32_t node_semver_satisfies_text(TEXT, TEXT, bool *, struct fault *);
 #undef TEXT
 #undef ROOM
 
-/* The heap of a build for tests. */
-void heap_refuse(uint32_t n);
-uint32_t heap_requests(void);
-int32_t heap_blocks(void);
-
-/* Writes to standard output. */
-void write_out(const char *bytes, size_t length);
-
 #endif

@@ -3,27 +3,7 @@
 #ifndef MADE_H
 #define MADE_H
 
-#include "../memory.h"
-
-static uint64_t seed;
-
-static uint32_t below(uint32_t n) {
-    seed = seed * 6364136223846793005u + 1442695040888963407u;
-    return (uint32_t)((seed >> 33) % n);
-}
-
-struct text {
-    size_t length;
-    char bytes[4096];
-};
-
-static void add(struct text *text, const char *bytes) {
-    while (*bytes != '\0' && text->length < sizeof text->bytes) {
-        text->bytes[text->length++] = *bytes++;
-    }
-}
-
-#define ONE_OF(list) list[below(sizeof list / sizeof *list)]
+#include "text.h"
 
 static void add_number(struct text *text) {
     static const char *const rare[] = {"01", "65535", "65536", "9007199254740991", "9007199254740992", "18446744073709551615",

@@ -114,8 +114,8 @@ const rows = {
     '`diff` of two texts': each(some, (s) => (version, i) => s.diff(version, text(i + 1))),
     '`diff` of two `SemVer`s': pairs(some, 'diff'),
     '`sort` of 10,000 texts': once((s) => () => s.sort(many.slice())),
-    '`sort` of 1,000 `SemVer`s': once((s) => {
-        const list = read(s, some);
+    '`sort` of 10,000 `SemVer`s': once((s) => {
+        const list = read(s, many);
         return () => s.sort(list.slice());
     }),
     '`sort` of 1,000 `SemVer`s of one triple': once((s) => {

@@ -1,7 +1,8 @@
 -- The exceptions of a file in TOML: OSV-Scanner's "Configure OSV-Scanner", "Ignore vulnerabilities by ID".
-use Rattle.std.specs.Prelude.{◌≡◌, ◌||◌, ◌+◌, ℕ, List, [], ◌∷◌, Bool, bytes_eq, codes, if◌then◌else◌, is_some, string_bytes}
+use Rattle.std.specs.Prelude.{◌≡◌, ◌||◌, ◌+◌, ◌==◌, length, ℕ, List, [], ◌∷◌, Bool, bytes_eq, codes, if◌then◌else◌, is_some, string_bytes}
 use Rattle.std.specs.Prelude.{Option, None, Some, option_and_then, option_map, Result, Err, Ok}
 use Rattle.std.specs.List.{list_any}
+use Rattle.std.specs.Str.{trim}
 use Rattle.toml.specs.Data.{Data, Items, Members, array, as_array, as_datetime, as_str, as_table, get_member, item, member, no_items, no_members}
 use Rattle.toml.specs.Parse.{parse_document}
 use Rattle.toml_datetime.specs.declared.datetime.Date.{Date}
@@ -55,10 +56,12 @@ unknown_key known (member key value others) = if is_among known key then unknown
 
 -- ---- one exception
 
--- a text that is not empty
+-- a text that is not white space alone
+abbrev pub is_blank : (text : List ℕ) → Bool
+is_blank text = length (trim text) == 0
+
 abbrev pub some_text : List ℕ → Option (List ℕ)
-some_text [] = None
-some_text (byte ∷ text) = Some (byte ∷ text)
+some_text text = if is_blank text then None else Some text
 
 abbrev pub text_at : (key : List ℕ) → Members → Option (List ℕ)
 text_at key members = option_and_then some_text (option_and_then as_str (get_member key members))

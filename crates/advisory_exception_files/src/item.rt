@@ -75,12 +75,12 @@ pub(crate) fn value_at<'t>(table: &'t Table, key: &str) -> Option<&'t Value>
     table.get(key)
 }
 
-/// A text at a key, if it is not empty.
+/// A text at a key, if it is not white space alone.
 fn text_at<'t>(table: &'t Table, key: &str) -> Option<&'t str>
     ensures { option_map (λ text. text.now) result ≡ Reading.text_at key.now (table_view table.now) }
 {
     match value_at(table, key)?.as_str() {
-        Some(text) if !text.is_empty() => Some(text),
+        Some(text) if !text.trim().is_empty() => Some(text),
         _ => None,
     }
 }

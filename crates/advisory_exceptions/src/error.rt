@@ -14,11 +14,11 @@ pub enum ExceptionFault {
     Table(usize),
     /// A key of the exception at this place is not `id`, `package`, `reason` or `until`.
     ExceptionKey(usize, String),
-    /// The exception at this place has no `id`, or one that is no string or is empty.
+    /// The exception at this place has no `id`, or one that is no string or is white space alone.
     Id(usize),
-    /// The exception at this place has no `package`, or one that is no string or is empty.
+    /// The exception at this place has no `package`, or one that is no string or is white space alone.
     Package(usize),
-    /// The exception at this place has no `reason`, or one that is no string or is empty.
+    /// The exception at this place has no `reason`, or one that is no string or is white space alone.
     Reason(usize),
     /// `until` of the exception at this place is no day.
     Until(usize),

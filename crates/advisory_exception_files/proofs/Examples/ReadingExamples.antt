@@ -52,6 +52,10 @@ no_id_at_all = refl
 pub no_reason_at_all : exceptions_of (file (item (lodash no_members) no_items)) ≡ Err (no_reason 0)
 no_reason_at_all = refl
 
+-- white space says nothing
+pub a_blank_reason : exceptions_of (file (item (lodash (member (codes "reason") (string (codes "  ")) no_members)) no_items)) ≡ Err (no_reason 0)
+a_blank_reason = refl
+
 -- a text is no day
 pub a_day_in_quotes : exceptions_of (file (item (lodash (why (member (codes "until") (string (codes "2027-03-01")) no_members))) no_items))
     ≡ Err (no_day 0)

@@ -5,8 +5,8 @@
 //! least of them. Two ranges have an intersection and a difference, and a [`SetTree`] nests these operations.
 //!
 //! Each public call has a contract, and the checker proves that its result meets the contract. The definitions in the
-//! contracts are in `specs/`, here and in the crates below, and a caller names all of them from here. `docs/CLAUSES.md`
-//! lists the clauses. [`laws`] has what follows from the definitions alone. A call that can allocate takes the allocator as
+//! contracts are in `specs/`, here and in the crates below, and a caller names all of them from here. `./check --clauses
+//! CALL` prints them. [`laws`] has what follows from the definitions alone. A call that can allocate takes the allocator as
 //! an argument, or uses the one that a value holds. If an allocation fails, the call returns an error.
 //!
 //! # Examples

@@ -3,6 +3,8 @@
 // so no code of a user runs amid such a call, whatever is put in the place of a built-in function later.
 'use strict';
 
+const { wrongType } = require('./wasm/errors.js');
+
 const { bind, call } = Function.prototype;
 
 // A method as a function of its object and its arguments.
@@ -25,7 +27,7 @@ function add(list, value) {
 // A list of the elements of an array, or of a list, which are read here.
 function listOf(values) {
     if (typeof values !== 'object') {
-        throw Object.assign(new TypeError('no list'), { code: 'ERR_INVALID_ARG_TYPE' });
+        throw wrongType('no list');
     }
     const list = new List();
     const { length } = values;

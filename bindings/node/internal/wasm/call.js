@@ -4,9 +4,9 @@
 'use strict';
 
 const { Bytes, List, Words, add, apply, bufferOf, encodeInto, fill, set, sizeOf } = require('../builtins.js');
-const { outOfMemory } = require('./errors.js');
+const { outOfMemory, wrongType } = require('./errors.js');
+const { MOST_MEMORY } = require('./limits.js');
 
-const MOST_MEMORY = 64 << 20;
 // The most bytes of UTF-8 that a unit of a string takes.
 const WIDEST = 3;
 
@@ -58,7 +58,7 @@ class Caller {
     // Writes a text; adds where it is and how many bytes it has to the arguments of a call.
     put(text, given) {
         if (typeof text !== 'string') {
-            throw Object.assign(new TypeError('an argument is no string'), { code: 'ERR_INVALID_ARG_TYPE' });
+            throw wrongType('an argument is no string');
         }
         const at = this.allocate(text.length * WIDEST);
         add(given, at);

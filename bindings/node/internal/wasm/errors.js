@@ -1,8 +1,10 @@
 // SPDX-License-Identifier: Apache-2.0
+// Errors of calls of the modules.
 'use strict';
 
-function outOfMemory() {
-    return Object.assign(new Error('out of memory'), { code: 'ERR_MEMORY_ALLOCATION_FAILED' });
-}
+const { assign } = Object;
 
-module.exports = { outOfMemory };
+const outOfMemory = () => assign(new Error('out of memory'), { code: 'ERR_MEMORY_ALLOCATION_FAILED' });
+const wrongType = (message) => assign(new TypeError(message), { code: 'ERR_INVALID_ARG_TYPE' });
+
+module.exports = { outOfMemory, wrongType };

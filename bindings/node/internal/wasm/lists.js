@@ -4,6 +4,7 @@
 
 const { List, Words, add, fill, listOf } = require('../builtins.js');
 const { sortPlaces } = require('../sort.js');
+const { wrongType } = require('./errors.js');
 const { m, ANSWER, B, C, OK, allocate, calls, check, view } = require('./memory.js');
 const { bytes, bufferOf } = require('./texts.js');
 const { admitsText, checkRange, last, letGo, ofOne, read } = require('./ranges.js');
@@ -16,7 +17,7 @@ function textsOf(values) {
     const texts = listOf(values);
     for (let i = 0; i < texts.length; i++) {
         if (typeof texts[i] !== 'string') {
-            throw Object.assign(new TypeError('no text'), { code: 'ERR_INVALID_ARG_TYPE' });
+            throw wrongType('no text');
         }
     }
     return texts;

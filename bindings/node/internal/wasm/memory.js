@@ -10,8 +10,7 @@
 const { module: compiled } = require('#node_semver');
 const { Bytes, Words, bufferOf, fill, sizeOf } = require('../builtins.js');
 const { outOfMemory } = require('./errors.js');
-
-const MOST_MEMORY = 64 << 20;
+const { MOST_MEMORY } = require('./limits.js');
 
 // What the calls of node_semver.h return.
 const [OK, NONE, REFUSED, NOT_UTF8, OUT_OF_MEMORY] = [0, 1, 2, 3, 4];

@@ -7,6 +7,7 @@ const { List, add, codeAt, fill, listOf } = require('../builtins.js');
 const {
     m, A, B, C, D, ANSWER, FAULT, OK, PLACE, PLACES, REFUSED, allocate, calls, check, enter, leave, view,
 } = require('./memory.js');
+const { wrongType } = require('./errors.js');
 const { put, print } = require('./texts.js');
 const { HeldVersion, checkVersion, emptied, free: freeVersion, keyOf: keyOfVersion, read: readVersion } = require('./versions.js');
 
@@ -124,7 +125,7 @@ function keptSlot({ key, place }) {
 // throws.
 function keep(key, place) {
     if (typeof key !== 'string' || !isPlace(place)) {
-        wrong('no text or no place');
+        throw wrongType('no text or no place');
     }
     enter();
     const slot = slotOf(place);
@@ -159,14 +160,10 @@ function readKey(key, which, slot) {
     return readAt(m.texts[which] + 1, length - 1, options, slot) === OK ? slot : 0;
 }
 
-const wrong = (message) => {
-    throw Object.assign(new TypeError(message), { code: 'ERR_INVALID_ARG_TYPE' });
-};
-
 // Throws where a value is no key of a range: before a call, which would be broken off.
 function checkRange(key) {
     if (!(key instanceof KeptRange) && typeof key !== 'string' && !(key instanceof HeldRange)) {
-        wrong('no key of a range');
+        throw wrongType('no key of a range');
     }
 }
 
@@ -241,7 +238,7 @@ function fromSets(cuts) {
 // The byte offset at which the text of a key is refused; null where it is read.
 function refusedAt(key) {
     if (typeof key !== 'string') {
-        wrong('no text');
+        throw wrongType('no text');
     }
     return placeOfFault(key);
 }

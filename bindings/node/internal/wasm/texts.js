@@ -4,7 +4,7 @@
 
 const { Bytes, codeAt, decode, encodeInto, ofCodes, set } = require('../builtins.js');
 const { m, allocate, view } = require('./memory.js');
-const { outOfMemory } = require('./errors.js');
+const { outOfMemory, wrongType } = require('./errors.js');
 
 const LAST_ASCII = 127;
 // A shorter text is written letter by letter, which takes less time.
@@ -33,7 +33,7 @@ function makeRoomFor(which, size) {
 // Writes a text at one of the two places, and returns how many bytes it has.
 function put(which, text) {
     if (typeof text !== 'string') {
-        throw Object.assign(new TypeError('an argument is no string'), { code: 'ERR_INVALID_ARG_TYPE' });
+        throw wrongType('an argument is no string');
     }
     const { length } = text;
     makeRoomFor(which, length * WIDEST);

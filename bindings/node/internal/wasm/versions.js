@@ -5,7 +5,7 @@
 
 const { lengthOf, set } = require('../builtins.js');
 const { m, A, B, D, ANY, ANSWER, FAULT, OK, REFUSED, calls, check, enter, leave, view } = require('./memory.js');
-const { outOfMemory } = require('./errors.js');
+const { outOfMemory, wrongType } = require('./errors.js');
 const { put, makeRoomFor, print, printedLetters, taken, bytes, bufferOf } = require('./texts.js');
 
 // What `compare`, `compareBuild` and `diff` return where the first key, or the second, is no version.
@@ -65,7 +65,7 @@ function readHeld({ key }, slot) {
 // Throws where a value is no key of a version: before a call, which would be broken off.
 function checkVersion(key) {
     if (typeof key !== 'string' && !(key instanceof HeldVersion)) {
-        throw Object.assign(new TypeError('no key of a version'), { code: 'ERR_INVALID_ARG_TYPE' });
+        throw wrongType('no key of a version');
     }
 }
 

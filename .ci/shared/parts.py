@@ -151,7 +151,7 @@ def note(counts):
 
 
 def noted():
-    rows = (line.split("\t") for path in files.matching(LAST) for line in files.lines(path))
+    rows = (line.split("\t") for path in files.matching(LAST) for line in files.lines(path) if line)
     return {name: int(count) for name, count in rows}
 
 

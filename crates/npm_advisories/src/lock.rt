@@ -5,7 +5,6 @@ ghost use Rattle.serde_json.specs.Data.{Data};
 ghost use Rattle.serde_json.specs.View.{members_view, view};
 ghost use Rattle.npm_packages.specs.Dependents.{texts_at};
 ghost use Rattle.npm_packages.specs.Faults.{lock_fault};
-ghost use Rattle.npm_packages.specs.Packages.{is_link};
 ghost use Rattle.npm_advisories.specs.Audit.{InstalledValue, IsAudit, found_value, installed_value};
 ghost use Rattle.npm_advisories.specs.Files.{advisories_of};
 ghost use Rattle.npm_packages.specs.LastParts.{IsEnd};
@@ -15,7 +14,7 @@ ghost use Rattle.npm_advisories.specs.LockFile.{AreInstalled, AreInstalledOf, Is
 use crate::found::{Found, Installed, audit};
 use crate::member::text_at;
 use crate::{AuditError, Fault, Result, Severity};
-use npm_packages::{CheckError, Dependents, SoundLock, end_of};
+use npm_packages::{CheckError, Dependents, SoundLock, end_of, is_link};
 use serde_json::{Map, Value};
 use std::alloc::Global;
 
@@ -193,11 +192,4 @@ fn said_or_placed<'v>(folder: &'v str, said: &'v str) -> &'v str
     } else {
         said
     }
-}
-
-/// Returns `true` if a member of `packages` is a link.
-fn is_link(entry: &Value) -> bool
-    ensures { result ≡ is_link (view entry.now) }
-{
-    entry.get("link").and_then(Value::as_bool).unwrap_or(false)
 }

@@ -62,7 +62,14 @@ are_straight parts = list_all is_step (below_up parts)
 abbrev pub is_straight : (path : List ℕ) → Bool
 is_straight path = are_straight (parts_of path)
 
+-- the last part is `node_modules`: such a folder holds packages, and npm finds none of them if it is one itself
+abbrev pub ends_in_modules : (parts : List (List ℕ)) → Bool
+ends_in_modules [] = false
+ends_in_modules (part ∷ []) = bytes_eq part (codes "node_modules")
+ends_in_modules (part ∷ next ∷ parts) = ends_in_modules (next ∷ parts)
+
 -- The folder of a package as npm writes it, the shortest path from the root: `node_modules/a`, `w`, `../x`, and the empty
--- path. It has at most 4,096 bytes, as a path of Linux.
+-- path. It has at most 4,096 bytes, as a path of Linux, and is no `node_modules`.
 abbrev pub is_folder : (path : List ℕ) → Bool
-is_folder path = (length path == 0) || (nat_le (length path) 4096 && is_straight path)
+is_folder path = (length path == 0)
+    || (nat_le (length path) 4096 && (is_straight path && not (ends_in_modules (parts_of path))))

@@ -1,9 +1,10 @@
 -- Where the name of a dependency is found: npm's "folders", "Cycles, Conflicts, and Folder Parsimony".
 use Rattle.std.specs.Prelude.{◌≡◌, ◌≢◌, ◌⊎◌, ℕ, List, [], Bool, true, false, if◌then◌else◌, Option, Some, None, option_map}
-use Rattle.std.specs.Prelude.{option_and_then, unwrap_or, codes, drop, nat_eq}
+use Rattle.std.specs.Prelude.{option_and_then, codes, drop, nat_eq}
 use Rattle.std.specs.List.{starts_with}
 use Rattle.serde_json.specs.Data.{Data}
-use Rattle.serde_json.specs.Find.{as_bool, as_str, get}
+use Rattle.serde_json.specs.Find.{as_str, get}
+use Rattle.npm_texts.specs.Truth.{has_true}
 use Rattle.npm_packages.specs.Folders.{IsAbove, IsOutermost, is_modules, place_in}
 use Rattle.npm_packages.specs.LastParts.{IsEnd, IsPlain}
 
@@ -26,9 +27,9 @@ pub data IsNamed (named : Package) (name : List ℕ) : Type 0 where
   placed : (said_name named.member ≡ None) ⊎ (said_name named.member ≡ Some []) → IsEnd named.folder name
       → IsNamed named name
 
--- a member with `"link": true`, which is no package of its own
+-- a member whose `link` counts as true in JavaScript, so that npm takes it for a link, which is no package of its own
 abbrev pub is_link : (member : Data) → Bool
-is_link member = unwrap_or (option_and_then as_bool (get (codes "link") member)) false
+is_link member = has_true (codes "link") member
 
 -- the folder that `resolved` of a link names: `w` and `./w` name the same
 abbrev pub linked_folder : (resolved : List ℕ) → List ℕ

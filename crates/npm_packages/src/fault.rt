@@ -22,8 +22,8 @@ pub enum Fault {
     /// `packages` is missing, or is no object.
     #[error("`packages` is no object")]
     Packages,
-    /// A package has a folder that npm does not write: a part is empty, `.` or after others `..`, or has a `\`, or the folder
-    /// has more than 4,096 bytes.
+    /// A package has a folder that npm does not write: a part is empty, `.` or after others `..`, or has a `\`, the last one is
+    /// `node_modules`, or the folder has more than 4,096 bytes.
     #[error("npm does not write the folder of a package so, or it has more than 4096 bytes")]
     Folder,
     /// `workspaces` of the root is no list of patterns, and no object with such a list as `packages`.

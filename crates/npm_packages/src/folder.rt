@@ -1,5 +1,5 @@
 //! Folders of packages, as the keys of a lock file write them: `node_modules/a`, and `""` for the root.
-ghost use Rattle.std.specs.Prelude.{◌≡◌, ◌≤◌, ◌↔◌, ◌&&◌, ◌||◌, ◌==◌, ℕ, IsTrue, List, bytes_eq, codes, false, length, nat_le, true};
+ghost use Rattle.std.specs.Prelude.{◌≡◌, ◌≤◌, ◌↔◌, ◌&&◌, ◌||◌, ◌==◌, ℕ, IsTrue, List, bytes_eq, codes, false, length, nat_le, not, true};
 ghost use Rattle.std.specs.List.{list_any};
 ghost use Rattle.std.specs.Option.{MatchOption};
 ghost use Rattle.npm_packages.specs.Folders.{IsInstalled, parts_of, place_in};
@@ -35,26 +35,21 @@ pub fn is_installed(folder: &str) -> bool
 const MAX_FOLDER: usize = 4096;
 
 /// Returns `true` for the folder of a package as npm writes it, the shortest path from the root: no part is empty or `.`, `..` has no
-/// other part before it, no part has a `\`, and there are at most 4,096 bytes. The root's folder is empty. Does not allocate.
+/// other part before it, no part has a `\`, the last one is no `node_modules`, and there are at most 4,096 bytes. The root's folder is
+/// empty. Does not allocate.
 ///
 /// # Examples
 ///
 /// `node_modules/a`, `w/node_modules/@s/a` and `../x`, but not `node_modules/a/`, `./w` and `w/../a`: npm finds the packages
-/// `a`, `w` and `a` there.
+/// `a`, `w` and `a` there. Nor `node_modules` itself: npm then finds none of the packages in it.
 pub fn is_folder(path: &str) -> bool
     ensures { result ≡ Folders.is_folder path.now }
 {
-    path.is_empty() || (path.len() <= MAX_FOLDER && is_straight(path))
+    path.is_empty() || (path.len() <= MAX_FOLDER && are_steps(path, true))
 }
 
-/// Returns `true` for a path whose parts lead up alone, down alone, or first up and then down.
-fn is_straight(path: &str) -> bool
-    ensures { result ≡ Folders.is_straight path.now }
-{
-    are_steps(path, true)
-}
-
-/// Returns `true` if each part of the path leads one folder down, or if `may_lead_up` also up before all others.
+/// Returns `true` if each part of the path leads one folder down, or if `may_lead_up` also up before all others, and the last one
+/// to a package.
 fn are_steps(path: &str, may_lead_up: bool) -> bool
     ensures { result ≡ are_steps may_lead_up (parts_of path.now) }
 {
@@ -67,7 +62,15 @@ fn are_steps(path: &str, may_lead_up: bool) -> bool
         is_up = leads_up(is_up, part);
         left = rest;
     }
-    is_right(is_up, left)
+    is_last(is_up, left)
+}
+
+/// Returns `true` for a last part that is right, and no `node_modules`.
+fn is_last(is_up: bool, part: &str) -> bool
+    ensures { result ≡ (((is_up && bytes_eq part.now (codes "..")) || Folders.is_step part.now)
+        && not (bytes_eq part.now (codes "node_modules"))) }
+{
+    is_right(is_up, part) && part != "node_modules"
 }
 
 /// Returns `true` for a part that leads one folder up or down. Up is right only if all parts so far lead up.

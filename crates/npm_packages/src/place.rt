@@ -14,6 +14,7 @@ ghost use Rattle.npm_packages.specs.Private.Search.{IsNearest};
 use crate::Result;
 use crate::index::{Hit, Index, end_of, is_plain};
 use crate::places::nearest;
+use npm_texts::has_true;
 use serde_json::{Map, Value};
 use std::alloc::Global;
 
@@ -200,9 +201,9 @@ fn said_name(member: &Value) -> Option<&str>
     member.get("name")?.as_str()
 }
 
-/// Returns `true` if a member of `packages` is a link, and no package of its own.
+/// Returns `true` if a member of `packages` is a link, and no package of its own: npm asks whether `link` counts as true.
 pub fn is_link(member: &Value) -> bool
     ensures { result ≡ Packages.is_link (view member.now) }
 {
-    member.get("link").and_then(Value::as_bool).unwrap_or(false)
+    has_true(member, "link")
 }

@@ -1,13 +1,14 @@
 -- Nothing is wrong with any dependency, with any package, and so in the whole lock file.
-use Rattle.std.proofs.Common.{◌≡◌, ◌∙◌, ◌≢◌, ◌↔◌, ◌++◌, ℕ, List, [], ◌∷◌, Bool, IsTrue, None, Option, Ordering, Less, Equal, Greater, Some, ap, bytes_eq, codes, cond, false, inl, inr, is_eq, map, nat_cmp, option_and_then, option_map, refl, subst, sym, true, unwrap_or}
+use Rattle.std.proofs.Common.{◌≡◌, ◌∙◌, ◌≢◌, ◌↔◌, ◌++◌, ℕ, List, [], ◌∷◌, Bool, IsTrue, None, Option, Ordering, Less, Equal, Greater, Some, ap, bytes_eq, codes, cond, false, inl, inr, is_eq, map, nat_cmp, option_and_then, option_map, refl, subst, sym, true}
 use Rattle.std.proofs.lemmas.List.Elements.{All-cons, All-head, All-nil, All-tail, All-weaker}
 use Rattle.std.proofs.lemmas.Map.Text.{is_eq-slice_cmp}
 use Rattle.std.proofs.lemmas.Slice.Eq.{bytes_eq-Decides}
 use Rattle.std.specs.List.{All, AllZip, filter_map}
+use Rattle.std.specs.Option.{option_map_or}
 use Rattle.std.specs.Cmp.Lexicographic.{slice_cmp}
 use Rattle.serde_json.proofs.Views.{get_member-put, get_member-put_other}
 use Rattle.serde_json.specs.Data.{Data, Members, boolean, member, no_members, number, object, put, unsigned}
-use Rattle.serde_json.specs.Find.{as_bool, as_object, as_str, get, get_member}
+use Rattle.serde_json.specs.Find.{as_object, as_str, get, get_member}
 use Rattle.npm_packages.specs.Asked.{AskedValue, accepted_of, asked_of}
 use Rattle.npm_packages.specs.Folders.{IsInstalled, place_in}
 use Rattle.npm_packages.specs.LastParts.{IsPlain}
@@ -26,6 +27,7 @@ use Rattle.npm_texts.specs.Admission.{Admits, IsNoRange, of_dependencies}
 use Rattle.npm_texts.specs.InstalledVersions.{IsInstalledVersion}
 use Rattle.npm_texts.specs.SpecGrammar.{IsSpec, SpecValue, in_registry, is_tag, location, refused}
 use Rattle.npm_texts.specs.SpecLaws.{IsOneSpec}
+use Rattle.npm_texts.specs.Truth.{is_true}
 use Rattle.npm_flat_locks.specs.Installed.{InstalledValue, found, found_after, later_found}
 use Rattle.npm_flat_locks.specs.Lock.{IsLock, packages_of, root_package, with_package, with_packages}
 use Rattle.npm_flat_locks.specs.Members.{package_data, root_data, with_copy}
@@ -143,7 +145,7 @@ module _ (one_spec : OneSpec) (version spec : List ℕ) where
 module _ (one_spec : OneSpec) (packages : Data) (installed : List InstalledValue) (marks_of : List ℕ → Marks)
     (placed : (name : List ℕ) → get (place_in [] name) packages ≡ data_of marks_of (found installed name)) where
   link_free : (one : InstalledValue) → is_link (package_data one (marks_of one.name)) ≡ false
-  link_free one = ap (λ o. unwrap_or (option_and_then as_bool o) false) (no_link one (marks_of one.name))
+  link_free one = ap (λ o. option_map_or is_true o false) (no_link one (marks_of one.name))
 
   -- the package that is found in the folder of a name
   some_at : (name : List ℕ) (one : InstalledValue) → found installed name ≡ Some one → package_at packages (place_in [] name)
@@ -368,7 +370,7 @@ module _ (one_spec : OneSpec) (root : Data) (installed : List InstalledValue) (m
         (link_free one_spec packages installed marks_of placed one) package_edges
 
   root_fine : IsFineMember packages [] (root_data root)
-  root_fine = member_fine packages [] (root_data root) (ap (λ o. unwrap_or (option_and_then as_bool o) false) (not_of_root (codes "link") root refl refl refl)) root_edges
+  root_fine = member_fine packages [] (root_data root) (ap (λ o. option_map_or is_true o false) (not_of_root (codes "link") root refl refl refl)) root_edges
 
   each_fine : (some : List InstalledValue) → All (λ (o : InstalledValue). IsInside o.name) some
       → All (λ (o : InstalledValue). AreAllMet installed o.manifest true) some

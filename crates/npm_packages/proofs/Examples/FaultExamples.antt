@@ -50,6 +50,15 @@ a_folder_has_no_dot = refl
 pub a_folder_has_no_backslash : is_folder (codes "node_modules\\a") ≡ false
 a_folder_has_no_backslash = refl
 
+pub a_folder_of_packages_is_none : is_folder (codes "w/node_modules") ≡ false
+a_folder_of_packages_is_none = refl
+
+pub the_first_folder_of_packages_is_none : is_folder (codes "node_modules") ≡ false
+the_first_folder_of_packages_is_none = refl
+
+pub a_package_may_be_named_alike : is_folder (codes "node_modules/node_modules-a") ≡ true
+a_package_may_be_named_alike = refl
+
 -- a lock file with a package in this folder
 abbrev with_folder : (folder : List ℕ) → Data
 with_folder folder = object (member (codes "lockfileVersion") (number (unsigned 3))

@@ -27,5 +27,5 @@ returns-then-not-is_right c =
 pub returns : goal.returns
 returns c =
     let split = split_parts 47 c.parts.left.now c.split_once.result c.split_once.ensures.cases (omega arith) in
-    ended c.parts.is_up c.parts.left.now _ c.parts.invariant.same (rw c.in_default.is at split) c.is_right-2.result
-    c.is_right-2.ensures
+    ended c.parts.is_up c.parts.left.now _ c.parts.invariant.same (rw c.in_default.is at split) c.is_last.result
+    c.is_last.ensures

@@ -1,4 +1,5 @@
 pub mod Above
+pub mod AliasNames
 pub mod Beside
 pub mod Examples
 pub mod Fronts

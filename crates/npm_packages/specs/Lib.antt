@@ -11,6 +11,7 @@ pub mod Overrides  -- which dependencies `overrides` change
 pub mod Faults  -- which values are no lock file
 pub mod Edges  -- the dependencies of all packages, and the package that is installed for each
 pub mod Dependents  -- the texts by which packages depend on an installed package
+pub mod Aliases  -- the packages that dependencies ask for by another name
 pub mod LinkedFolders  -- the folders of packages that links name
 -- ---- the values of a caller that goes over the packages
 pub mod PackageValue  -- packages and their dependencies as values

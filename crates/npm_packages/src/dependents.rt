@@ -60,7 +60,27 @@ impl<'v> Dependents<'v> {
         ensures { IfOk result (λ dependents. AreDependents (view lock.now) (texts_at dependents)) }
     {
         let edges = edges_in(lock)?;
-        dependents_of(lock.packages().alloc, &edges)
+        Dependents::of_edges(lock.packages().alloc, &edges)
+    }
+
+    /// Returns the texts of these dependencies, by the folders of the packages that are found for them.
+    ///
+    /// # Errors
+    ///
+    /// An allocation failed.
+    ///
+    /// # Memory
+    ///
+    /// Allocates a list of texts for each folder. The texts are borrowed.
+    pub fn of_edges(alloc: Global, edges: &[Edge<'v>]) -> Result<Dependents<'v>>
+        ensures { IfOk result (λ dependents. (folder : List ℕ)
+            → AreTextsFor folder (map edge_value edges.now) (texts_at dependents folder)) }
+    {
+        let mut dependents = Dependents::new(alloc);
+        for edge in edges {
+            dependents.add_edge(alloc, *edge)?;
+        }
+        Ok(dependents)
     }
 
     /// The texts by which other packages depend on the package in a folder: in the order of their folders' bytes, for each of
@@ -100,18 +120,6 @@ impl<'v> Dependents<'v> {
         list.push(text)?;
         Ok(())
     }
-}
-
-/// The dependents of the packages that these dependencies lead to.
-fn dependents_of<'v>(alloc: Global, edges: &[Edge<'v>]) -> Result<Dependents<'v>>
-    ensures { IfOk result (λ dependents. (folder : List ℕ)
-        → AreTextsFor folder (map edge_value edges.now) (texts_at dependents folder)) }
-{
-    let mut dependents = Dependents::new(alloc);
-    for edge in edges {
-        dependents.add_edge(alloc, *edge)?;
-    }
-    Ok(dependents)
 }
 
 /// The range or the tag of a dependency, or a text that is no range.

@@ -76,8 +76,16 @@ pub fn edges_of(alloc: Global, lock: &Value) -> Result<Vec<Edge<'_>>, CheckError
     }
 }
 
-/// The dependencies of all packages of a lock file without a fault.
-pub(crate) fn edges_in<'v>(lock: &SoundLock<'v>) -> Result<Vec<Edge<'v>>>
+/// Returns the dependencies of all packages as [`edges_of`] does, for a lock file without a fault.
+///
+/// # Errors
+///
+/// An allocation failed.
+///
+/// # Memory
+///
+/// Allocates the list. The edges borrow the lock file.
+pub fn edges_in<'v>(lock: &SoundLock<'v>) -> Result<Vec<Edge<'v>>>
     ensures { IfOk result (λ edges. AreLockEdges (view lock.now) (map edge_value edges.items)) }
 {
     edges_among(lock.packages(), lock.index(), lock.rules())

@@ -6,6 +6,7 @@
 //! times makes it once.
 #![tactic(auto)]
 
+mod aliases;
 mod asked;
 mod dependents;
 mod edges;
@@ -19,9 +20,10 @@ mod places;
 mod search;
 mod sound_lock;
 
+pub use aliases::Aliases;
 pub use asked::{Asked, Names, accepted_of, asked_of, is_optional_peer};
 pub use dependents::Dependents;
-pub use edges::{Edge, edges_of};
+pub use edges::{Edge, edges_in, edges_of};
 pub use fault::{
     CheckError, Fault, check_package, check_specs, has_format, has_patterns, has_text_version,
     link_fault, lock_of,

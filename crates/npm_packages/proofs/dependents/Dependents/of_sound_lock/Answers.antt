@@ -5,10 +5,10 @@ use Rattle.npm_packages.specs.Edges.{edge_value}
 use Rattle.npm_packages.proofs.dependents.Dependents.of_sound_lock.Goals as goal
 
 pub returns : goal.returns
-returns c = IfOk-weaker c.dependents_of.result _ _
+returns c = IfOk-weaker c.of_edges.result _ _
     (λ dependents texts. record {
       edges = map edge_value c.in_ok-edges.edges.items;
       are = c.in_ok-edges.ensures;
       texts = texts;
     })
-    (rw c.deref.ensures.value at c.dependents_of.ensures)
+    (rw c.deref.ensures.value at c.of_edges.ensures)

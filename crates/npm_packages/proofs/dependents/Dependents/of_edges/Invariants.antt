@@ -2,7 +2,7 @@
 use Rattle.std.proofs.Common.{ℕ, List, map, take}
 use Rattle.npm_packages.specs.Dependents.{AreTextsFor, texts_at}
 use Rattle.npm_packages.specs.Edges.{edge_value}
-use Rattle.npm_packages.proofs.dependents.dependents_of.Given as goal
+use Rattle.npm_packages.proofs.dependents.Dependents.of_edges.Given as goal
 
 abbrev pub invariant-loop-edge : goal.invariant-loop-edge
 invariant-loop-edge l = (folder : List ℕ)

@@ -43,7 +43,7 @@ next_lead : (is_up : Bool) (part : List ℕ) (parts : List (List ℕ)) → lead 
 next_lead false part parts = refl
 next_lead true part parts = by_part (bytes_eq part (codes "..")) where
   by_part : (b : Bool) → list_all is_step (if b then below_up parts else part ∷ parts)
-      ≡ ((b || is_step part) && are_steps b parts)
+      ≡ ((b || is_step part) && lead b parts)
   by_part true = refl
   by_part false = refl
 

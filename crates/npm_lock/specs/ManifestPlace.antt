@@ -19,6 +19,10 @@ abbrev pub as_package : (manifest : Data) → Data
 as_package manifest = with_member (codes "peer") (boolean false) (with_member (codes "dev") (boolean false)
     (with_member (codes "optional") (boolean false) (with_member (codes "link") (boolean false) manifest)))
 
+-- A package whose `overrides` do not count: npm reads those of the root's manifest, and none in a lock file.
+abbrev pub without_overrides : (package : Data) → Data
+without_overrides package = with_member (codes "overrides") null package
+
 -- the package with this mark, if `entry` has it
 abbrev pub with_mark : (mark : List ℕ) → (entry made : Data) → Data
 with_mark mark entry made = if has_true mark entry then with_member mark (boolean true) made else made

@@ -28,6 +28,23 @@ pub fn put_manifest(alloc: Global, lock: &mut Value, folder: &str, manifest: Val
     }
 }
 
+/// Returns a package whose `overrides` do not count. npm reads those of the root's manifest, and none in a lock file.
+///
+/// # Errors
+///
+/// An allocation failed.
+///
+/// # Memory
+///
+/// Allocates a copy.
+pub fn without_overrides(alloc: Global, package: &Value) -> Result<Value>
+    ensures { IfOk result (λ made. view made ≡ Places.without_overrides (view package.now)) }
+{
+    let mut made = package.clone()?;
+    put_member(alloc, &mut made, "overrides", Value::Null)?;
+    Ok(made)
+}
+
 /// The manifest as the package in this folder.
 fn package_at(alloc: Global, lock: &Value, folder: &str, manifest: Value) -> Result<Value>
     ensures { IfOk result (λ made. view made

@@ -20,8 +20,8 @@ as_package manifest = with_member (codes "peer") (boolean false) (with_member (c
     (with_member (codes "optional") (boolean false) (with_member (codes "link") (boolean false) manifest)))
 
 -- A package whose `overrides` do not count: npm reads those of the root's manifest, and none in a lock file.
-abbrev pub without_overrides : (package : Data) → Data
-without_overrides package = with_member (codes "overrides") null package
+abbrev pub without_overrides : (entry : Data) → Data
+without_overrides entry = with_member (codes "overrides") null entry
 
 -- the package with this mark, if `entry` has it
 abbrev pub with_mark : (mark : List ℕ) → (entry made : Data) → Data

@@ -1,7 +1,8 @@
 -- A manifest in the place of a package of the lock file: npm's "npm ls" and "npm ci" read the root and each workspace
 -- from their manifests.
-use Rattle.std.specs.Prelude.{ℕ, List, [], ◌∷◌, false, true, if◌then◌else◌, bytes_eq, codes}
+use Rattle.std.specs.Prelude.{ℕ, List, [], ◌∷◌, Bool, false, true, if◌then◌else◌, bytes_eq, codes, is_some}
 use Rattle.serde_json.specs.Data.{Data, Members, array, boolean, member, no_members, null, number, object, put, string}
+use Rattle.serde_json.specs.Find.{get}
 use Rattle.npm_texts.specs.Truth.{has_true}
 use Rattle.npm_lock.specs.Mismatches.{entry_of}
 
@@ -18,10 +19,6 @@ with_member name value (object members) = object (put name value members)
 abbrev pub as_package : (manifest : Data) → Data
 as_package manifest = with_member (codes "peer") (boolean false) (with_member (codes "dev") (boolean false)
     (with_member (codes "optional") (boolean false) (with_member (codes "link") (boolean false) manifest)))
-
--- A package whose `overrides` do not count: npm reads those of the root's manifest, and none in a lock file.
-abbrev pub without_overrides : (entry : Data) → Data
-without_overrides entry = with_member (codes "overrides") null entry
 
 -- the package with this mark, if `entry` has it
 abbrev pub with_mark : (mark : List ℕ) → (entry made : Data) → Data
@@ -52,3 +49,28 @@ with_manifest folder manifest (string text) = string text
 with_manifest folder manifest (array items) = array items
 with_manifest folder manifest (object members) = object (changed_at (codes "packages")
     (with_member folder (package_at folder (entry_of (object members) folder) manifest)) members)
+
+-- ---- `overrides` in a lock file, which npm does not write
+
+-- the root of the lock file has `overrides`
+abbrev pub has_overrides : (lock : Data) → Bool
+has_overrides lock = is_some (get (codes "overrides") (entry_of lock []))
+
+-- a package whose `overrides` do not count
+abbrev pub plain : (entry : Data) → Data
+plain entry = with_member (codes "overrides") null entry
+
+-- the object with this value in the place of the one of this name; another value stays
+abbrev pub with_changed : (name : List ℕ) → (change : Data → Data) → Data → Data
+with_changed name change null = null
+with_changed name change (boolean b) = boolean b
+with_changed name change (number n) = number n
+with_changed name change (string text) = string text
+with_changed name change (array items) = array items
+with_changed name change (object members) = object (changed_at name change members)
+
+-- The lock file whose root has no `overrides` that count: npm reads those of the root's manifest.
+abbrev pub without_overrides : (lock : Data) → Data
+without_overrides lock = if has_overrides lock
+    then with_changed (codes "packages") (with_member [] (plain (entry_of lock []))) lock
+    else lock

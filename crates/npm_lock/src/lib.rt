@@ -28,7 +28,7 @@ pub use found_workspace::workspace_problem;
 pub use group::Group;
 pub use lock_file::{check, check_sound_lock};
 pub use manifest::mismatches_of;
-pub use manifest_place::{put_manifest, without_overrides};
+pub use manifest_place::{drop_overrides, put_manifest};
 pub use mismatch::Mismatch;
 pub use npm_packages::{
     CheckError, Dependents, Edge, Fault, SoundLock, check_package, check_specs, edges_of,

@@ -1,10 +1,10 @@
 //! A manifest in the place of a package of the lock file.
-ghost use Rattle.std.specs.Prelude.{◌≡◌, IfOk, OnOk, if◌then◌else◌, true};
-ghost use Rattle.serde_json.specs.Data.{boolean};
+ghost use Rattle.std.specs.Prelude.{◌≡◌, [], IfOk, OnOk, if◌then◌else◌, option_map, true, unwrap_or};
+ghost use Rattle.serde_json.specs.Data.{boolean, null};
 ghost use Rattle.serde_json.specs.View.{members_view, view};
 ghost use Rattle.npm_texts.specs.Truth.{has_true};
 ghost use Rattle.npm_lock.specs.ManifestPlace as Places;
-ghost use Rattle.npm_lock.specs.ManifestPlace.{as_package, changed_at, with_manifest};
+ghost use Rattle.npm_lock.specs.ManifestPlace.{as_package, changed_at, with_manifest, without_overrides};
 ghost use Rattle.npm_lock.specs.Mismatches.{entry_of};
 
 use crate::Result;
@@ -28,21 +28,57 @@ pub fn put_manifest(alloc: Global, lock: &mut Value, folder: &str, manifest: Val
     }
 }
 
-/// Returns a package whose `overrides` do not count. npm reads those of the root's manifest, and none in a lock file.
+/// Takes the `overrides` of a lock file's root away. npm reads those of the root's manifest, `package.json`, and none in a lock file.
 ///
 /// # Errors
 ///
-/// An allocation failed.
+/// An allocation failed. The lock file is then as it was.
 ///
 /// # Memory
 ///
-/// Allocates a copy.
-pub fn without_overrides(alloc: Global, package: &Value) -> Result<Value>
-    ensures { IfOk result (λ made. view made ≡ Places.without_overrides (view package.now)) }
+/// Allocates a copy of the root, if that has `overrides`.
+pub fn drop_overrides(alloc: Global, lock: &mut Value) -> Result<()>
+    ensures { OnOk result (view lock.new ≡ without_overrides (view lock.old)) }
 {
-    let mut made = package.clone()?;
-    put_member(alloc, &mut made, "overrides", Value::Null)?;
-    Ok(made)
+    if !has_overrides(lock) {
+        return Ok(());
+    }
+    let made = plain_root(alloc, lock)?;
+    match lock.as_object_mut() {
+        Some(members) => put_inside(alloc, members, "packages", "", made),
+        None => Ok(()),
+    }
+}
+
+/// Returns `true` if the root of a lock file has `overrides`.
+fn has_overrides(lock: &Value) -> bool
+    ensures { result ≡ Places.has_overrides (view lock.now) }
+{
+    match root_of(lock) {
+        Some(root) => root.get("overrides").is_some(),
+        None => false,
+    }
+}
+
+/// The root of a lock file.
+fn root_of(lock: &Value) -> Option<&Value>
+    ensures { unwrap_or (option_map (λ root. view root.now) result) null ≡ entry_of (view lock.now) [] }
+{
+    lock.get("packages")?.get("")
+}
+
+/// A copy of the root whose `overrides` do not count.
+fn plain_root(alloc: Global, lock: &Value) -> Result<Value>
+    ensures { IfOk result (λ made. view made ≡ Places.plain (entry_of (view lock.now) [])) }
+{
+    match root_of(lock) {
+        Some(root) => {
+            let mut made = root.clone()?;
+            put_member(alloc, &mut made, "overrides", Value::Null)?;
+            Ok(made)
+        }
+        None => Ok(Value::Null),
+    }
 }
 
 /// The manifest as the package in this folder.

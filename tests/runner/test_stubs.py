@@ -1,14 +1,6 @@
 """Copies in which only some functions have bodies: what is taken away, what stays, and where the holes are."""
-import runpy
-import sys
-from types import SimpleNamespace
-
-import pytest
-
 from support import programs  # (it makes the runner's own modules known)
 
-import copies
-import crates
 import files
 import stubs
 from rattle import Source, function_at
@@ -81,38 +73,3 @@ def test_the_innermost_function_around_a_place():
     assert at.path() == "taken"
     assert function_at("src/lib.rt", LIB, LIB.index("fn inner") + 1).path() == "inner"
     assert function_at("src/lib.rt", LIB, LIB.index("use below")) is None
-
-
-# In place of the prover: keeps the sources that it reads, and says something of three functions.
-PROVER = """#!/bin/sh
-cat src/lib.rt > {room}/read
-echo "$@" > {room}/words
-echo 'note: src/lib.rt:5:1: it is not proved that a clause holds'
-echo './proofs/taken/Proof.antt:4:14: goal ? in taken_spec'
-echo 'fn made::kept: no holes'
-echo 'fn made::below::Thing::kept: depends on a hole in made::taken'
-echo 'fn made::taken: {verdict}'
-"""
-
-
-@pytest.mark.parametrize("verdict, proved, status", [("no holes", 3, False), ("not proved", 2, True)])
-def test_functions_are_checked_alone(tmp_path, monkeypatch, capsys, verdict, proved, status):
-    for file, text in {"src/lib.rt": LIB, "src/below.rt": BELOW}.items():
-        files.write(str(tmp_path / "made" / file), text)
-    prover = tmp_path / "prover"
-    prover.write_text(PROVER.format(room=tmp_path, verdict=verdict))
-    prover.chmod(0o755)
-    monkeypatch.setattr(crates, "CRATES", str(tmp_path))
-    monkeypatch.setattr(copies, "toolchain", lambda: (SimpleNamespace(RATTLE=str(prover)), []))
-    monkeypatch.setattr(copies, "build_below", lambda crate: SimpleNamespace(words=lambda words, keeps: words))
-    monkeypatch.setattr(sys, "argv", ["check_functions", "made", "kept", "Thing::kept", "taken"])
-    with pytest.raises(SystemExit) as ended:
-        runpy.run_path(f"{programs.ROOT}/.ci/check_functions")
-    assert ended.value.code == status
-    read = (tmp_path / "read").read_text()
-    assert "let brace = '{';" in read and "fn there(&self) {\n    unreachable!()\n}" in read
-    words = "check --jobs 1 --allow-holes --only made::kept --only Thing::kept --only made::taken\n"
-    assert (tmp_path / "words").read_text() == words
-    assert capsys.readouterr().out.split("\n") == [
-        "note: src/lib.rt:5:1: it is not proved that a clause holds", "kept: proved", "Thing::kept: proved",
-        f"taken: {verdict if status else 'proved'}", f"{proved} of 3 proved", ""]

@@ -36,7 +36,7 @@ def is_noted(name):
     """Whether the gate has built a library of the sources as they stand."""
     path = os.path.join("crates", name, "out", "rlib", f"{name}.rlib")
     has_note = name not in NOTED and os.path.exists(os.path.join(crates.ROOT, f"{path}.sources"))
-    if has_note and crates.is_built(os.path.join(path, "format"), *crates.below(name)).returncode == 0:
+    if has_note and crates.is_built(os.path.join(path, "format"), name):
         NOTED.add(name)
     return name in NOTED
 

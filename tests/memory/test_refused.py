@@ -4,7 +4,6 @@ import os
 import re
 
 import pytest
-import unproved
 from support import programs, public_calls, refused_calls
 from support.call_rows import Case
 
@@ -40,7 +39,7 @@ def test_each_call_with_checks(program, tmp_path):
     for at, case in enumerate(cases):
         (tmp_path / f"{at:03}").write_text("".join(f"{word}\n" for word in [0, *case.words()]))
     # (the build with checks runs each call; the interpreter would take minutes, and gets one step)
-    status, output, error, _ = unproved.tried(program, ["--steps", "1", "--cases", str(tmp_path), "--", "twice"])
+    status, output, error = programs.tried(program, ["--steps", "1", "--cases", str(tmp_path), "--", "twice"])
     parts = re.split(r"^== (\S+)\n", output, flags=re.M)
     written, ended = dict(zip(parts[1::2], parts[2::2])), re.findall(r"^case=(\S+) run=ended status=0 ", error, re.M)
     assert status == 0, error

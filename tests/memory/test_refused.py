@@ -18,10 +18,6 @@ def test_each_public_call_that_can_run_out_of_memory_has_a_row():
     assert list(public_calls.lacking({case.row.call for case in ROWS} | set(UNCALLED), libraries)) == []
 
 
-def test_public_calls_of_made_up_sources_are_found():
-    assert list(public_calls.unseen()) == []
-
-
 def test_a_tree_of_depth_50():
     """At each step a prerelease more is taken from the first set."""
     words = [">=1.0.0-0"]

@@ -1,4 +1,4 @@
-"""The files `programs/PROGRAM/*.rows`: a run of a program a paragraph. README.md says how they are written."""
+"""The files `programs/PROGRAM/*.rows`: a run of a program a paragraph. CONTRIBUTING.md says how they are written."""
 import os
 import re
 import shutil

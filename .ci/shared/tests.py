@@ -44,13 +44,14 @@ def results_of(found):
 
 def run(words, more=("-n", "auto"), before=()):
     found = ran(words, more, before)
-    gate.say(f"tests: {counted(found['kinds'])}")
-    return [*results_of(found), gate.Result("made", 0, 0, seconds=found.get("made", 0))]
+    gate.say(f"tests: {counted(found)}")
+    return [*results_of(found), gate.Result("made", 0, 0, made=found.get("made", 0))]
 
 
-def counted(kinds):
-    """How many tests of each kind passed; of a lint only that it is well."""
-    return ", ".join(f"{kind} {'ok' if kind == 'lints' else count}" for kind, count in sorted(kinds.items()))
+def counted(found):
+    """How many tests of each kind passed; of lints only that they are well."""
+    wrong = {name.split("/")[0] for name, _ in found["failures"]}
+    return ", ".join(f"{kind} {'ok' if kind == 'lints' and kind not in wrong else count}" for kind, count in sorted(found["kinds"].items()))
 
 
 def least():

@@ -58,9 +58,16 @@ def toolchain():
         return ""
 
 
-def sum_of_file(path):
+@functools.cache
+def sum_of_content(path, *_):
     with open(path, "rb") as file:
         return hashlib.sha256(file.read()).hexdigest()
+
+
+def sum_of_file(path):
+    """The sum of a file, which is read again where its time or its length is another."""
+    at = os.stat(path)
+    return sum_of_content(path, at.st_mtime_ns, at.st_size, at.st_ino)
 
 
 def sum_of(paths, words=()):

@@ -3,7 +3,9 @@
 The tests say themselves what they ask: they run once with DENIMSCREE_ASKED, and `tests/support/answers.py` then writes the lines that have no
 answer to that file. A line that is made of the answer to another one is found a round later. The answers are kept by the sums of what answers.
 """
+import bisect
 import concurrent.futures
+import itertools
 import json
 import os
 import subprocess
@@ -15,7 +17,7 @@ import tests
 
 PROGRAMS = ("semver_answers", "npm_answers")
 KEPT = os.path.join(files.ROOT, "out", "check", "answers")
-ROUNDS = 4
+ROUNDS = 6
 MOST = 1500000  # The lines of one run have so many characters: `rt try` returns at most a mebibyte, and answers are shorter than lines.
 
 
@@ -44,22 +46,18 @@ def lacking(words, kept):
 def ask(program, lines):
     """Asks lines of a program in one run: its answers, and what is wrong, or nothing."""
     given = "".join(f"{line}\n" for line in lines).encode()
-    ran = subprocess.run(["rt", "try", "--seconds", "600"], cwd=os.path.join(crates.CRATES, program), input=given, capture_output=True)
+    # (the build with checks answers, and the interpreter, which would take longer, gets one step)
+    ran = subprocess.run(["rt", "try", "--seconds", "600", "--steps", "1"], cwd=os.path.join(crates.CRATES, program), input=given, capture_output=True)
     answers = ran.stdout.decode(errors="replace").split("\n")[:-1]
     is_whole = len(answers) == len(lines) and ran.returncode == 0
     said = "" if is_whole else f"{program} ended with status {ran.returncode} at {lines[len(answers)][:300] if len(answers) < len(lines) else 'its end'}"
     return dict(zip(lines, answers)), said and f"{said}\n{ran.stderr.decode(errors='replace')[-1500:]}"
 
 
-def pieces(lines):
-    """The lines in lists that one run can answer, the shortest first."""
-    found, size = [[]], 0
-    for line in sorted(lines, key=len):
-        if size + len(line) > MOST and found[-1]:
-            found, size = [*found, []], 0
-        found[-1].append(line)
-        size += len(line)
-    return found
+def first_of(lines):
+    """The shortest lines, as many as one run can answer. The others are found lacking in the next round."""
+    shortest = sorted(lines, key=len)
+    return shortest[: max(1, bisect.bisect(list(itertools.accumulate(map(len, shortest))), MOST))]
 
 
 def prepare(words):
@@ -75,9 +73,8 @@ def prepare(words):
             kept["tests"] = kept["tests"] if words else key
             save(kept)
             return KEPT, ""
-        runs = [(program, piece) for program, lines in found.items() for piece in pieces(lines)]
         with concurrent.futures.ThreadPoolExecutor() as pool:
-            for (program, _), (answers, said) in zip(runs, pool.map(ask, *zip(*runs))):
+            for program, (answers, said) in zip(found, pool.map(ask, found, map(first_of, found.values()))):
                 kept[program].update(answers)
                 if said:
                     save(kept)

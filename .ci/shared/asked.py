@@ -34,11 +34,12 @@ def save(kept):
     files.write(KEPT, json.dumps(kept))
 
 
-def lacking(words, kept):
-    """The lines that tests ask and that have no answer, by the programs."""
+def lacking(words, kept, is_first):
+    """The lines that tests ask and that have no answer, by the programs. After the first round those alone that are written in Python are run."""
     save(kept)
+    others = [] if is_first else ["--ignore-glob=*.tsv", "--ignore-glob=*.calls"]
     with tempfile.NamedTemporaryFile("r", encoding="utf-8") as file:
-        tests.ran(words, ["--tb=no", "--assert=plain"], DENIMSCREE_ANSWERS=KEPT, DENIMSCREE_ASKED=file.name, DENIMSCREE_PROVES="no")
+        tests.ran(words, ["--tb=no", "--assert=plain", *others], DENIMSCREE_ANSWERS=KEPT, DENIMSCREE_ASKED=file.name, DENIMSCREE_PROVES="no")
         found = [*map(json.loads, dict.fromkeys(file))]
     return {program: [line for name, line in found if name == program] for program in dict.fromkeys(name for name, _ in found)}
 
@@ -54,10 +55,11 @@ def ask(program, lines):
     return dict(zip(lines, answers)), said and f"{said}\n{ran.stderr.decode(errors='replace')[-1500:]}"
 
 
-def first_of(lines):
-    """The shortest lines, as many as one run can answer. The others are found lacking in the next round."""
+def divided(lines):
+    """The shortest lines, as many as one run can answer, and the others."""
     shortest = sorted(lines, key=len)
-    return shortest[: max(1, bisect.bisect(list(itertools.accumulate(map(len, shortest))), MOST))]
+    at = max(1, bisect.bisect(list(itertools.accumulate(map(len, shortest))), MOST))
+    return shortest[:at], shortest[at:]
 
 
 def prepare(words):
@@ -67,14 +69,17 @@ def prepare(words):
         return None, ""
     kept = load(programs)
     key = crates.sum_of([path for path in files.listed() if path.endswith(".md") or path.startswith("tests/")])
-    for _ in range(ROUNDS if kept["tests"] != key else 0):
-        found = lacking(words, kept)
+    waiting = {}
+    for number in range(ROUNDS if kept["tests"] != key else 0):
+        found = lacking(words, kept, number == 0)
+        found = {it: [*dict.fromkeys(found.get(it, []) + waiting.get(it, []))] for it in programs if found.get(it) or waiting.get(it)}
         if not found:
             kept["tests"] = kept["tests"] if words else key
             save(kept)
             return KEPT, ""
+        now, waiting = ({it: divided(lines)[part] for it, lines in found.items()} for part in (0, 1))
         with concurrent.futures.ThreadPoolExecutor() as pool:
-            for program, (answers, said) in zip(found, pool.map(ask, found, map(first_of, found.values()))):
+            for program, (answers, said) in zip(now, pool.map(ask, now, now.values())):
                 kept[program].update(answers)
                 if said:
                     save(kept)

@@ -16,6 +16,7 @@ import files
 import tests
 
 PROGRAMS = ("semver_answers", "npm_answers")
+ASKING = ("--word", "rows", "pages", "memory", "models")  # Words of pytest by which tests that ask may be meant.
 KEPT = os.path.join(files.ROOT, "out", "check", "answers")
 ROUNDS = 6
 MOST = 1500000  # The lines of one run have so many characters: `rt try` returns at most a mebibyte, and answers are shorter than lines.
@@ -65,7 +66,7 @@ def divided(lines):
 def prepare(words):
     """Asks all that the tests of some words ask: the file of answers, or nothing where the programs are built; and what is wrong, or nothing."""
     programs = [name for name in PROGRAMS if not os.environ.get("DENIMSCREE_PROGRAMS") and not crates.is_built(crates.built_file(name), name)]
-    if not programs or not crates.toolchain():
+    if not programs or not crates.toolchain() or words and not any(word.startswith(ASKING) for word in words):
         return None, ""
     kept = load(programs)
     key = crates.sum_of([path for path in files.listed() if path.endswith(".md") or path.startswith("tests/")])

@@ -26,7 +26,7 @@ def ran(words, more=("-n", "auto"), before=(), is_shown=False, **settings):
         return {"kinds": {}, "failures": [["tests", MISSING]], "skipped": {}}
     with tempfile.TemporaryDirectory() as room:
         report = os.path.join(room, "report")
-        done = subprocess.run([*before, python(), "-B", "-m", "pytest", "-q", "--no-header", *more, *words], cwd=TOP, stdin=subprocess.DEVNULL,
+        done = subprocess.run([*before, python(), "-B", "-m", "pytest", "-q", "--no-header", "--no-summary", *more, *words], cwd=TOP, stdin=subprocess.DEVNULL,
                               env={**os.environ, **settings, "DENIMSCREE_REPORT": report}, stdout=None if is_shown else subprocess.PIPE,
                               stderr=None if is_shown else subprocess.STDOUT, text=True, errors="replace")
         if not os.path.exists(report):

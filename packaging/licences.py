@@ -6,7 +6,7 @@ import re
 import sys
 import textwrap
 
-from programs import KIT, PROGRAMS, crates
+from programs import KIT, crates
 from versions import read
 
 # The licences that have names of their own, by how their texts begin. The others are forms of MIT's.
@@ -117,7 +117,7 @@ def stanzas_of(*tops):
 
 def copyright_text():
     """The file `copyright` of the programs."""
-    stanzas, without = stanzas_of(*PROGRAMS)
+    stanzas, without = stanzas_of(*crates.programs().values())
     without = textwrap.fill(without, 78, initial_indent=" ", subsequent_indent=" ")
     return "\n".join([read("packaging/debian/copyright").replace(" @WITHOUT@", without), *stanzas, COMMON])
 

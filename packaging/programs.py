@@ -19,35 +19,25 @@ KIT = kit()
 sys.path.insert(0, os.path.join(KIT, "bin"))
 import rtlib
 
-# The crate of each program, and the name that it is installed under.
-PROGRAMS = {
-    "npm_lock_check": "npm_lock_check",
-    "npm_pick_command": "npm_pick",
-    "npm_resolve_command": "npm_resolve",
-    "semver_command": "semver",
-    "semver_pairs": "semver_pairs",
-}
-
-
 def listed():
-    """Pairs of a crate and the name of its program, of those that are here."""
-    return [(crate, name) for crate, name in PROGRAMS.items() if os.path.isdir(os.path.join(ROOT, "crates", crate))]
+    """Pairs of a crate and the name of its program."""
+    return [(crate, name) for name, crate in crates.programs().items()]
 
 
 def object_of(crate):
     """The object file of a program. The gate leaves it, but for a crate that an earlier run on this machine has proved: that
     is proved and compiled once more, over the libraries that the gate has proved."""
     folder = os.path.join(ROOT, "crates", crate)
-    made, below = os.path.join(folder, "out", f"{crate}.o"), crates.below(crate)
-    if crates.is_built(made, *below).returncode:
-        sources = crates.is_built("--sources", *below).stdout.strip()
+    made = os.path.join(folder, "out", f"{crate}.o")
+    if not crates.is_built(made, crate):
+        sources = crates.sum_of_sources(crate)
         known = {it.name: it for it in rtlib.crates_below(ROOT)}
         words = [*known[crate].words(["--jobs", "1"], False), "--toolchain", os.path.join(KIT, "toolchain"), "--backend", "llvm"]
         words = [rtlib.RATTLE, "build", *words, "-o", f"out/{crate}.o"]
         ran = subprocess.run(words, cwd=folder, capture_output=True, text=True)
         if ran.returncode:
             sys.exit(f"{ran.stdout[-2000:]}{ran.stderr[-2000:]}\nrelease: {crate} was not compiled")
-        crates.is_built("--note", sources, made, *below)
+        crates.note(sources, made, crate)
     return made
 
 

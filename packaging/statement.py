@@ -48,7 +48,7 @@ def statement(gate):
             "toolchain": said,
             "proved": {**total, "crates": found},
             "gate": gate,
-            "not proved": "the toolchain, the C library, and the code in C, Python and JavaScript; docs/PROMISES.md says what is tested",
+            "not proved": "the toolchain, the C library, and the code in C, Python and JavaScript; docs/PROOFS.md says what is tested",
         },
         indent=2,
     ) + "\n"

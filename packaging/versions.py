@@ -16,9 +16,9 @@ PLACES = (
     ("crates/npm_pick_command/src/help.rt", r'"npm_pick ([^"\\]*)\\n"'),
     ("crates/npm_resolve_command/src/help.rt", r'"npm_resolve ([^"\\]*)\\n"'),
     ("README.md", r"denimscree-semver-([0-9][0-9.]*)\.tgz"),
-    ("docs/CHANGING.md", r"denimscree-semver-([0-9][0-9.]*)\.tgz"),
-    ("docs/CHANGING.md", r"denimscree_semver-([0-9][0-9.]*)(?:-cp310|\.tar\.gz)"),
-    ("docs/CHANGING.md", r"`denimscree[-_]([0-9][0-9.]*[0-9])(?:[-_.][a-z])"),
+    ("CONTRIBUTING.md", r"denimscree-semver-([0-9][0-9.]*)\.tgz"),
+    ("CONTRIBUTING.md", r"denimscree_semver-([0-9][0-9.]*)(?:-cp310|\.tar\.gz)"),
+    ("CONTRIBUTING.md", r"`denimscree[-_]([0-9][0-9.]*[0-9])(?:[-_.][a-z])"),
     ("bindings/python/README.md", r"denimscree(?:_semver)?-([0-9][0-9.]*)(?:-cp310|-linux|\.tar\.gz)"),
 )
 

@@ -1,9 +1,14 @@
 #!/usr/bin/env python3
-"""What crates.txt says, and the built programs.
+"""What crates.txt says, and what was built of the sources as they stand: beside each built file NAME stands NAME.sources, with the sum of
+the toolchain's name and of all sources, and that of the file itself. Sums are of contents, since time stamps say little.
 
-    .ci/shared/crates.py CRATE..    prints these crates and those of this repository below them, a line each
+    crates.py CRATE..                     prints these crates and those of this repository below them, a line each
+    crates.py --is-built FILE CRATE       whether the file was built of the crate and those below it
+    crates.py --sum CRATE                 prints the sum of their sources, to be taken before a build
+    crates.py --note SUM FILE CRATE       after it: keeps the sums, if the sources still have this one
 """
 import functools
+import hashlib
 import os
 import re
 import subprocess
@@ -34,43 +39,101 @@ def below(*names):
     return sorted(found)
 
 
-class NotBuilt(Exception):
-    """A program that a test needs is not built, and nothing is to be proved."""
-
-
 def is_program(name):
     return os.path.isfile(os.path.join(CRATES, name, "src", "main.rt"))
 
 
-def is_built(*words):
-    return subprocess.run([os.path.join(CI, "is_built"), *words], stdout=subprocess.PIPE, text=True)
+@functools.cache
+def programs():
+    """The crate of each program by the name that users type, which is the crate's without `_command`. Programs for tests are none."""
+    return {name.removesuffix("_command"): name for name in listed() if is_program(name) and not name.endswith("_answers")}
+
+
+@functools.cache
+def toolchain():
+    """The name of the toolchain of Rattle, or nothing where there is none."""
+    try:
+        return subprocess.run(["rt", "version"], stdout=subprocess.PIPE, text=True).stdout.strip()
+    except OSError:
+        return ""
+
+
+@functools.cache
+def sum_of_content(path, *_):
+    with open(path, "rb") as file:
+        return hashlib.sha256(file.read()).hexdigest()
+
+
+def sum_of_file(path):
+    """The sum of a file, which is read again where its time or its length is another."""
+    at = os.stat(path)
+    return sum_of_content(path, at.st_mtime_ns, at.st_size, at.st_ino)
+
+
+def sum_of(paths, words=()):
+    """A sum of the toolchain's name, of some words, and of the names and the contents of files."""
+    found = [(path, sum_of_file(os.path.join(ROOT, path))) for path in sorted(paths) if os.path.isfile(os.path.join(ROOT, path))]
+    return hashlib.sha256(repr((toolchain(), list(words), found)).encode()).hexdigest()
+
+
+def sum_of_sources(name):
+    """The sum of all that a crate and those below it are made of. Pages are no sources."""
+    every = below(name)
+    paths = [path for path in files.below(*(f"crates/{it}" for it in every)) if not path.endswith(".md")]
+    return sum_of(paths, [(it, listed()[it]) for it in every])
+
+
+def built_file(name):
+    return os.path.join(CRATES, name, "out", name if is_program(name) else f"lib{name}.a")
+
+
+def noted(path):
+    """Where the sums of a built file stand; those of a library that is a folder stand beside it."""
+    return f"{path.removesuffix('/format')}.sources"
+
+
+def is_built(path, name):
+    path = os.path.join(ROOT, path)
+    try:
+        with open(noted(path), encoding="utf-8") as file:
+            return file.read().split() == [sum_of_sources(name), sum_of_file(path)]
+    except OSError:
+        return False
+
+
+def note(before, path, name):
+    """Keeps of what sources a file was built, if they are still those."""
+    path = os.path.join(ROOT, path)
+    if os.path.isfile(path) and sum_of_sources(name) == before:
+        files.write(noted(path), f"{before}\n{sum_of_file(path)}\n")
 
 
 def arguments(name):
-    """What `rt run` passes to a program in its stored run, whose file `args` has a line each."""
-    path = os.path.join(CRATES, name, "args")
-    return ["--", *files.lines(path)] if os.path.isfile(path) else []
+    """The words that a program gets in its stored run, whose file `args` has a line each."""
+    return ["--", *files.lines(f"crates/{name}/args")] if os.path.isfile(os.path.join(CRATES, name, "args")) else []
 
 
-def program(name):
-    """The path of a program as it stands in the sources: the gate leaves it built, and else it is proved and built here, unless
-    DENIMSCREE_PROVES is `no`."""
-    path, crates = os.path.join(CRATES, name, "out", name), below(name)
-    if is_built(path, *crates).returncode:
-        if os.environ.get("DENIMSCREE_PROVES") == "no":
-            raise NotBuilt(f"{name} is not built of these sources: ./check --prove {name}")
-        print(f"builds {name}", flush=True)
-        sources = is_built("--sources", *crates).stdout.strip()
-        if os.path.exists(path):
-            os.remove(path)
-        with open(os.path.join(CRATES, name, "stdin"), encoding="utf-8") as given:
-            words = ["rt", "run", *arguments(name)]
-            ran = subprocess.run(words, cwd=os.path.join(CRATES, name), stdin=given, capture_output=True, text=True)
-        if not os.path.isfile(path):
-            sys.exit(f"{ran.stdout[-2000:]}{ran.stderr[-2000:]}\n{name} was not built\n0 passed, 1 failed")
-        is_built("--note", sources, path, *crates)
-    return path
+def build(name):
+    """Proves and builds a program, or a library for other languages."""
+    if not is_program(name):
+        subprocess.run([os.path.join(CI, "packages", "library"), name], check=True)
+        return
+    before, path = sum_of_sources(name), built_file(name)
+    with open(os.path.join(CRATES, name, "stdin"), encoding="utf-8") as given:
+        ran = subprocess.run(["rt", "run", *arguments(name)], cwd=os.path.join(CRATES, name), stdin=given, capture_output=True, text=True)
+    if not os.path.isfile(path):
+        sys.exit(f"{ran.stdout[-2000:]}{ran.stderr[-2000:]}\n{name} was not built")
+    note(before, path, name)
+
+
+def main(words):
+    if words[0] == "--is-built":
+        sys.exit(not is_built(*words[1:]))
+    elif words[0] == "--note":
+        note(*words[1:])
+    else:
+        print(sum_of_sources(words[1]) if words[0] == "--sum" else "\n".join(below(*words)))
 
 
 if __name__ == "__main__":
-    print("\n".join(below(*sys.argv[1:])))
+    main(sys.argv[1:])

@@ -132,6 +132,12 @@ def found(way):
     return found(handed_on + names[1:]) if handed_on else None
 
 
+def named_in(path, word):
+    """The definition that a word of a definition in a file names, or None."""
+    at, (first, *more) = file(path), word.split(".")
+    return at.named.get(at.of.get(first)) or (found(at.imports[first] + more) if first in at.imports else None)
+
+
 def short(path):
     """The name of a file of definitions, after its crate."""
     parts = path.removesuffix(".antt").split("/")

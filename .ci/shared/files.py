@@ -1,8 +1,5 @@
 #!/usr/bin/env python3
-"""The files of the repository: those that git lists, or, where there is no git as in an archive, all but what is built.
-
-    .ci/shared/files.py    prints them, each ended by a byte 0
-"""
+"""The files of the repository. As a command it prints those that git lists, or where there is no git all but what is built, each ended by a byte 0."""
 import glob
 import os
 import subprocess
@@ -19,7 +16,6 @@ def read(path, errors="strict"):
 
 
 def lines(path):
-    """The lines of a file."""
     return read(path).rstrip("\n").split("\n")
 
 
@@ -40,32 +36,21 @@ def sources(crate):
     return matching(f"crates/{crate}/src/**/*.rt")
 
 
-def is_built(at, name):
-    """Whether a folder has what is built. Below a crate's `src` a folder `out` has sources."""
-    parts = at.split(os.sep) if at else []
-    return name in BUILT or name == "out" and (not parts or parts[0] == "crates" and len(parts) == 2)
-
-
 def below(*tops):
-    """The files below some files or folders of the repository, but for what is built, as paths from its top."""
+    """The files below some folders, but for what is built: below a crate's `src` a folder `out` has sources."""
     for top in tops:
-        path = os.path.join(ROOT, top)
-        if os.path.isfile(path):
-            yield top
-        for folder, folders, names in os.walk(path):
-            at = os.path.relpath(folder, ROOT)
-            at = "" if at == "." else at
-            folders[:] = sorted(name for name in folders if not is_built(at, name))
+        for folder, folders, names in os.walk(os.path.join(ROOT, top)):
+            at = os.path.relpath(folder, ROOT) if os.path.normpath(folder) != ROOT else ""
+            is_crate = at == "" or at.count("/") == 1 and at.startswith("crates/")
+            folders[:] = sorted(name for name in folders if name not in BUILT and not (name == "out" and is_crate))
             yield from (os.path.join(at, name) for name in sorted(names))
 
 
 def listed():
     """The files of the repository, sorted."""
-    if os.path.exists(os.path.join(ROOT, ".git")):
-        words = ["git", "-c", f"safe.directory={ROOT}", "-C", ROOT, "ls-files", "-z"]
-        ran = subprocess.run(words, stdout=subprocess.PIPE)
-        if ran.returncode == 0:
-            return sorted(os.fsdecode(path) for path in ran.stdout.split(b"\0") if path)
+    ran = subprocess.run(["git", "-c", f"safe.directory={ROOT}", "-C", ROOT, "ls-files", "-z"], capture_output=True)
+    if os.path.exists(os.path.join(ROOT, ".git")) and ran.returncode == 0:
+        return sorted(os.fsdecode(path) for path in ran.stdout.split(b"\0") if path)
     return sorted(below(""))
 
 

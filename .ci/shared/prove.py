@@ -3,6 +3,7 @@ import os
 import re
 import shutil
 import subprocess
+import sys
 import tempfile
 
 import crates
@@ -15,12 +16,10 @@ def copied(names, asked, room):
     lines = [line for line in files.lines("crates.txt") if re.match(r"\w*", line)[0] in names]
     files.write(os.path.join(room, "crates.txt"), "\n".join([*lines, ""]))
     shutil.copy(os.path.join(files.ROOT, "HANDLES"), room)
-    for path in files.below(*(f"crates/{name}" for name in names)):
-        _, name, folder = path.split("/")[:3]
-        if folder == "must-fail" and name not in asked:
-            continue
-        os.makedirs(os.path.dirname(os.path.join(room, path)), exist_ok=True)
-        shutil.copyfile(os.path.join(files.ROOT, path), os.path.join(room, path))
+    for name in names:
+        left_out = shutil.ignore_patterns(*["must-fail"] * (name not in asked))
+        shutil.copytree(os.path.join(crates.CRATES, name), os.path.join(room, "crates", name),
+                        ignore=lambda at, found: [*left_out(at, found), *(["out"] if at == os.path.join(crates.CRATES, name) else [])])
 
 
 def take(name, room):
@@ -35,22 +34,21 @@ def take(name, room):
         shutil.move(os.path.join(there, "rlib"), here)
 
 
-def run(names, environment):
+def run(names):
     """Proves crates, and builds the programs and the libraries for other languages among them: the status."""
-    lacking = [name for name in names if name not in crates.listed()]
-    if lacking:
-        print(f"{lacking[0]} is no crate of crates.txt")
+    if lacking := [name for name in names if name not in crates.listed()]:
+        print(f"{lacking[0]} is no crate of crates.txt", file=sys.stderr)
         return 2
     below = crates.below(*names)
-    before = crates.is_built("--sources", *below).stdout.strip()
+    sums = {name: crates.sum_of_sources(name) for name in below}
     with tempfile.TemporaryDirectory() as room:
         copied(below, names, room)
-        status = subprocess.run(["rt", "ci"], cwd=room, env=environment, stdin=subprocess.DEVNULL).returncode
+        settings = {"RT_JOBS": str(gate.jobs()), **os.environ}
+        status = subprocess.run(["rt", "ci"], cwd=room, env={it: value for it, value in settings.items() if it != "CI"}, stdin=subprocess.DEVNULL).returncode
         if status == 0:
             for name in below:
                 take(name, room)
-            gate.keep_built(before, below)
-    for name in names:
-        if status == 0 and crates.listed()[name][1]:
-            status = subprocess.run([os.path.join(crates.CI, "packages", "library"), name], env=environment).returncode
+            gate.note_built(below, sums)
+    if status == 0 and (exports := [name for name in names if crates.listed()[name][1]]):
+        status = subprocess.run([os.path.join(crates.CI, "packages", "library"), *exports]).returncode
     return status

@@ -4,7 +4,6 @@ import os
 import re
 
 import pytest
-import unproved
 from support import programs, public_calls, refused_calls
 from support.call_rows import Case
 
@@ -17,10 +16,6 @@ UNCALLED = ["SemverError::out_of_memory"]  # It is what other calls return, and 
 def test_each_public_call_that_can_run_out_of_memory_has_a_row():
     libraries = [name for name in public_calls.libraries() if not programs.crates.listed()[name][1]]
     assert list(public_calls.lacking({case.row.call for case in ROWS} | set(UNCALLED), libraries)) == []
-
-
-def test_public_calls_of_made_up_sources_are_found():
-    assert list(public_calls.unseen()) == []
 
 
 def test_a_tree_of_depth_50():
@@ -40,7 +35,7 @@ def test_each_call_with_checks(program, tmp_path):
     for at, case in enumerate(cases):
         (tmp_path / f"{at:03}").write_text("".join(f"{word}\n" for word in [0, *case.words()]))
     # (the build with checks runs each call; the interpreter would take minutes, and gets one step)
-    status, output, error, _ = unproved.tried(program, ["--steps", "1", "--cases", str(tmp_path), "--", "twice"])
+    status, output, error = programs.tried(program, ["--steps", "1", "--cases", str(tmp_path), "--", "twice"])
     parts = re.split(r"^== (\S+)\n", output, flags=re.M)
     written, ended = dict(zip(parts[1::2], parts[2::2])), re.findall(r"^case=(\S+) run=ended status=0 ", error, re.M)
     assert status == 0, error

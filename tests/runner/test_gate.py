@@ -1,80 +1,104 @@
-"""The gate's runner: what fails is told, and counted, and packages are built one after another."""
-import concurrent.futures
+"""The runner and the gate: what fails is told and counted, and so is what ran too little, or not at all."""
 import os
+import runpy
+import subprocess
 
-import gate
-import parts
+import pytest
+
 from support import programs  # (it makes the runner's own modules known)
+import gate
+import tests
+
+# What a part writes, and how many checks passed and failed.
+PARTS = [("echo 3 passed, 0 failed", 3, 0), ("echo WRONG: why; echo 2 passed, 1 failed; exit 1", 2, 1), ("echo why >&2; echo 2 passed, 0 failed; exit 1", 2, 1),
+         ("echo why; exit 3", 0, 1), ("echo why", 0, 1), ("echo 0 passed, 0 failed # why", 0, 1)]
 
 
-def made(tmp_path, name, text, needs="programs"):
-    path = tmp_path / name
-    path.write_text(f"#!/bin/sh\n{text}\n")
-    path.chmod(0o755)
-    return parts.Part(str(path), needs, 1)
+@pytest.mark.parametrize("script, passed, failed", PARTS)
+def test_a_part_is_counted(script, passed, failed):
+    found = gate.run("made", ["sh", "-c", script])
+    assert (found.passed, found.failed) == (passed, failed) and ("why" in found.said) == ("why" in script.split(" #")[0])
 
 
-def ran(rows, capfd):
-    found = gate.Gate(dict(os.environ))
-    gate.side_by_side(found, rows, "the log")
-    gate.tell_failures(found)
-    return found, capfd.readouterr().out
-
-
-def test_what_fails_is_told_and_counted(tmp_path, capfd):
-    rows = [made(tmp_path, "well", "echo 3 passed, 0 failed"),
-            made(tmp_path, "wrong", "echo WRONG: one of them; echo why >&2; echo 2 passed, 1 failed; exit 1"),
-            made(tmp_path, "silent", "exit 3"),
-            parts.Part(str(tmp_path / "absent"), "programs", 1)]
-    found, said = ran(rows, capfd)
-    assert (found.passed, found.failed) == (5, 3)
-    assert sorted(it.name for it in found.results if it.failed) == sorted(part.name for part in rows[1:])
-    told = said[said.index("FAILED"):]
-    assert "WRONG: one of them" in told and "why" in told and "the last line is not 'N passed, M failed'" in told
-
-
-def test_a_part_that_counts_none_wrong_fails_by_its_status(tmp_path, capfd):
-    found, _ = ran([made(tmp_path, "status", "echo 2 passed, 0 failed; exit 1")], capfd)
-    assert (found.passed, found.failed) == (2, 1)
-
-
-def test_packages_are_built_one_after_another(tmp_path, capfd):
-    alone = "mkdir {0} || echo WRONG: beside another; sleep 0.2; rmdir {0}; echo 1 passed, 0 failed".format(tmp_path / "held")
-    rows = [made(tmp_path, f"package{i}", alone, needs) for i, needs in enumerate(("packages", "release", "packages"))]
-    found, said = ran(rows, capfd)
-    assert "WRONG" not in said and found.failed == 0
-    assert [name for _, _, name in found.times] == [part.name for part in rows]
-
-
-def test_the_log_is_handed_on(tmp_path, capfd):
-    part = made(tmp_path, "log", 'echo "got: $1"; echo 1 passed, 0 failed')
-    _, said = ran([parts.Part(f"{part.name} LOG", "log", 1)], capfd)
-    assert "got: the log" in said
-
-
-def test_processor_seconds_are_those_of_the_part(tmp_path, capfd):
-    busy = "i=0; while [ $i -lt 200000 ]; do i=$((i+1)); done; echo 1 passed, 0 failed"
-    found, _ = ran([made(tmp_path, "busy", busy), made(tmp_path, "idle", "sleep 0.3; echo 1 passed, 0 failed")], capfd)
-    used = {os.path.basename(name): seconds for _, seconds, name in found.times}
-    assert used["busy"] > 0.05 > used["idle"]
-
-
-def test_what_runs_beside_the_proofs_knows_when_they_have_ended(tmp_path, capfd):
-    proving = tmp_path / "proving"
-    proving.touch()
-    found = gate.Gate(dict(os.environ))
-    part = made(tmp_path, "beside", 'while [ -e "$DENIMSCREE_PROVING" ]; do sleep 0.1; done; echo 1 passed, 0 failed', "proofs")
-    with concurrent.futures.ThreadPoolExecutor(1) as pool:
-        ran_beside = pool.submit(gate.run_beside, found, [part], str(proving))
-        assert not concurrent.futures.wait([ran_beside], 0.5).done
-        proving.unlink()
-        ran_beside.result()
-    assert (found.passed, found.failed) == (1, 0)
-    assert len(found.beside) == 1
+def test_a_part_that_is_not_there_fails():
+    assert gate.run("made", [os.path.join(programs.ROOT, "none")]).failed == 1
 
 
 def test_a_library_is_built_when_rt_says_so():
-    assert gate.library_in("rt: semver_cuts proved\n") == "semver_cuts"
-    assert gate.library_in("rt: semver_cuts is kept: an earlier run on this machine proved the same files\n") == "semver_cuts"
+    assert gate.library_in("rt: semver_cuts proved") == gate.library_in("rt: semver_cuts is kept: an earlier run") == "semver_cuts"
     for line in ("rt: semver_cuts NOT PROVED", "rt: semver_pairs proved", "rt: semver_cuts: its tests are proved", "semver_cuts proved"):
         assert gate.library_in(line) is None
+
+
+def test_a_kind_of_which_fewer_ran_fails():
+    assert tests.too_few(tests.least()) == []
+    assert [it.name for it in tests.too_few({**tests.least(), "npm": 1})] == ["least npm"]
+
+
+SCRIPT = """source {root}/.ci/shared/counting.sh
+check well true; check wrong sh -c 'echo why; exit 1'; adds others echo 4 passed, 0 failed; adds ended echo 4 passed; needs it false; check after true; finish"""
+
+
+def test_a_script_counts_its_checks():
+    ran = subprocess.run(["bash", "-uc", SCRIPT.format(root=programs.ROOT)], capture_output=True, text=True)
+    assert (ran.stdout, ran.returncode) == ("ok: well\nWRONG: wrong\nwhy\nWRONG: ended did not end\n4 passed\nWRONG: it\n5 passed, 3 failed\n", 1)
+
+
+MADE = """import pytest
+from support import programs
+def test_well(record_property): record_property("made", 7)
+def test_wrong(): assert False, "why"
+def test_unbuilt(monkeypatch):
+    monkeypatch.setenv("DENIMSCREE_PROVES", "no")
+    raise programs.NotBuilt("made is not built")
+def test_left_out(): pytest.skip("a reason")
+"""
+
+
+def test_a_report_has_what_failed_and_what_was_not_run(tmp_path):
+    (tmp_path / "some").mkdir()
+    (tmp_path / "some" / "test_made.py").write_text(MADE)
+    found = tests.ran([str(tmp_path), "-p", "conftest", "--rootdir", str(tmp_path)], ())
+    assert (found["kinds"], found["made"]) == ({"some": 1}, 7)
+    assert [name.split("::")[1] for name, _ in found["failures"]] == ["test_wrong"] and "why" in found["failures"][0][1]
+    assert sorted(found["skipped"]) == ["a reason", "made is not built"]
+    assert [bool(it.failed) for it in tests.results_of(found)] == [False, True, True, True]
+
+
+# A file, its text, and what is wrong with an import in it; None where nothing is.
+PLANTED = [
+    ("node_semver/src/a.rt", "ghost use Rattle.semver_sets.specs.Private.WordReading;", "PRIVATE"),
+    ("node_semver/src/a.rt", "ghost use Rattle.semver_sets.specs as Hidden;", "WHOLE"),
+    ("node_semver/src/a.rt", "use semver_sets::*;", "WHOLE"),
+    ("node_semver/src/a.rt", "use semver_sets::{set::admits, specs::{Meaning, Private::PieceReading as P}};", "PRIVATE"),
+    ("node_semver/src/a.rt", "ghost use Rattle.semver_sets.{\n    specs.Meaning,\n    specs.Private.X,\n};", "PRIVATE"),
+    ("node_semver/src/a.rt", "#[tactic(auto, using(semver_sets::proofs::Ranges::Decisions::found))]\nfn f() {}", "PRIVATE"),
+    ("node_semver/src/a.rt", "fn f()\n    ensures { Rattle.semver_sets.specs.Private.X.y }\n{}", "PRIVATE"),
+    ("node_semver/src/a.rt", "mod m { use semver_sets::*; }", "INLINE"),
+    ("node_semver/src/a.rt", "fn f() {\n    let text = \"use semver_sets::*;\"; // Rattle.semver_sets.specs.Private.X\n}", None),
+    ("node_semver/proofs/A.antt", "use Rattle.semver_sets.proofs.set.opens.TheLaws", "PRIVATE"),
+    ("node_semver/specs/A.antt", "pub use Rattle.node_semver.specs.Private.LeastViews.{IsStep}", "UNTRUSTED"),
+    ("node_semver_c/specs/A.antt", "use Rattle.node_semver.specs.Lemmas.GreatestViews.{IsBetter}", "UNTRUSTED"),
+    ("node_semver_c/specs/Private/A.antt", "use Rattle.node_semver.specs.Lemmas.GreatestViews.{IsBetter}", None),
+    ("semver_pairs/proofs/A.antt", "use Rattle.semver_versions.specs.Lemmas.Order.{version_total}", "PRIVATE"),
+    ("semver_sets/proofs/A.antt", "use Rattle.semver_cuts.specs.Lemmas.Lists.{all_map}", None),
+]
+
+
+@pytest.mark.parametrize("file, text, wanted", PLANTED, ids=range(len(PLANTED)))
+def test_an_import_is_judged(file, text, wanted):
+    borders = runpy.run_path(f"{programs.ROOT}/.ci/borders")
+    assert [fault for _, fault in borders["faults"](file, text, set())] == ([borders[wanted]] if wanted else [])
+
+# What is said of an edit, and whether it names a clause that is not proved.
+SAID = [("refused, as it must be: note: src/a.rt:50:82: it is not proved that what the function ensures holds when it returns", True),
+        ("refused, as it must be: ./proofs/a/b/Answers.antt:17:54: error: `returns`: as printed, the two types first differ", True),
+        ("refused, as it must be: ", False), ("NOT REFUSED: the crate is still proved with this edit", False), ("BAD EDIT: x: src/a.rt:1:1: error: x", False),
+        ("refused, as it must be (only because a proof file names what the edit took away): ./proofs/a/b/Answers.antt:17:54: error: `c` has no field", False),
+        ("refused, as it must be: ./proofs/a/b/Answers.antt:17:54: error: `returns`: `c` has no field `admits_opened`", False),
+        ("refused, as it must be: src/place.rt:45:9: the borrow checker does not cover this function yet", False)]
+
+
+@pytest.mark.parametrize("said, is_right", SAID)
+def test_what_refuses_an_edit_is_judged(said, is_right):
+    assert (gate.refusals.fault_of(said) is None) == is_right

@@ -1,8 +1,7 @@
 """Calls of the libraries, by programs that read a call a line, a JSON array of its name and its arguments, and write its answer, a JSON
 string a line. A program runs until the tests end, and each process of pytest has its own.
 
-Where a program is not built and nothing is to be proved, the answers are those that `./check` keeps of a run without a proof:
-`asked.py` of .ci/shared says how."""
+Where a program is not built and nothing is to be proved, the answers are those of the file DENIMSCREE_ANSWERS: `asked.py` of .ci/shared says how."""
 import atexit
 import functools
 import json
@@ -12,37 +11,43 @@ import subprocess
 import threading
 
 from support import programs
-import asked
 
 SECONDS = 120  # A call that takes longer is ended.
+LONGEST = 50000  # Longer lines are not asked where the program is not built: the build with checks would take a second for each.
+ASKING = ("rows", "pages", "memory/refused.", "memory/takes_none.", "models/test_json_places.py")  # The tests that ask calls, to gather lines.
 
 
 class Ended(Exception):
     """A program ended in place of an answer."""
 
 
+def is_gathering():
+    return bool(os.environ.get("DENIMSCREE_ASKED"))
+
+
 @functools.cache
+def all_kept():
+    path = os.environ.get("DENIMSCREE_ANSWERS")
+    if not path:
+        return {}
+    with open(path, encoding="utf-8") as file:
+        return json.load(file)
+
+
 def kept_answers(program):
     """The answers that are kept of a program that is not built, or None if it can be run."""
-    try:
-        programs.built(program)
-    except programs.NotBuilt:
-        if programs.is_proving() or os.environ.get("DENIMSCREE_PROGRAMS"):
-            raise
-        return asked.known(program)
-    return None
+    return all_kept().get(program)
 
 
 def kept_answer(program, line):
     """The answer to a line that is kept. Where lines are gathered, one without an answer is noted, and its answer is empty."""
-    found, gathered, is_long = kept_answers(program).get(line), os.environ.get("DENIMSCREE_ASKED"), len(line) > asked.LONGEST
+    found, is_long = kept_answers(program).get(line), len(line) > LONGEST
     if found is not None:
         return json.loads(found)
-    if not gathered:
-        why = f"it is asked no line of more than {asked.LONGEST} bytes" if is_long else "it has not answered this line"
-        raise programs.NotBuilt(f"{program} is not built of these sources: {why}: ./check --prove {program}")
+    if not is_gathering():
+        raise programs.NotBuilt(f"{program} is not built of these sources: ./check --prove {program}")
     if not is_long:
-        with open(gathered, "a", encoding="utf-8") as file:
+        with open(os.environ["DENIMSCREE_ASKED"], "a", encoding="utf-8") as file:
             file.write(json.dumps([program, line]) + "\n")
     return ""
 

@@ -1,4 +1,4 @@
-"""The files `rows/*.tsv`: a call a row, and what it returns. README.md says how they are written."""
+"""The files `rows/*.tsv`: a call a row, and what it returns. CONTRIBUTING.md says how they are written."""
 import itertools
 import os
 from dataclasses import dataclass

@@ -3,6 +3,7 @@ import atexit
 import fcntl
 import functools
 import os
+import re
 import shutil
 import subprocess
 import sys
@@ -14,34 +15,19 @@ COMMANDS = os.path.join(TESTS, "support", "commands")  # What rows may run besid
 sys.path.insert(0, os.path.join(ROOT, ".ci", "shared"))
 import crates
 
-# The names that users type, of programs whose crates have others.
-CRATES = {"npm_pick": "npm_pick_command", "npm_resolve": "npm_resolve_command", "semver": "semver_command"}
-
-
-def found(name, crate, folder):
-    """The program in a folder of programs that are built: under one of its names, or where `rt run` leaves it."""
-    for path in (name, crate, os.path.join(crate, "out", crate)):
-        if os.path.isfile(os.path.join(folder, path)):
-            return os.path.join(folder, path)
-    raise FileNotFoundError(f"DENIMSCREE_PROGRAMS={folder} has neither {name} nor {crate}")
-
 
 class NotBuilt(Exception):
     """A program is not there, and why."""
 
 
-@functools.cache
-def sought(name):
-    """The path of a program, and why there is none. Two processes do not build it at once."""
-    crate, folder = CRATES.get(name, name), os.environ.get("DENIMSCREE_PROGRAMS")
-    try:
-        if folder:
-            return found(name, crate, os.path.abspath(folder)), None
-        with open(os.path.join(crates.CRATES, crate, "src", "main.rt")) as held:
-            fcntl.flock(held, fcntl.LOCK_EX)
-            return crates.program(crate), None
-    except (Exception, SystemExit) as error:
-        return None, str(error)
+def crate_of(name):
+    """The crate of a program by the name that users type, or by its own."""
+    return crates.programs().get(name, name)
+
+
+def folder(name):
+    """The folder of the crate of a program."""
+    return os.path.join(crates.CRATES, crate_of(name))
 
 
 def is_proving():
@@ -49,39 +35,51 @@ def is_proving():
     return os.environ.get("DENIMSCREE_PROVES") != "no"
 
 
-def folder(name):
-    """The folder of the crate of a program."""
-    return os.path.join(crates.CRATES, CRATES.get(name, name))
+@functools.cache
+def sought(name):
+    """The path of a program or of a library for other languages, and why there is none."""
+    crate, built = crate_of(name), os.environ.get("DENIMSCREE_PROGRAMS")
+    if built and crates.is_program(crate):
+        paths = [os.path.join(os.path.abspath(built), path) for path in (name, crate, f"{crate}/out/{crate}")]
+        return next(filter(os.path.isfile, paths), None), f"DENIMSCREE_PROGRAMS={built} has neither {name} nor {crate}"
+    with open(os.path.join(ROOT, "crates.txt")) as held:  # (two processes do not build at once)
+        fcntl.flock(held, fcntl.LOCK_EX)
+        if not crates.is_built(crates.built_file(crate), crate):
+            if not is_proving():
+                return None, f"{crate} is not built of these sources: ./check --prove {crate}"
+            try:
+                crates.build(crate)
+            except (Exception, SystemExit) as error:
+                return None, str(error)
+    return crates.built_file(crate), None
 
 
 def built(name):
-    """The path of a program. It is one in the folder DENIMSCREE_PROGRAMS, if that is set. Else it is proved and built here, if it
-    was not built of the sources as they stand."""
+    """The path of a program or of a library, which is proved and built here if it was not built of the sources as they stand. If
+    DENIMSCREE_PROGRAMS is set, a program is one in that folder."""
     path, why = sought(name)
     if path is None:
         raise NotBuilt(why)
     return path
 
 
-def library(crate):
-    """The library for other languages of a crate. It is proved and built here as a program is."""
-    path = os.path.join(crates.CRATES, crate, "out", f"lib{crate}.a")
-    if not is_proving() and crates.is_built(path, *crates.below(crate)).returncode:
-        raise NotBuilt(f"{crate} is not built of these sources: ./check --prove {crate}")
-    with open(os.path.join(crates.CRATES, crate, "src", "lib.rt")) as held:
-        fcntl.flock(held, fcntl.LOCK_EX)
-        subprocess.run([os.path.join(crates.CI, "packages", "library"), crate], check=True)
-    return path
+library = built
+
+
+def tried(crate, words, given=b""):
+    """Runs `rt try` in the folder of a crate, niced: the status, standard output and standard error. It has 600 seconds of a clock."""
+    ran = subprocess.run(["nice", "rt", "try", "--seconds", "600", *words], cwd=os.path.join(crates.CRATES, crate), input=given, capture_output=True)
+    return ran.returncode, ran.stdout.decode(errors="replace"), ran.stderr.decode(errors="replace")
 
 
 @functools.cache
 def room():
     """A folder of this process, that is removed when it ends."""
-    folder = tempfile.mkdtemp(prefix="denimscree-tests-")
-    atexit.register(shutil.rmtree, folder, ignore_errors=True)
-    os.mkdir(os.path.join(folder, "bin"))
-    os.mkdir(os.path.join(folder, "home"))
-    return folder
+    made = tempfile.mkdtemp(prefix="denimscree-tests-")
+    atexit.register(shutil.rmtree, made, ignore_errors=True)
+    os.mkdir(os.path.join(made, "bin"))
+    os.mkdir(os.path.join(made, "home"))
+    return made
 
 
 def environment(*names):
@@ -90,5 +88,5 @@ def environment(*names):
         link = os.path.join(room(), "bin", name)
         if not os.path.islink(link):
             os.symlink(built(name), link)
-    kept = {name: value for name, value in os.environ.items() if not name.lower().startswith(("npm_", "lc_", "node_"))}
+    kept = {name: value for name, value in os.environ.items() if not re.match("npm_|lc_|node_", name.lower())}
     return {**kept, "PATH": f"{room()}/bin:{COMMANDS}:{os.environ['PATH']}", "HOME": f"{room()}/home", "LC_ALL": "C.UTF-8", "TZ": "UTC"}

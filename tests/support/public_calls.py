@@ -10,25 +10,12 @@ import re
 from support import programs  # (it makes the runner's own modules known)
 import files
 from crates import is_program, listed
-from rattle import Source, source
+from rattle import source
 
-# Libraries that no user calls, and those of which runs of npm_lock_check, npm_pick_command and npm_resolve_command make
-# each call: by what does.
-SCRIPTS = {
-    "makes the calls": "named_calls",
-    "examples": "node_semver_callers",
-    "runs with --format github and sarif": "json_places",
-    "runs with --format github, sarif, html and junit": "findings",
-    "runs with --format github, sarif, html and junit, with each kind of finding": "npm_lock_findings",
-    "all runs": "command_lines npm_lock_reports npm_lock_program",
-    "runs on lock files and manifests with faults": "npm_lock_faults",
-    "runs with --manifest": "npm_manifest_files",
-    "runs with --exceptions": "advisory_exceptions advisory_exception_files",
-    "all runs of npm_pick_command": "npm_pick_reports",
-    "runs of tests/models": "version_solving solving_reasons npm_candidates npm_resolve",
-    "runs of tests/programs": "npm_resolve_reports npm_flat_locks",
-    "does not allocate": "npm_resolve_laws",
-}
+# Libraries that no user calls, and those of which runs of the programs make each call.
+OTHERS = set("""named_calls node_semver_callers json_places findings npm_lock_findings command_lines npm_lock_reports npm_lock_program npm_lock_faults
+    npm_manifest_files advisory_exceptions advisory_exception_files npm_pick_reports version_solving solving_reasons npm_candidates npm_resolve
+    npm_resolve_reports npm_flat_locks npm_resolve_laws""".split())
 
 # The calls that make other functions, each with these functions.
 MAKES = {
@@ -64,51 +51,6 @@ NEEDLESS = {"SemverError::out_of_memory", "node_semver_c::node_semver_range_free
 
 OUT_OF_MEMORY = re.compile(r"\bGlobal\b|\bAllocGlobal\b|\bAllocError\b|\bAllocator\b|(?<![\w:])Result<(?:[^<>,]|<[^<>]*>|\([^()]*\))*>\s*$")
 
-# A source, and its public functions that can run out of memory.
-MADE_UP = [
-    ("""
-pub use std::alloc::Global; // pub fn no(alloc: Global) {}
-/// Returns `pub fn neither(alloc: Global)`.
-pub fn one(alloc: Global, ends: [u8; { 2 * 2 }]) -> usize
-    ensures { IsOf { first: 1 } result }
-{
-    let brace = '{';
-    let text = "pub fn none(alloc: Global) {";
-    0
-}
-pub(crate) fn two(alloc: Global) {}
-pub fn three(text: &str) -> Result<usize, Fault> {}
-pub fn four(&mut self) -> Result<(), AllocError> { fn inner(alloc: Global) {} }
-pub fn five<'a>(text: &'a str) -> Result<Vec<&'a str>> {}
-#[unsafe(no_mangle)]
-pub extern "C" fn six(
-    alloc: Global,
-    at: *const u8,
-) -> u32 {}
-""", {"made_up::one", "made_up::four", "made_up::five", "made_up::six"}),
-    ("""
-impl<'a, T: Ord + Into<Vec<u8>>> Thing<'a, T>
-where
-    T: Drop,
-{
-    pub fn one(&self, alloc: Global) -> usize { 0 }
-    fn two(&self, alloc: Global) -> usize { 0 }
-}
-impl<T> Clone for crate::thing::Other<T> {
-    fn clone(&self) -> Result<Other<T>, AllocError> {}
-}
-impl<W> fmt::Display for Other<W> {
-    fn fmt(&self) -> fmt::Result {}
-}
-impl From<AllocError> for Other<u8> {
-    fn from(error: AllocError) -> Other<u8> {}
-}
-pub trait Made {
-    fn made(alloc: Global) -> Self;
-}
-""", {"Thing::one", "Other::clone", "Made::made"}),
-]
-
 
 def calls_of(source, crate):
     """The public functions of a source that can run out of memory, by their names."""
@@ -123,8 +65,7 @@ def calls_of(source, crate):
 
 def libraries():
     """The libraries that users call."""
-    left_out = " ".join(SCRIPTS.values()).split()
-    return [name for name in listed() if not is_program(name) and not name.endswith("_tests") and name not in left_out]
+    return [name for name in listed() if not is_program(name) and not name.endswith("_tests") and name not in OTHERS]
 
 
 def of_crate(crate):
@@ -141,11 +82,3 @@ def lacking(rows, crates):
             yield f"{name}: {THROUGH[name]}, which makes it, stands in no row"
     if len(calls) < 50:
         yield f"only {len(calls)} public functions that can run out of memory were found"
-
-
-def unseen():
-    """What is read wrongly in the made-up sources: a line for each."""
-    for text, wanted in MADE_UP:
-        found = calls_of(Source(text), "made_up")
-        if found != wanted:
-            yield f"of a made-up source these calls were found: {sorted(found)}, and these wanted: {sorted(wanted)}"

@@ -1,4 +1,4 @@
-"""The files `programs/PROGRAM/*.rows`: a run of a program a paragraph. README.md says how they are written."""
+"""The files `programs/PROGRAM/*.rows`: a run of a program a paragraph. CONTRIBUTING.md says how they are written."""
 import os
 import re
 import shutil
@@ -121,8 +121,7 @@ def beside(what, wanted, got):
 
 def others(script, program):
     """The other programs that a script begins commands with."""
-    names = sorted(it.name for it in os.scandir(os.path.join(programs.TESTS, "programs")) if it.is_dir())
-    return [name for name in names if name != program and re.search(rf"(?:^|[|&;]\s*){re.escape(name)} ", script, re.M)]
+    return [name for name in programs.crates.programs() if name != program and re.search(rf"(?:^|[|&;]\s*){re.escape(name)} ", script, re.M)]
 
 
 def fault(case, program):

@@ -1,40 +1,27 @@
 """Whether a text is a log in SARIF 2.1.0, the Static Analysis Results Interchange Format (OASIS).
 
-Two readers, neither of them ours, and both have to find nothing:
-
-- `sarif_om` (Debian's `python3-sarif-python-om`), a class for each object of the standard, made by a program from the schema of the
-  standard: which members an object may have, and which it must have.
-- `jsonschema` (Debian's `python3-jsonschema`), by `sarif.schema.json` beside this file, for what stands in the members that our
-  programs write: types, words and least numbers. The schema is our own, after the text of the standard; `schema_faults` holds its names
-  against the classes.
-
-It is Debian's Python that has both packages. tests/runner has logs with a fault, which have to be found.
+Which members an object may have, and which it must have, say the classes of `sarif_om` (Debian's `python3-sarif-python-om`), made by a program from the
+schema of the standard. What stands in the members that our programs write is checked here, after the text of the standard.
 """
 import importlib
 import json
 import re
 
-from support import programs  # (it makes the runner's own modules known)
-import files
-
-SCHEMA = "tests/support/sarif.schema.json"
-
 # Where a member is an object, or a list of objects, of another class: the class and the member, and the class that is there.
-INSIDE = {
-    ("SarifLog", "runs"): "Run",
-    ("Run", "tool"): "Tool",
-    ("Run", "invocations"): "Invocation",
-    ("Run", "results"): "Result",
-    ("Tool", "driver"): "ToolComponent",
-    ("ToolComponent", "rules"): "ReportingDescriptor",
-    ("ReportingDescriptor", "shortDescription"): "MultiformatMessageString",
-    ("ReportingDescriptor", "defaultConfiguration"): "ReportingConfiguration",
-    ("Result", "message"): "Message",
-    ("Result", "locations"): "Location",
-    ("Location", "physicalLocation"): "PhysicalLocation",
-    ("PhysicalLocation", "artifactLocation"): "ArtifactLocation",
-    ("PhysicalLocation", "region"): "Region",
-}
+INSIDE = {("SarifLog", "runs"): "Run", ("Run", "tool"): "Tool", ("Run", "invocations"): "Invocation", ("Run", "results"): "Result",
+          ("Tool", "driver"): "ToolComponent", ("ToolComponent", "rules"): "ReportingDescriptor",
+          ("ReportingDescriptor", "shortDescription"): "MultiformatMessageString", ("ReportingDescriptor", "defaultConfiguration"): "ReportingConfiguration",
+          ("Result", "message"): "Message", ("Result", "locations"): "Location", ("Location", "physicalLocation"): "PhysicalLocation",
+          ("PhysicalLocation", "artifactLocation"): "ArtifactLocation", ("PhysicalLocation", "region"): "Region"}
+LISTS = ("runs", "invocations", "results", "rules", "locations")
+LEVELS = ("none", "note", "warning", "error")
+URI = re.compile(r"(?:[A-Za-z0-9._~:/?#@!$&'()*+,;=\[\]-]|%[0-9A-Fa-f]{2})+")
+TEXT = lambda it: isinstance(it, str) and it != ""
+NUMBER = lambda least: lambda it: type(it) is int and it >= least
+# What stands in a member that is no object.
+VALUES = {"version": TEXT, "$schema": TEXT, "name": TEXT, "id": TEXT, "text": TEXT, "ruleId": TEXT, "ruleIndex": NUMBER(-1), "level": LEVELS.__contains__,
+          "executionSuccessful": lambda it: type(it) is bool, "columnKind": ("utf16CodeUnits", "unicodeCodePoints").__contains__,
+          "uri": lambda it: TEXT(it) and URI.fullmatch(it), "startLine": NUMBER(1), "startColumn": NUMBER(1)}
 
 
 def members_of(name):
@@ -49,54 +36,21 @@ def members_of(name):
 def member_faults(value, name="SarifLog", path="$"):
     """What is wrong with the members of an object of a class and of those inside it."""
     if not isinstance(value, dict):
-        return [f"{path} is no object"]
+        yield f"{path} is no object"
+        return
     known, needed = members_of(name)
-    faults = [f"{path} has a member {it}, which {name} has not" for it in sorted(set(value) - known)]
-    faults += [f"{path} lacks {it}" for it in sorted(needed - set(value))]
+    yield from (f"{path} has a member {it}, which {name} has not" for it in sorted(set(value) - known))
+    yield from (f"{path} lacks {it}" for it in sorted(needed - set(value)))
     for member, inner in value.items():
-        of = INSIDE.get((name, member))
+        of, at = INSIDE.get((name, member)), f"{path}.{member}"
         if of is None:
-            if isinstance(inner, dict) or isinstance(inner, list) and any(isinstance(it, dict) for it in inner):
-                faults.append(f"{path}.{member} has objects that nothing here checks")
-            continue
-        each = enumerate(inner) if isinstance(inner, list) else [("", inner)]
-        for place, it in each:
-            faults += member_faults(it, of, f"{path}.{member}" + (f"[{place}]" if place != "" else ""))
-    return faults
-
-
-def schema():
-    return json.loads(files.read(SCHEMA))
-
-
-def schema_faults(part=None, name="SarifLog", path="$"):
-    """Where our schema names a member that the standard has not, or does not ask for one that it asks for."""
-    part = schema() if part is None else part
-    known, needed = members_of(name)
-    faults = [f"{path}: the schema has {it}, which {name} has not" for it in sorted(set(part["properties"]) - known)]
-    faults += [f"{path}: the schema does not ask for {it}" for it in sorted(needed - set(part["required"]))]
-    for member, inner in part["properties"].items():
-        inner = inner.get("items", inner)
-        of = INSIDE.get((name, member))
-        if (of is None) == ("properties" in inner):
-            faults.append(f"{path}.{member}: the schema and the classes differ on whether it is an object")
-        elif of is not None:
-            faults += schema_faults(inner, of, f"{path}.{member}")
-    return faults
-
-
-def index_faults(log):
-    """Results whose rule is not the one at its index, which no schema can say."""
-    faults = []
-    for place, run in enumerate(log.get("runs", [])):
-        rules = [it["id"] for it in run["tool"]["driver"].get("rules", [])]
-        if len(set(rules)) != len(rules):
-            faults.append(f"$.runs[{place}] has two rules of one id")
-        for at, result in enumerate(run.get("results", [])):
-            index = result.get("ruleIndex", -1)
-            if index >= len(rules) or rules[index] != result.get("ruleId"):
-                faults.append(f"$.runs[{place}].results[{at}] has the index of another rule")
-    return faults
+            if not VALUES.get(member, lambda _: False)(inner):
+                yield f"{at} is {inner!r}"
+        elif isinstance(inner, list) != (member in LISTS):
+            yield f"{at} is a list, or should be one"
+        else:
+            for it in inner if member in LISTS else [inner]:
+                yield from member_faults(it, of, at)
 
 
 # A message string by the standard, sections 3.11.5 and 3.11.6: a brace written twice, a bracket or a backslash after a backslash, a
@@ -116,28 +70,27 @@ def plain(text):
     return read
 
 
-def message_faults(log):
-    """Messages in which a text is read as a placeholder or as a link, which no schema can say."""
-    faults = []
-    for run in log.get("runs", []):
-        texts = [it["message"]["text"] for it in run.get("results", [])]
-        texts += [it["shortDescription"]["text"] for it in run["tool"]["driver"].get("rules", []) if "shortDescription" in it]
-        for text in texts:
-            try:
-                plain(text)
-            except ValueError as error:
-                faults.append(str(error))
-    return faults
+def run_faults(run):
+    """Results whose rule is not the one at its index, and messages in which a text is read as a placeholder or as a link."""
+    rules = run["tool"]["driver"].get("rules", [])
+    ids = [it["id"] for it in rules]
+    if len(set(ids)) != len(ids):
+        yield "two rules have one id"
+    for result in run.get("results", []):
+        if ids[result.get("ruleIndex", -1):][:1] != [result.get("ruleId")]:
+            yield f"{result.get('ruleId')} has the index of another rule"
+    for text in [it["message"]["text"] for it in run.get("results", [])] + [it["shortDescription"]["text"] for it in rules if "shortDescription" in it]:
+        try:
+            plain(text)
+        except ValueError as error:
+            yield str(error)
 
 
 def faults(text):
     """What is wrong with a text that is to be a log."""
-    import jsonschema
     try:
         log = json.loads(text)
     except ValueError as error:
         return [f"it is no JSON text: {error}"]
-    found = member_faults(log)
-    checker = jsonschema.Draft7Validator(schema(), format_checker=jsonschema.FormatChecker())
-    found += [f"{it.json_path}: {it.message}" for it in checker.iter_errors(log)]
-    return found or index_faults(log) + message_faults(log)
+    found = list(member_faults(log)) + ([] if isinstance(log, dict) and log.get("version") == "2.1.0" else ["it is of another version"])
+    return found or [fault for run in log["runs"] for fault in run_faults(run)]

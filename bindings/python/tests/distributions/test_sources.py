@@ -52,7 +52,7 @@ class Sources(unittest.TestCase):
 
     def test_the_name(self) -> None:
         self.assertEqual(os.path.basename(SOURCES), f"{NAME}.tar.gz")
-        for page in (content(ROOT, "docs/CHANGING.md"), content(PACKAGE, "README.md")):
+        for page in (content(ROOT, "CONTRIBUTING.md"), content(PACKAGE, "README.md")):
             self.assertIn(f"{NAME}.tar.gz", page)
 
     def test_the_files(self) -> None:

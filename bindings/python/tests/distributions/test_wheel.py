@@ -63,7 +63,7 @@ class Wheel(unittest.TestCase):
         tag = re.fullmatch(rf"denimscree_semver-{re.escape(VERSION)}-(cp310-abi3-manylinux_2_\d+_x86_64)\.whl", name)
         assert tag is not None, name
         self.assertIn(f"\nTag: {tag[1]}\n", self.read("WHEEL"))
-        for page in (content(ROOT, "docs/CHANGING.md"), content(PACKAGE, "README.md")):
+        for page in (content(ROOT, "CONTRIBUTING.md"), content(PACKAGE, "README.md")):
             self.assertEqual(set(re.findall(r"[\w.-]+\.whl", page)), {name})
 
     def installed(self) -> Set[str]:

@@ -1,23 +1,16 @@
-#!/usr/bin/env python3
-"""Prints the clauses of a call, from the sources: `./check --clauses CALL`.
-
-    .ci/clauses Range::parse    a function of a type, of a module or of a crate; all of that name without `::`
-    .ci/clauses --check         whether each call, label and definition that the tables of docs/PROMISES.md name is there
-
-Below the clauses stand the definitions that they name, each with the words above it in `specs/`.
-"""
+"""The clauses of calls, from the sources: `./check --clauses CALL`. Below them stand the definitions that they name, each with the words above it in
+`specs/`. CALL is as Range::parse: a function of a type, of a module or of a crate; all of that name without `::`."""
 import functools
 import os
 import re
 import sys
 
-sys.path.insert(0, os.path.join(os.path.dirname(os.path.abspath(__file__)), "shared"))
 import definitions
 import files
 import rattle
 from crates import listed
 
-PAGE = "docs/PROMISES.md"
+PAGE = "docs/PROOFS.md"
 CODE = re.compile(r"`([^`]+)`")
 HIDDEN = ("laws", "invariant", "Value", "view")  # Ghost members that say nothing of a call.
 
@@ -68,8 +61,8 @@ def calls(name):
                         yield call
 
 
-def checks():
-    """For each call, label and definition that the tables of the page name, what is wrong with it, or nothing."""
+def faults():
+    """What is wrong with the calls, labels and definitions that the tables of promises name."""
     known = {os.path.basename(path)[:-5] for path in files.matching("crates/*/specs/**/*.antt")}
     for line in files.lines(PAGE):
         cells = [cell.strip() for cell in re.split(r"(?<!\\)\|", line)]
@@ -78,23 +71,12 @@ def checks():
         for item in cells[1].split(";"):
             call, *labels = CODE.findall(item)
             found = list(calls(call))
-            yield "" if found else f"no call {call} has clauses"
-            for label in labels if found else ():
-                yield "" if any(label in it.labels() for it in found) else f"no clause {label} of {call}"
-        for name in CODE.findall(cells[2]):
-            yield "" if name.split(".")[0] in known else f"no definitions {name}"
-
-
-def main():
-    if sys.argv[1:] == ["--check"]:
-        told = list(checks())
-        wrong = [f"WRONG: {PAGE}: {it}" for it in told if it]
-        print("\n".join([*wrong, f"{len(told) - len(wrong)} passed, {len(wrong)} failed"]))
-        sys.exit(bool(wrong))
-    found = [line for name in sys.argv[1:] for call in calls(name) for line in call.lines()]
-    print("\n".join(found) or "no call of that name has clauses")
-    sys.exit(not found)
+            yield from [] if found else [f"no call {call} has clauses"]
+            yield from (f"no clause {label} of {call}" for label in labels if found and not any(label in it.labels() for it in found))
+        yield from (f"no definitions {name}" for name in CODE.findall(cells[2]) if name.split(".")[0] not in known)
 
 
 if __name__ == "__main__":
-    main()
+    wrong = list(faults())
+    print("\n".join(wrong) or "ok")
+    sys.exit(bool(wrong))

@@ -1,20 +1,20 @@
 //! The audit of a lock file.
-ghost use Rattle.std.specs.Prelude.{◌≡◌, ◌≢◌, ◌⊎◌, [], ℕ, List, None, IfErr, IfOk, OnOk, map};
+ghost use Rattle.std.specs.Prelude.{◌≡◌, ◌≢◌, ◌⊎◌, [], ℕ, List, None, IfErr, IfOk, OnOk, map, option_map};
 ghost use Rattle.std.specs.Option.{MatchOption};
 ghost use Rattle.serde_json.specs.Data.{Data};
 ghost use Rattle.serde_json.specs.View.{members_view, view};
+ghost use Rattle.npm_packages.specs.Aliases.{name_at};
 ghost use Rattle.npm_packages.specs.Dependents.{texts_at};
 ghost use Rattle.npm_packages.specs.Faults.{lock_fault};
 ghost use Rattle.npm_advisories.specs.Audit.{InstalledValue, IsAudit, found_value, installed_value};
 ghost use Rattle.npm_advisories.specs.Files.{advisories_of};
-ghost use Rattle.npm_packages.specs.LastParts.{IsEnd};
 ghost use Rattle.npm_advisories.specs.LockFaults.{IsAuditErrorBeside, IsFileFaultBeside, IsLockError};
-ghost use Rattle.npm_advisories.specs.LockFile.{AreInstalled, AreInstalledOf, IsInstalledAs, IsName, IsOther};
+ghost use Rattle.npm_advisories.specs.LockFile.{AreInstalled, AreInstalledOf, IsInstalledAs, IsName, IsOther, IsUnsaidName};
 
 use crate::found::{Found, Installed, audit};
 use crate::member::text_at;
 use crate::{AuditError, Fault, Result, Severity};
-use npm_packages::{CheckError, Dependents, SoundLock, end_of, is_link};
+use npm_packages::{Aliases, CheckError, Dependents, SoundLock, edges_in, end_of, is_link};
 use serde_json::{Map, Value};
 use std::alloc::Global;
 
@@ -32,7 +32,8 @@ pub enum LockError<'f> {
 /// Returns the installed packages of a lock file that an advisory hits, in the order of their folders' bytes.
 ///
 /// Each member of `packages` counts that is neither the root nor a link, and has a version. The name is `name`, which an
-/// alias has, or else the last part of the folder with its scope: `w` for `packages/w`. [`audit`] says which are hit.
+/// alias has as npm writes it. Where that is missing it is the name by which an alias asks for the package, or else the last part of the
+/// folder with its scope: `w` for `packages/w`. [`audit`] says which are hit.
 ///
 /// # Errors
 ///
@@ -114,9 +115,11 @@ pub(crate) fn installed_in<'f, 'v>(
 fn installed_among<'v>(lock: &SoundLock<'v>) -> Result<Vec<Installed<'v>>>
     ensures { IfOk result (λ installed. AreInstalledOf (view lock.now) (map installed_value installed.items)) }
 {
-    let dependents = Dependents::of_sound_lock(lock)?;
     let packages = lock.packages();
-    installed_of(packages.alloc, packages.members, &dependents)
+    let edges = edges_in(lock)?;
+    let dependents = Dependents::of_edges(packages.alloc, &edges)?;
+    let aliases = Aliases::of_edges(packages.alloc, &edges)?;
+    installed_of(packages.alloc, packages.members, &dependents, &aliases)
 }
 
 /// The installed packages among the members of `packages`.
@@ -124,13 +127,14 @@ fn installed_of<'v>(
     alloc: Global,
     members: &'v Map<String, Value>,
     dependents: &Dependents<'v>,
+    aliases: &Aliases<'v>,
 ) -> Result<Vec<Installed<'v>>>
-    ensures { IfOk result (λ installed. AreInstalled (texts_at dependents.now) (members_view members.now.entries)
+    ensures { IfOk result (λ installed. AreInstalled (texts_at dependents.now) (name_at aliases.now) (members_view members.now.entries)
         (map installed_value installed.items)) }
 {
     let mut all = Vec::new(alloc);
     for (folder, entry) in members.iter() {
-        if let Some(installed) = installed_as(alloc, folder.as_str(), entry, dependents)? {
+        if let Some(installed) = installed_as(alloc, folder.as_str(), entry, dependents, aliases)? {
             all.push(installed)?;
         }
     }
@@ -143,9 +147,10 @@ fn installed_as<'v>(
     folder: &'v str,
     entry: &'v Value,
     dependents: &Dependents<'v>,
+    aliases: &Aliases<'v>,
 ) -> Result<Option<Installed<'v>>>
     ensures { IfOk result (λ one. MatchOption one (IsOther folder.now (view entry.now))
-        (λ one. IsInstalledAs (texts_at dependents.now) folder.now (view entry.now) (installed_value one))) }
+        (λ one. IsInstalledAs (texts_at dependents.now) (name_at aliases.now) folder.now (view entry.now) (installed_value one))) }
 {
     if folder.is_empty() || is_link(entry) {
         return Ok(None);
@@ -156,7 +161,7 @@ fn installed_as<'v>(
     let asked = asked_at(alloc, dependents, folder)?;
     Ok(Some(Installed {
         folder,
-        name: name_of(folder, entry),
+        name: name_in(folder, aliases, entry),
         version,
         asked,
     }))
@@ -172,24 +177,41 @@ fn asked_at<'v>(alloc: Global, dependents: &Dependents<'v>, folder: &'v str) -> 
     }
 }
 
-/// The name of a package.
-fn name_of<'v>(folder: &'v str, entry: &'v Value) -> &'v str
-    ensures { IsName folder.now (view entry.now) result.now }
+/// The name of the package in a folder.
+fn name_in<'v>(folder: &'v str, aliases: &Aliases<'v>, entry: &'v Value) -> &'v str
+    ensures { IsName folder.now (name_at aliases.now folder.now) (view entry.now) result.now }
+{
+    name_of(folder, aliases.name(folder), entry)
+}
+
+/// The name of the package in a folder that an alias asks for by this name, if one does.
+fn name_of<'v>(folder: &'v str, alias: Option<&'v str>, entry: &'v Value) -> &'v str
+    ensures { IsName folder.now (option_map (λ name. name.now) alias.entry) (view entry.now) result.now }
 {
     match text_at(entry, "name") {
-        Some(said) => said_or_placed(folder, said),
-        None => end_of(folder),
+        Some(said) => said_or_unsaid(folder, alias, said),
+        None => unsaid_name(folder, alias),
     }
 }
 
-/// The name that is said, or that of the folder if it is empty.
-fn said_or_placed<'v>(folder: &'v str, said: &'v str) -> &'v str
+/// The name that is said, or another one if it is empty.
+fn said_or_unsaid<'v>(folder: &'v str, alias: Option<&'v str>, said: &'v str) -> &'v str
     ensures { ((result.now ≡ said.now) × (said.now ≢ []))
-        ⊎ ((said.now ≡ []) × IsEnd folder.now result.now) }
+        ⊎ ((said.now ≡ []) × IsUnsaidName folder.now (option_map (λ name. name.now) alias.entry) result.now) }
 {
     if said.is_empty() {
-        end_of(folder)
+        unsaid_name(folder, alias)
     } else {
         said
+    }
+}
+
+/// The name of a package that says none.
+fn unsaid_name<'v>(folder: &'v str, alias: Option<&'v str>) -> &'v str
+    ensures { IsUnsaidName folder.now (option_map (λ name. name.now) alias.entry) result.now }
+{
+    match alias {
+        Some(name) => name,
+        None => end_of(folder),
     }
 }

@@ -223,14 +223,15 @@ module _ (lock : Data) (node : Option VersionValue) (whole : Members)
   abbrev OfInstalled : InstalledValue → Type 0
   OfInstalled one = version_in lock one.folder ≡ Some one.version
 
-  of_installed : (texts_at : (folder : List ℕ) → List (List ℕ)) (some : Members) (all : List InstalledValue)
-      → Has whole some → AreInstalled texts_at some all → AllByRecursion OfInstalled all
-  of_installed texts_at no_members [] has LockFiles.none = tt
-  of_installed texts_at no_members (one ∷ all) has are = elim are [ ]
-  of_installed texts_at (member folder entry others) (one ∷ all) has (LockFiles.one_more _ _ _ _ _ such rest) =
-      (rw such.same (sym (there folder entry has.0) ∙ such.version), of_installed texts_at others all has.1 rest)
-  of_installed texts_at (member folder entry others) all has (LockFiles.other _ _ _ _ such rest) =
-      of_installed texts_at others all has.1 rest
+  of_installed : (texts_at : (folder : List ℕ) → List (List ℕ)) (alias_at : (folder : List ℕ) → Option (List ℕ))
+      (some : Members) (all : List InstalledValue) → Has whole some → AreInstalled texts_at alias_at some all
+      → AllByRecursion OfInstalled all
+  of_installed texts_at alias_at no_members [] has LockFiles.none = tt
+  of_installed texts_at alias_at no_members (one ∷ all) has are = elim are [ ]
+  of_installed texts_at alias_at (member folder entry others) (one ∷ all) has (LockFiles.one_more _ _ _ _ _ such rest) =
+      (rw such.same (sym (there folder entry has.0) ∙ such.version), of_installed texts_at alias_at others all has.1 rest)
+  of_installed texts_at alias_at (member folder entry others) all has (LockFiles.other _ _ _ _ such rest) =
+      of_installed texts_at alias_at others all has.1 rest
 
 of_hits : (lock : Data) (level : Severity) (advisories : List AdvisoryValue) (installed : List InstalledValue)
     (found : List FoundValue) → AllByRecursion (λ one. version_in lock one.folder ≡ Some one.version) installed
@@ -274,5 +275,5 @@ module _ (lock : Data) (node : Option VersionValue) (problems : Problems) (is : 
       let whole : Some (object is.members) ≡ Some (object are.members) = sym is.packages ∙ are.packages in
       let same : is.members ≡ are.members = cc whole in
       of_hits lock level advisories installed found
-      (of_installed lock node is.members is.packages are.texts_at are.members installed
+      (of_installed lock node is.members is.packages are.texts_at are.alias_at are.members installed
       (rw (← same) (has_all is.members is.ascending)) are.each) audit

@@ -4,7 +4,7 @@ use crate::answer::Answer;
 use crate::arguments::Arguments;
 use crate::checks::all_found;
 use crate::lists::push_json;
-use npm_lock::{Mismatch, mismatches_of, put_manifest};
+use npm_lock::{Mismatch, drop_overrides, mismatches_of, put_manifest};
 use serde_json::Value;
 use std::alloc::{AllocError, Global};
 
@@ -18,6 +18,7 @@ pub(crate) enum Name {
     Put,
     /// Of an object that has the manifest of each folder.
     PutAndCheck,
+    Drop,
 }
 
 pub(crate) fn named(name: &str) -> Option<(Name, usize)> {
@@ -26,6 +27,7 @@ pub(crate) fn named(name: &str) -> Option<(Name, usize)> {
         "npm_lock::mismatches_of" => (Name::Mismatches, 2),
         "npm_lock::put_manifest" => (Name::Put, 2),
         "npm_lock::put_manifest, and a check" => (Name::PutAndCheck, 2),
+        "npm_lock::drop_overrides" => (Name::Drop, 1),
         _ => return None,
     })
 }
@@ -38,6 +40,7 @@ pub(crate) fn answer(alloc: Global, name: Name, arguments: &Arguments) -> Answer
         Name::Mismatches => mismatches(alloc, lock, manifest, folder),
         Name::Put => answer::json(with_manifest(alloc, lock, manifest, folder)),
         Name::PutAndCheck => checked_with(alloc, lock, manifest),
+        Name::Drop => answer::json(without_overrides(alloc, lock)),
     }
 }
 
@@ -76,6 +79,12 @@ fn with_manifest(
 ) -> Result<Value, AllocError> {
     let mut changed = lock.clone()?;
     put_manifest(alloc, &mut changed, folder, manifest.clone()?)?;
+    Ok(changed)
+}
+
+fn without_overrides(alloc: Global, lock: &Value) -> Result<Value, AllocError> {
+    let mut changed = lock.clone()?;
+    drop_overrides(alloc, &mut changed)?;
     Ok(changed)
 }
 

@@ -4,7 +4,7 @@ use crate::answer::Answer;
 use crate::arguments::Arguments;
 use crate::lists::{text_of_asked, text_of_edges, text_of_names, text_of_texts};
 use npm_packages::{
-    Asked, Dependents, accepted_of, asked_of, check_package, check_specs, edges_of,
+    Aliases, Asked, Dependents, accepted_of, asked_of, check_package, check_specs, edges_of,
     has_text_version, is_optional_peer, linked_folders, lock_of, members_of, overridden, rules_of,
 };
 use serde_json::Value;
@@ -27,6 +27,8 @@ pub(crate) enum Name {
     Edges,
     /// The range texts of the dependents of the package in the folder of the text.
     Dependents,
+    /// Of the package in the folder of the text.
+    Alias,
     LinkedFolders,
 }
 
@@ -43,6 +45,7 @@ pub(crate) fn named(name: &str) -> Option<(Name, usize)> {
         "npm_packages::overridden" => (Name::Overridden, 1),
         "npm_packages::edges_of" => (Name::Edges, 1),
         "Dependents::of_lock" => (Name::Dependents, 2),
+        "Aliases::of_edges" => (Name::Alias, 1),
         "npm_packages::linked_folders" => (Name::LinkedFolders, 1),
         _ => return None,
     })
@@ -65,6 +68,7 @@ pub(crate) fn answer(alloc: Global, name: Name, arguments: &Arguments) -> Answer
         Name::Overridden => changed(alloc, value, arguments),
         Name::Edges => edges(alloc, value),
         Name::Dependents => dependents(alloc, value, text),
+        Name::Alias => alias(alloc, value, text),
         Name::LinkedFolders => folders(alloc, value),
     }
 }
@@ -117,6 +121,16 @@ fn dependents(alloc: Global, lock: &Value, folder: &str) -> Answer {
         Ok(dependents) => match dependents.texts(folder) {
             Some(texts) => answer::list(text_of_texts(alloc, texts)),
             None => Answer::Nothing,
+        },
+        Err(error) => answer::refused(error),
+    }
+}
+
+fn alias(alloc: Global, lock: &Value, folder: &str) -> Answer {
+    match edges_of(alloc, lock) {
+        Ok(edges) => match Aliases::of_edges(alloc, &edges) {
+            Ok(aliases) => answer::text_if_any(alloc, aliases.name(folder)),
+            Err(_) => Answer::OutOfMemory,
         },
         Err(error) => answer::refused(error),
     }

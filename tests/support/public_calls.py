@@ -41,7 +41,8 @@ MAKES = {
         npm_packages::rules_in Problem::to_json Unchecked::to_json""",
     "npm_lock::check_any": "npm_packages::place_text",
     "npm_lock::mismatches_of": "Mismatch::to_json",
-    "npm_advisories::audit_lock": "Dependents::of_sound_lock npm_advisories::audit Found::to_json",
+    "npm_advisories::audit_lock": "npm_packages::edges_in Dependents::of_edges npm_advisories::audit Found::to_json",
+    "Dependents::of_lock": "Dependents::of_sound_lock",
 }
 THROUGH = {name: call for call, names in MAKES.items() for name in names.split()}
 

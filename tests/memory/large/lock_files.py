@@ -165,6 +165,9 @@ def manifest_rows():
         put = {"lockfileVersion": 3, "packages": {"": {**asked("^2", group), **dict.fromkeys(["dev", "link", "optional", "peer"], False)}}}
         lock = {"lockfileVersion": 3, "packages": {"": asked("^1", group)}}
         yield "npm_lock::put_manifest", [text_of(lock), text_of(asked("^2", group)), ""], text_of(put)
+    own = {**asked("^1", "dependencies"), "overrides": dict.fromkeys(NAMES, "2")}
+    dropped = {"lockfileVersion": 3, "packages": {"": {**own, "overrides": None}}}
+    yield "npm_lock::drop_overrides", [text_of({"lockfileVersion": 3, "packages": {"": own}})], text_of(dropped)
     links = {f"node_modules/{name}": {"link": True, "resolved": f"w/{name}"} for name in NAMES}
     folders = {f"w/{name}": {} for name in NAMES}
     yield "npm_packages::linked_folders", [text_of({"packages": {**links, **folders}})], "".join(f"w/{name}\t" for name in NAMES)
@@ -295,6 +298,8 @@ def audit_rows():
     packages = at_root("1.0.0", dependencies={"d": "^1"})
     lock = lock_of({}, {**packages, "node_modules/d": {"version": "1.0.0"}})
     yield "Dependents::of_lock", [text_of(lock), "", "node_modules/d"], "^1\t" * MANY
+    aliased = lock_of({"dependencies": {name: f"npm:r-{name}@1" for name in NAMES}}, at_root("1.0.0"))
+    yield "Aliases::of_edges", [text_of(aliased), f"node_modules/{NAMES[-1]}"], f"r-{NAMES[-1]}"
     found = "".join(f"node_modules/{name}>d ^1 node_modules/d 1.0.0\t" for name in sorted(NAMES))
     yield "npm_packages::edges_of", [text_of(lock)], found
 

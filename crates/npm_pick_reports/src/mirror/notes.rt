@@ -15,7 +15,7 @@ pub fn notes_of(
     let mut notes = Vec::new(alloc);
     for ask in asks {
         if let Some(said) = words_about(*ask) {
-            notes.push(text_of(alloc, &[said, ask.name, " (", ask.spec, ")"])?)?;
+            notes.push(ask_note(alloc, said, ask.name, ask.spec)?)?;
         }
     }
     add_all(alloc, &mut notes, "no document in the folder: ", &mirror.absent)?;
@@ -33,6 +33,16 @@ fn words_about(ask: Ask<'_>) -> Option<&'static str> {
     } else {
         None
     }
+}
+
+/// The note about a dependency.
+fn ask_note<'n>(
+    alloc: Global,
+    said: &'n str,
+    name: &'n str,
+    spec: &'n str,
+) -> Result<String, AllocError> {
+    text_of(alloc, &[said, name, " (", spec, ")"])
 }
 
 /// Adds a note about each of these texts.

@@ -17,8 +17,9 @@ With --outdated it writes a line for each dependency of the root that is outdate
 that are installed, wanted and the latest, as npm outdated does. MISSING stands for what is not installed.
 
 With --keep it writes the versions that a mirror keeps for package.json files and a lock file, a line NAME@VERSION each,
-in the order of the names and then of the versions: for each spec the version that npm would install. A spec that no
-version fits adds none. The specs of a name count together, and an alias counts for the package that it names.
+in the order of the names and then of the versions: for each spec the version that npm would install, and always what
+is installed, so that npm ci finds it. A spec that no version fits adds none. The specs of a name count together, and
+an alias counts for the package that it names.
 
 Options, of which the value may also be in the same word, as in --node=20:
   --packument FILE   The document of the package, as a registry serves it. If FILE is -, standard input is read.
@@ -34,7 +35,8 @@ Options, of which the value may also be in the same word, as in --node=20:
                      Example: npm_pick --packuments mirror --manifest package.json --keep
   --outdated         Compare the lock file with the documents.
                      Example: npm_pick --packuments mirror --lock package-lock.json --outdated
-  --keep             List what a mirror keeps for the manifests, and for all packages of the lock file.
+  --keep             List what a mirror keeps for the manifests, and for all packages of the lock file, with what is
+                     installed.
                      Example: npm_pick --packuments mirror --manifest package.json --lock package-lock.json --keep
   --all              With --outdated: the dependencies of all packages, and not only of the root. With --keep: each
                      version that a spec admits, and not only the one that npm would install.
@@ -64,8 +66,9 @@ Options, of which the value may also be in the same word, as in --node=20:
   -V, --version      Write the version of this program.
                      Example: npm_pick --version
 
-The exit status is 0 if a version is picked, nothing is outdated or each package to keep has a document, 1 if none is
-picked, something is outdated or a package to keep has no document, and 2 if nothing was asked: an argument is wrong,
-or a file is not read. A line on standard error says why nothing is picked or asked, and how many dependencies have no
-document. With --keep a line says so of each package without a document, and of each dependency that asks no registry.
+The exit status is 0 if a version is picked, nothing is outdated or each package to keep has a document with what is
+installed of it, 1 if none is picked, something is outdated or such a document or version is not there, and 2 if nothing
+was asked: an argument is wrong, or a file is not read. A line on standard error says why nothing is picked or asked,
+and how many dependencies have no document. With --keep a line says so of each package without a document, of each
+installed version that is not in one, and of each dependency that asks no registry.
 ";

@@ -2,8 +2,9 @@
 //! `--outdated` the dependencies of a lock file that are outdated: npm's `npm outdated`. With `--keep` the versions that a mirror
 //! keeps.
 //!
-//! The exit status is 0 if a version is picked, nothing is outdated or each package has a document, 1 if none is picked, something
-//! is outdated or a package that a mirror keeps has no document, and 2 after an error: a wrong argument, or a file that is not read.
+//! The exit status is 0 if a version is picked, nothing is outdated or each package has a document with all its installed versions, 1
+//! if none is picked, something is outdated or a mirror has no document of a package or lacks an installed version, and 2 after an
+//! error: a wrong argument, or a file that is not read.
 //! A line on standard error says why no version is picked, and what the error is.
 #![tactic(auto)]
 
@@ -23,7 +24,7 @@ use command_lines::{Quoted, Shown, words_of};
 use help::{HELP, VERSION};
 use npm_pick::Options;
 use npm_pick_reports::{
-    Done, Ending, Question, RunError, checked_manifest, packument_in, run, value_at, values_of,
+    Ending, Question, RunError, checked_manifest, packument_in, reply_to, value_at, values_of,
 };
 use picking::Values;
 use program_error::ProgramError;
@@ -33,6 +34,13 @@ use std::io;
 use std::io::Write;
 use std::process::ExitCode;
 use task::{Task, task_of};
+
+/// How the program ends, and the lines of the notes.
+#[derive(Drop)]
+struct Done {
+    ending: Ending,
+    notes: Vec<u8>,
+}
 
 /// Ends with the status of `status_of`.
 fn main(rt: HostRuntime) -> ExitCode {
@@ -136,15 +144,16 @@ fn write_reply<'a>(
     folder: &str,
 ) -> Result<Done, ProgramError<'a>> {
     let load = |name: &str| packument_in(rt, folder, name);
-    let done = run(
-        rt.alloc(),
-        question,
-        options,
-        asked.format,
-        load,
-        &mut rt.stdout(),
-    )?;
-    Ok(done)
+    let reply = reply_to(rt.alloc(), question, options, load)?;
+    let lines = reply.lines(rt.alloc(), asked.format)?;
+    let notes = reply.notes(rt.alloc())?;
+    match rt.stdout().write_all(lines.as_slice()) {
+        Ok(()) => Ok(Done {
+            ending: reply.ending(),
+            notes,
+        }),
+        Err(_) => Err(ProgramError::Run(RunError::Write)),
+    }
 }
 
 /// Reads the manifests that the words name.
@@ -178,9 +187,9 @@ fn file_value<'a>(
     }
 }
 
-/// Returns the exit status: 0 if a version is picked, nothing is outdated, each package that a mirror keeps has a document or a text
-/// was shown; 1 if no version is picked, something is outdated or such a package has no document; and 2 after an error, or if the
-/// lines on standard error were not written.
+/// Returns the exit status: 0 if a version is picked, nothing is outdated, each package that a mirror keeps has a document with all its
+/// installed versions or a text was shown; 1 if no version is picked, something is outdated or such a document or version is not
+/// there; and 2 after an error, or if the lines on standard error were not written.
 fn status_of(outcome: &Result<Option<Ending>, ProgramError<'_>>, is_said: bool) -> u8
     ensures shown { outcome.now ≡ Ok None → is_said ≡ true → result ≡ 0 }
     ensures ended { (ending : Ending) → outcome.now ≡ Ok (Some ending) → is_said ≡ true

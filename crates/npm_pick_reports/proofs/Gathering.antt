@@ -17,6 +17,22 @@ module _ {A X : Type 0} (seen : A → X) (items : List A) where
   seen_more i item small here =
       seen_at i item small ∙ ap (λ x. map seen (take i items) ++ (seen x ∷ [])) (sym here)
 
+  -- the value of an item more behind a list
+  pub pushed_at : (start old new : List X) (i : ℕ) (none : A) → i < length items
+      → new ≡ old ++ (seen (get_or items i none) ∷ []) → old ≡ start ++ map seen (take i items)
+      → new ≡ start ++ map seen (take (i + 1) items)
+  pushed_at start old new i none small is held =
+      let one = seen (get_or items i none) ∷ [] in
+      is ∙ ap (λ l. l ++ one) held ∙ append_assoc start (map seen (take i items)) one
+      ∙ ap (λ l. start ++ l) (sym (seen_at i none small))
+
+  -- the same where the item has a name
+  pub pushed_more : (start old new : List X) (i : ℕ) (item : A) → i < length items → item ≡ get_or items i item
+      → new ≡ old ++ (seen item ∷ []) → old ≡ start ++ map seen (take i items)
+      → new ≡ start ++ map seen (take (i + 1) items)
+  pushed_more start old new i item small here is held =
+      pushed_at start old new i item small (is ∙ ap (λ x. old ++ (seen x ∷ [])) here) held
+
   module _ {Y : Type 0} (made : X → List Y) (start : List Y) where
     -- an item more makes this more
     pub made_at : (i : ℕ) (none : A) (old new : List Y) → i < length items

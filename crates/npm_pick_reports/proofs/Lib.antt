@@ -1,7 +1,9 @@
 pub mod Outcomes
 pub mod TextOrder
+pub mod KeyOrder
 pub mod Gathering
 pub mod Grouping
 pub mod Mirrors
+pub mod Elsewhere
 pub mod Replies
 pub mod Examples

@@ -1,27 +1,22 @@
 -- Packages of a mirror, and dependencies of a lock file, one after another.
-use Rattle.std.proofs.Common.{◌≡◌, ◌∙◌, ◌↔◌, Bor, Err, Global, IfErr, IsErrAnd, IsTrue, String, arith, None, Ok, OnOk, Option, Result, Some, false, not, true, ℕ, ◌+◌, ◌<◌, List, [], ◌∷◌, ◌++◌, Bool, ap, append-nil, codes, drop, get_or, length, map, option_map, refl, string_bytes, subst, sym}
-use Rattle.std.specs.Prelude.{is_some}
+use Rattle.std.proofs.Common.{◌≡◌, ◌∙◌, ◌↔◌, Bor, Err, Global, IfErr, IsErrAnd, IsTrue, String, arith, None, Ok, OnOk, Result, Some, false, not, true, ℕ, ◌+◌, ◌<◌, List, [], ◌∷◌, ◌++◌, Bool, ap, append-nil, drop, get_or, length, map, refl, string_bytes, subst, sym}
+use Rattle.std.specs.Prelude.{cond, filter}
 use Rattle.std.proofs.lemmas.List.{drop_more, get_or-map, length-map, map-append}
 use Rattle.std.proofs.lemmas.List.Concat.{flat_map-append}
 use Rattle.std.proofs.lemmas.List.Elements.{All-push, Contains-get_or}
 use Rattle.std.specs.List.{Contains, flat_map}
-use Rattle.serde_json.specs.Data.{Data, array, string}
-use Rattle.serde_json.specs.View.{items_of, view}
+use Rattle.serde_json.specs.Data.{Data}
+use Rattle.serde_json.specs.View.{view}
 use Rattle.serde_json.specs.declared.value.Value.{Value}
-use Rattle.serde_json.specs.Written.{compact_text, has_float, items_have_float}
 use Rattle.npm_packages.specs.Edges.{edge_value}
 use Rattle.npm_packages.specs.declared.edges.Edge.{Edge}
-use Rattle.npm_pick.specs.Kept.{IsKept}
 use Rattle.npm_pick.specs.declared.options.Options.{Options}
-use Rattle.npm_texts.specs.RegistrySpec.{RegistrySpecValue, registry_spec, registry_spec_value}
-use Rattle.npm_texts.specs.declared.registry.RegistrySpec.{RegistrySpec}
+use Rattle.npm_texts.specs.RegistrySpec.{RegistrySpecValue}
 use Rattle.npm_pick_reports.specs.Asks.{AreAsksOfEdge, AreAsksOfEdges, AskValue, ask_value}
 use Rattle.npm_pick_reports.specs.Loading.{IsLoadFailure, Loads}
-use Rattle.npm_pick_reports.specs.Mirror.{AreTextsOf, IsNeededFor, kept_text, IsPackage, PackageValue, absent, absent_of, kept, kept_of}
-use Rattle.npm_pick_reports.specs.Mirror.{names_of, texts_for}
-use Rattle.npm_pick_reports.specs.MirrorLines.{list_text}
-use Rattle.npm_pick_reports.specs.Notes.{ask_note, ask_notes}
-use Rattle.npm_pick_reports.specs.Private.Mirroring.{AreBothAdded, AreKeptIn, IsAdded, IsAddedFor}
+use Rattle.npm_pick_reports.specs.Mirror.{AreTextsOf, IsNeededFor, IsPackage, PackageValue, absent, absent_of, has_version}
+use Rattle.npm_pick_reports.specs.Mirror.{kept_of, kept_text, known, lacking_of, texts_for, texts_with}
+use Rattle.npm_pick_reports.specs.Private.Mirroring.{AreKeptIn, IsAdded, IsAddedFor, IsKnownAdded, IsUnknownAdded, lacking_in}
 use Rattle.npm_pick_reports.specs.declared.mirror.asks.Ask.{Ask}
 use Rattle.npm_pick_reports.specs.declared.mirror.Mirror.{Mirror}
 use Rattle.npm_pick_reports.specs.declared.run_error.RunError.{RunError}
@@ -34,53 +29,76 @@ flat_more made xs x old new is held = is ∙ ap (λ l. l ++ made x) held
     ∙ ap (λ l. flat_map made xs ++ l) (sym (append-nil (made x))) ∙ sym (flat_map-append made xs (x ∷ []))
 
 -- the name of a package is the one that it was found for
-package_name : (Gives : Loads) (options : Options) (all : Bool) (requests : List RegistrySpecValue) (name : List ℕ)
-    (one : PackageValue) → IsPackage Gives options all requests name one → one.name ≡ name
-package_name Gives options all requests name one (absent gives) = refl
-package_name Gives options all requests name one (kept packument texts keys gives are is) = refl
+package_name : (Gives : Loads) (options : Options) (all : Bool) (requests installed : List RegistrySpecValue)
+    (name : List ℕ) (one : PackageValue) → IsPackage Gives options all requests installed name one → one.name ≡ name
+package_name Gives options all requests installed name one (absent versions keys gives found are) = refl
+package_name Gives options all requests installed name one (known packument texts picked versions keys gives asked is found are) = refl
 
-module _ (Gives : Loads) (options : Options) (all : Bool) (requests : List RegistrySpecValue) where
+module _ (Gives : Loads) (options : Options) (all : Bool) (requests installed : List RegistrySpecValue) where
   -- one package more
   pub kept_more : (names : List (List ℕ)) (name : List ℕ) (old new : Mirror)
-      → IsAdded Gives options all requests name old new → AreKeptIn Gives options all requests names old
-      → AreKeptIn Gives options all requests (names ++ (name ∷ [])) new
-  kept_more names name old new added held =
-      let same = package_name Gives options all requests name added.one added.is in
-      let found : IsPackage Gives options all requests added.one.name added.one =
-      subst (λ (n : List ℕ). IsPackage Gives options all requests n added.one) (sym same) added.is in
+      → IsAdded Gives options all requests installed name old new
+      → AreKeptIn Gives options all requests installed names old
+      → AreKeptIn Gives options all requests installed (names ++ (name ∷ [])) new
+  kept_more names name old new more held =
+      let same = package_name Gives options all requests installed name more.one more.is in
+      let found : IsPackage Gives options all requests installed more.one.name more.one =
+      subst (λ (n : List ℕ). IsPackage Gives options all requests installed n more.one) (sym same) more.is in
       record {
-        packages = held.packages ++ (added.one ∷ []);
-        named = map-append (λ (one : PackageValue). one.name) held.packages (added.one ∷ [])
-            ∙ ap (λ l. l ++ (added.one.name ∷ [])) held.named ∙ ap (λ n. names ++ (n ∷ [])) same;
-        found = All-push (λ (one : PackageValue). IsPackage Gives options all requests one.name one)
-            held.packages added.one held.found found;
-        versions = flat_more kept_of held.packages added.one _ _ added.both.versions held.versions;
-        missing = flat_more absent_of held.packages added.one _ _ added.both.missing held.missing;
+        packages = held.packages ++ (more.one ∷ []);
+        named = map-append (λ (one : PackageValue). one.name) held.packages (more.one ∷ [])
+            ∙ ap (λ l. l ++ (more.one.name ∷ [])) held.named ∙ ap (λ n. names ++ (n ∷ [])) same;
+        found = All-push (λ (one : PackageValue). IsPackage Gives options all requests installed one.name one)
+            held.packages more.one held.found found;
+        versions = flat_more kept_of held.packages more.one _ _ more.added.versions held.versions;
+        missing = flat_more absent_of held.packages more.one _ _ more.added.missing held.missing;
+        incomplete = flat_more lacking_of held.packages more.one _ _ more.added.incomplete held.incomplete;
       }
 
-module _ (Gives : Loads) (options : Options) (all : Bool) (name : List ℕ) (texts : List (List ℕ)) (old new : Mirror) where
-  -- the versions of a document are kept
-  pub kept_added : (packument : Value) (result : Result (Unit {0}) RunError) → Gives name (Ok (Some packument))
-      → OnOk result ((keys : List (List ℕ)) × IsKept (view packument) options all texts keys
-      × AreBothAdded old new (map (λ key. kept_text name key) keys) [])
-      → OnOk result (IsAddedFor Gives options all name texts old new)
-  kept_added packument (Err error) gives is = tt
-  kept_added packument (Ok x) gives is = λ requests are. record {
-    one = record { name = name; keys = Some is.0 };
-    is = kept packument texts is.0 gives are is.1;
-    both = is.2;
+module _ (Gives : Loads) (options : Options) (all : Bool) (name : List ℕ) (texts versions : List (List ℕ))
+    (old new : Mirror) where
+  -- a package with a document
+  pub known_added : (packument : Value) (result : Result (Unit {0}) RunError) → Gives name (Ok (Some packument))
+      → OnOk result (IsKnownAdded (view packument) options all name texts versions old new)
+      → OnOk result (IsAddedFor Gives options all name texts versions old new)
+  known_added packument (Err error) gives is = tt
+  known_added packument (Ok x) gives is = λ requests installed asked found. record {
+    one = record {
+      name = name;
+      keys = is.keys;
+      lacking = filter (λ key. not (has_version (view packument) key)) versions;
+      is_absent = false;
+    };
+    is = known packument texts is.picked versions is.keys gives asked is.kept found is.are;
+    added = is.added;
   }
 
-  -- a package without a document
-  pub absent_added : (result : Result (Unit {0}) RunError) → Gives name (Ok None)
-      → OnOk result (AreBothAdded old new [] (name ∷ []))
-      → OnOk result (IsAddedFor Gives options all name texts old new)
-  absent_added (Err error) gives is = tt
-  absent_added (Ok x) gives is = λ requests are. record {
-    one = record { name = name; keys = None };
-    is = absent gives;
-    both = is;
+  -- a package without one
+  pub unknown_added : (result : Result (Unit {0}) RunError) → Gives name (Ok None)
+      → OnOk result (IsUnknownAdded name versions old new)
+      → OnOk result (IsAddedFor Gives options all name texts versions old new)
+  unknown_added (Err error) gives is = tt
+  unknown_added (Ok x) gives is = λ requests installed asked found. record {
+    one = record { name = name; keys = is.keys; lacking = []; is_absent = true };
+    is = absent versions is.keys gives found is.are;
+    added = is.added;
   }
+
+-- one installed version more, if it is one that the document lacks
+lacking_more : (name version : List ℕ) (keys : List (List ℕ)) (has : Bool)
+    → cond has [] (kept_text name version ∷ []) ++ texts_with name keys
+    ≡ texts_with name (cond (not has) (version ∷ keys) keys)
+lacking_more name version keys true = refl
+lacking_more name version keys false = refl
+
+-- the installed versions that a document lacks, one after another
+pub all_lacking : (packument : Data) (name : List ℕ) (versions : List (List ℕ))
+    → flat_map (lacking_in packument name) versions
+    ≡ texts_with name (filter (λ key. not (has_version packument key)) versions)
+all_lacking packument name [] = refl
+all_lacking packument name (version ∷ versions) =
+    ap (λ rest. lacking_in packument name version ++ rest) (all_lacking packument name versions)
+    ∙ lacking_more name version (filter (λ key. not (has_version packument key)) versions) (has_version packument version)
 
 -- ---- dependencies of a lock file
 
@@ -116,23 +134,6 @@ pub texts_asked : (requests : List RegistrySpecValue) (name : List ℕ) (came te
     → AreTextsOf requests name texts
 texts_asked requests name came texts is same = texts_like came (texts_for name requests) texts is same
 
--- the note about a dependency that is not from a registry
-pub refused_notes : (ask : AskValue) (request : Option RegistrySpec) (none : Bool) → ask.is_overridden ≡ false
-    → option_map registry_spec_value request ≡ registry_spec ask.name ask.spec → is_some request ≡ not none
-    → none ≡ true → ask_notes ask ≡ ask_note (codes "not from a registry: ") ask ∷ []
-refused_notes ask None none read same is holds = rw (read, ← same) refl
-refused_notes ask (Some request) none read same is holds = let no : true ≡ false = rw holds at is in cc no
-
--- ---- JSON
-
-no_floats : (texts : List (List ℕ)) → items_have_float (items_of (map string texts)) ≡ false
-no_floats [] = refl
-no_floats (text ∷ texts) = no_floats texts
-
-pub json_text : (text : List ℕ) (value : Data) (texts : List (List ℕ)) → value ≡ array (items_of (map string texts))
-    → (has_float value ≡ false → text ≡ compact_text value) → text ≡ list_text texts
-json_text text value texts is compact = (rw is at compact) (no_floats texts)
-
 -- ---- keys that are borrowed
 
 keys-seen : (name : List ℕ) (keys : List (Bor (List ℕ))) → map (λ key. kept_text name key.now) keys
@@ -154,18 +155,18 @@ passed_on (Ok x) P Q is then = tt
 passed_on (Err error) P Q is then = then error is
 
 -- a document that was needed for the package of a name is needed for the requests
-pub needed_for_name : (Gives : Loads) (requests : List RegistrySpecValue) (names : List (String Global)) (i : ℕ)
+pub needed_for_name : (Gives : Loads) (requests installed : List RegistrySpecValue) (names : List (String Global)) (i : ℕ)
     (item : String Global) (error : RunError) → i < length names → item ≡ get_or names i item
-    → ((name : List ℕ) → Contains (map string_bytes names) name ↔ Contains (names_of requests) name)
+    → ((name : List ℕ) → Contains (map string_bytes names) name ↔ IsNeededFor requests installed name)
     → IsLoadFailure (λ needed. needed ≡ string_bytes item) Gives error
-    → IsLoadFailure (IsNeededFor requests) Gives error
-needed_for_name Gives requests names i item RunErrors.Memory small here exact is = tt
-needed_for_name Gives requests names i item RunErrors.Write small here exact is = is
-needed_for_name Gives requests names i item (RunErrors.NoLock fault) small here exact is = is
-needed_for_name Gives requests names i item (RunErrors.Load error) small here exact is =
+    → IsLoadFailure (IsNeededFor requests installed) Gives error
+needed_for_name Gives requests installed names i item RunErrors.Memory small here exact is = tt
+needed_for_name Gives requests installed names i item RunErrors.Write small here exact is = is
+needed_for_name Gives requests installed names i item (RunErrors.NoLock fault) small here exact is = is
+needed_for_name Gives requests installed names i item (RunErrors.Load error) small here exact is =
     let long = length-map names string_bytes in
     let inside : i < length (map string_bytes names) = omega (arith, long, small) in
     let there : Contains (map string_bytes names) (string_bytes item) =
     subst (Contains (map string_bytes names)) (get_or-map string_bytes names i item (string_bytes item) small ∙ ap string_bytes (sym here))
     (Contains-get_or (map string_bytes names) i (string_bytes item) inside) in
-    (is.0, subst (Contains (names_of requests)) (sym is.1) ((exact (string_bytes item)).0 there), is.2)
+    (is.0, subst (IsNeededFor requests installed) (sym is.1) ((exact (string_bytes item)).0 there), is.2)

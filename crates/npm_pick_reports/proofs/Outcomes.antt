@@ -1,6 +1,6 @@
--- What is found out about dependencies, one after the other, and their lines.
+-- What is found out about dependencies, one after the other.
 use Rattle.std.proofs.Common.{◌≡◌, ◌∙◌, ℕ, ◌+◌, ◌<◌, List, [], ◌∷◌, ◌++◌, Bool, arith, false, append_assoc, subst}
-use Rattle.std.proofs.Common.{Err, Global, IfOk, Ok, OnOk, Result, Some, String, ap, append-nil}
+use Rattle.std.proofs.Common.{Err, Global, IfOk, Ok, Result, Some, String, ap, append-nil}
 use Rattle.std.proofs.Common.{codes, drop, get_or, length, map, string_bytes, sym}
 use Rattle.std.proofs.lemmas.List.{drop_all, drop_more, get_or-map, length-map, map-append}
 use Rattle.std.proofs.lemmas.List.Elements.{Contains-get_or}
@@ -18,8 +18,6 @@ use Rattle.npm_pick_reports.specs.declared.run_error.RunError.TheVariants as Run
 use Rattle.npm_pick_reports.specs.Outdated.{IsNeededFor, IsNeededForOne, IsOutcome, IsOutcomeOf, IsPickedAs, OutcomeValue}
 use Rattle.npm_pick_reports.specs.Outdated.{behind, is_current}
 use Rattle.npm_pick_reports.specs.Outdated.{is_passed, known, outcome_value, outdated}
-use Rattle.npm_pick_reports.specs.OutdatedLines.{outcome_line, outcome_lines}
-use Rattle.npm_pick_reports.specs.declared.format.Format.{Format}
 use Rattle.npm_pick_reports.specs.declared.outdated.Outcome.{Outcome}
 use Rattle.npm_pick_reports.specs.declared.run_error.RunError.{RunError}
 
@@ -70,34 +68,6 @@ needed_for_one Gives all edges i none (RunErrors.Load error) small is =
     subst (Contains (map edge_value edges)) (get_or-map edge_value edges i none (edge_value none) small)
     (Contains-get_or (map edge_value edges) i (edge_value none) inside) in
     (is.0, (edge_value (get_or edges i none), there, is.1), is.2)
-
--- ---- lines
-
-pub line_more : (format : Format) (outcomes : List Outcome) (i : ℕ) (outcome : Outcome) (done more whole : List ℕ)
-    → i < length outcomes → outcome ≡ get_or outcomes i outcome
-    → more ≡ done ++ outcome_line format (outcome_value outcome)
-    → done ++ outcome_lines format (map outcome_value (drop i outcomes)) ≡ whole
-    → more ++ outcome_lines format (map outcome_value (drop (i + 1) outcomes)) ≡ whole
-line_more format outcomes i outcome done more whole small here is held =
-    let rest = outcome_lines format (map outcome_value (drop (i + 1) outcomes)) in
-    ap (λ text. text ++ rest) is ∙ append_assoc done (outcome_line format (outcome_value outcome)) rest
-    ∙ ap (λ left. done ++ outcome_lines format (map outcome_value left))
-    (sym (cut outcomes i outcome outcome small here)) ∙ held
-
-pub lines_all : (format : Format) (outcomes : List Outcome) (i : ℕ) (done whole : List ℕ) → length outcomes ≤ i
-    → done ++ outcome_lines format (map outcome_value (drop i outcomes)) ≡ whole → done ≡ whole
-lines_all format outcomes i done whole past held =
-    sym (append-nil done)
-    ∙ ap (λ left. done ++ outcome_lines format (map outcome_value left)) (sym (drop_all i outcomes past)) ∙ held
-
--- texts and spaces, one after the other
-pub words_pushed : {T E : Type 0} (result : Result T E) (a b c d e f g h space name installed wanted latest : List ℕ)
-    → b ≡ a ++ name → c ≡ b ++ space → d ≡ c ++ installed → e ≡ d ++ space → f ≡ e ++ wanted → g ≡ f ++ space
-    → OnOk result (h ≡ g ++ latest) → OnOk result
-    (h ≡ a ++ (name ++ (space ++ (installed ++ (space ++ (wanted ++ (space ++ latest)))))))
-words_pushed (Ok x) a b c d e f g h space name installed wanted latest one two three four five six last =
-    rw (last, six, five, four, three, two, one) (simp append_assoc)
-words_pushed (Err x) a b c d e f g h space name installed wanted latest one two three four five six last = tt
 
 -- ---- the outcome by a document
 

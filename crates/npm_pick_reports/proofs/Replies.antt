@@ -1,6 +1,5 @@
 -- Replies, and their counts.
-use Rattle.std.proofs.Common.{◌≡◌, ◌≢◌, ◌∙◌, ◌==◌, ◌+◌, ℕ, List, [], ◌∷◌, Bool, Global, Ok, Err, String, ap, length, map, refl, string_bytes, sym}
-use Rattle.std.proofs.lemmas.List.{length-map}
+use Rattle.std.proofs.Common.{◌≡◌, ◌≢◌, ◌∙◌, ◌+◌, ℕ, List, [], ◌∷◌, Bool, Ok, Err, map, refl, sym}
 use Rattle.std.specs.List.{fold, list_any}
 use Rattle.std.specs.Prelude.{cond, count_by}
 use Rattle.npm_pick.specs.Lemmas.Answers.{is_picked, is_unpicked}
@@ -8,16 +7,13 @@ use Rattle.npm_pick.specs.Pick.{IsAnswer, IsPicked, PickedValue}
 use Rattle.npm_pick.specs.declared.options.Options.{Options}
 use Rattle.npm_pick.specs.declared.error.PickError.{PickError}
 use Rattle.npm_pick.specs.declared.error.PickError.TheVariants as Errors
-use Rattle.npm_pick_reports.specs.declared.format.Format.{Format}
 use Rattle.npm_pick_reports.specs.Outdated.{is_absent, is_outdated, outcome_value}
 use Rattle.npm_pick_reports.specs.declared.outdated.Outcome.{Outcome}
 use Rattle.npm_texts.specs.RangeText.{filled}
 use Rattle.serde_json.specs.Data.{Data}
-use Rattle.npm_pick_reports.specs.PickedLine.{picked_line}
 use Rattle.npm_pick_reports.specs.Reply as Replies
 use Rattle.npm_pick_reports.specs.Reply.{IsPickedReply}
-use Rattle.npm_pick_reports.specs.declared.reply.Ending.{Ending}
-use Rattle.npm_pick_reports.specs.declared.reply.Ending.TheVariants.{Compared, Kept, Nothing, Picked}
+use Rattle.npm_pick_reports.specs.declared.reply.Ending.TheVariants.{Compared}
 
 -- ---- counts
 
@@ -47,25 +43,16 @@ compared_ending outcomes is_behind absent any count =
     count ∙ sym (count-map is_absent outcome_value outcomes) in
     rw (behind_too, absent_too) refl
 
-pub none_absent : (items : List (String Global)) (is_empty : Bool) → is_empty ≡ (length items == 0)
-    → Kept is_empty ≡ Kept (length (map string_bytes items) == 0)
-none_absent items is_empty is = rw (length-map items string_bytes) (ap Kept is)
-
 -- ---- the version that is picked
 
-module _ (packument : Data) (options : Options) (wanted : List ℕ) (format : Format) where
-  -- the line of the version that is picked
-  pub picked_reply : (version : PickedValue) (lines notes : List ℕ) (ending : Ending)
-      → IsAnswer (IsPicked packument options (filled wanted)) (Ok version) → lines ≡ picked_line format version
-      → notes ≡ [] → ending ≡ Picked
-      → IsPickedReply packument options wanted format (record { lines = lines; notes = notes; ending = ending })
-  picked_reply version lines notes ending answer same none is =
-      rw (same, none, is) (Replies.picked version (is_picked (IsPicked packument options (filled wanted)) version answer))
+module _ (packument : Data) (options : Options) (wanted : List ℕ) where
+  pub some_reply : (version : PickedValue) → IsAnswer (IsPicked packument options (filled wanted)) (Ok version)
+      → IsPickedReply packument options wanted (Replies.picked version)
+  some_reply version answer =
+      Replies.some version (is_picked (IsPicked packument options (filled wanted)) version answer)
 
-  -- nothing, and the reason
-  pub nothing_reply : (error : PickError) (lines notes : List ℕ) (ending : Ending) → error ≢ Errors.Memory
-      → IsAnswer (IsPicked packument options (filled wanted)) (Err error) → lines ≡ [] → notes ≡ []
-      → ending ≡ Nothing error
-      → IsPickedReply packument options wanted format (record { lines = lines; notes = notes; ending = ending })
-  nothing_reply error lines notes ending other answer same none is =
-      rw (same, none, is) (Replies.nothing error (is_unpicked (IsPicked packument options (filled wanted)) error other answer))
+  pub nothing_reply : (error : PickError) → error ≢ Errors.Memory
+      → IsAnswer (IsPicked packument options (filled wanted)) (Err error)
+      → IsPickedReply packument options wanted (Replies.nothing error)
+  nothing_reply error other answer =
+      Replies.none error (is_unpicked (IsPicked packument options (filled wanted)) error other answer)

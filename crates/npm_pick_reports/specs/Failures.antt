@@ -7,7 +7,9 @@ use Rattle.npm_pick_reports.specs.Loading.{IsLoadFailure, Loads}
 use Rattle.npm_pick_reports.specs.LockFailures.{IsLockFailure}
 use Rattle.npm_pick_reports.specs.declared.run_error.RunError.{RunError}
 use Rattle.npm_pick_reports.specs.declared.run_error.RunError.TheVariants.{Memory}
+use Rattle.npm_texts.specs.RegistrySpec.{RegistrySpecValue}
 use Rattle.npm_pick_reports.specs.Asks.{AreAsks, AskValue}
+use Rattle.npm_pick_reports.specs.Installed.{AreInstalledIfAny}
 use Rattle.npm_pick_reports.specs.Mirror.{IsNeededFor, requests_of}
 use Rattle.npm_pick_reports.specs.Outdated.{IsNeededForOne}
 use Rattle.npm_pick_reports.specs.declared.reply.Question.{Question}
@@ -18,10 +20,12 @@ abbrev pub IsComparedFailure : Loads → (lock : Data) → (all : Bool) → RunE
 IsComparedFailure Gives lock all error = (edges : List EdgeValue) × AreLockEdges lock edges
     × IsLoadFailure (IsNeededForOne all edges) Gives error
 
--- the document of a package was not loaded that a dependency of these manifests or of this lock file asks for
+-- the document of a package was not loaded that a dependency of these manifests or of this lock file asks for, or of which
+-- a version is installed
 abbrev pub IsKeptFailure : Loads → (manifests : List Data) → (lock : Option Data) → RunError → Type 0
-IsKeptFailure Gives manifests lock error = (asks : List AskValue) × AreAsks manifests lock asks
-    × IsLoadFailure (IsNeededFor (requests_of asks)) Gives error
+IsKeptFailure Gives manifests lock error = (asks : List AskValue) × (installed : List RegistrySpecValue)
+    × AreAsks manifests lock asks × AreInstalledIfAny lock installed
+    × IsLoadFailure (IsNeededFor (requests_of asks) installed) Gives error
 
 -- an allocation failed; or, if the question has a lock file, that has a fault; or, if it needs documents of packages,
 -- one of those was not loaded

@@ -5,19 +5,19 @@
 //!   its value is a manifest.
 //! - [`values_of`] lists all values of an option. [`time_given`] and [`version_given`] read a time and a version.
 //!
-//! [`run`] writes the lines of the reply to a [`Question`], in a [`Format`], and returns how the program ends. [`RunError`] says why
+//! [`reply_to`] returns the [`Reply`] to a [`Question`], with its lines in a [`Format`] and how the program ends. [`RunError`] says why
 //! there is no reply, and [`LoadError`] why the document of a package is not read.
 #![tactic(auto)]
 
 mod format;
 mod given;
 mod json_file;
+mod lines;
 mod load_error;
 mod manifest;
 mod mirror;
 mod outdated;
 mod packument_file;
-mod picked_line;
 mod reply;
 mod run_error;
 mod values;
@@ -28,6 +28,6 @@ pub use json_file::value_at;
 pub use load_error::{LoadError, PackageName};
 pub use manifest::checked_manifest;
 pub use packument_file::packument_in;
-pub use reply::{Done, Ending, Question, run};
+pub use reply::{Ending, Question, Reply, reply_to};
 pub use run_error::RunError;
 pub use values::values_of;

@@ -8,8 +8,6 @@ ghost use Rattle.npm_pick_reports.specs.Outdated as Rows;
 ghost use Rattle.npm_pick_reports.specs.Outdated.{IsNeededFor, IsNeededForOne, IsOutcome, IsOutcomeOf, IsPickedAs, outcome_value};
 ghost use Rattle.npm_pick_reports.specs.Loading.{IsLoadFailure};
 
-pub mod lines;
-
 use crate::load_error::LoadError;
 use crate::run_error::RunError;
 use npm_packages::Edge;

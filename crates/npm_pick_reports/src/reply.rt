@@ -1,31 +1,27 @@
 //! The reply to a question, and how the program ends.
-ghost use Rattle.std.specs.Prelude.{◌≡◌, ◌≢◌, ◌⊎◌, List, [], ℕ, IfErr, IfOk, Some, count_by, map, option_map};
+ghost use Rattle.std.specs.Prelude.{◌≡◌, ◌⊎◌, ◌==◌, ◌&&◌, IfErr, IfOk, Some, count_by, length, map, option_map};
 ghost use Rattle.std.specs.Fn.{FnReturnsAt};
-ghost use Rattle.std.specs.Io.KnownBytes.{Appends};
 ghost use Rattle.std.specs.List.{list_any};
 ghost use Rattle.serde_json.specs.View.{view};
 ghost use Rattle.npm_pick_reports.specs.LockFailures.{IsLockFailure};
 ghost use Rattle.npm_pick_reports.specs.Outdated as Rows;
 ghost use Rattle.npm_pick_reports.specs.Outdated.{outcome_value};
 ghost use Rattle.npm_pick_reports.specs.Failures.{IsComparedFailure, IsFailure, IsKeptFailure};
-ghost use Rattle.npm_pick_reports.specs.Reply.{IsComparedReply, IsKeptReply, IsPickedReply, IsReply, done_value, reply_value};
+ghost use Rattle.npm_pick_reports.specs.Reply.{IsComparedReply, IsKeptReply, IsPickedReply, IsReply, ending_of, reply_value};
 
 use crate::format::Format;
+use crate::lines::{push_kept, push_lines, push_outcomes, push_picked};
 use crate::load_error::LoadError;
-use crate::mirror::asks::asks_of;
-use crate::mirror::lines::{mirror_lines, note_lines};
-use crate::mirror::mirror_of;
+use crate::mirror::asks::asked_of;
 use crate::mirror::notes::notes_of;
 use crate::mirror::requests::requests_of;
-use crate::outdated::lines::outdated_lines;
+use crate::mirror::{Mirror, mirror_of};
 use crate::outdated::{Outcome, outcomes_of};
-use crate::picked_line::picked_line;
 use crate::run_error::RunError;
 use npm_packages::{CheckError, edges_of};
-use npm_pick::{Options, PickError, pick};
+use npm_pick::{Options, PickError, Picked, pick};
 use serde_json::Value;
-use std::alloc::Global;
-use std::io::Write;
+use std::alloc::{AllocError, Global};
 
 /// A question about a package, a lock file or a mirror.
 #[derive(Clone, Copy)]
@@ -34,8 +30,22 @@ pub enum Question<'a> {
     Pick(&'a Value, &'a str),
     /// The dependencies of this lock file that are outdated: of the root, or of all packages.
     Outdated(&'a Value, bool),
-    /// The versions that a mirror keeps for these manifests and a lock file: those that are picked, or all that are admitted.
+    /// The versions that a mirror keeps for these manifests and a lock file: those that are picked, or all that are admitted, and
+    /// those that are installed.
     Keep(&'a [Value], Option<&'a Value>, bool),
+}
+
+/// The reply to a question.
+#[derive(Drop)]
+pub enum Reply<'a> {
+    /// The version that is picked.
+    Picked(Picked<'a>),
+    /// No version is picked.
+    Nothing(PickError),
+    /// The outcome of each dependency.
+    Compared(Vec<Outcome<'a>>),
+    /// What a mirror keeps, and notes about the rest.
+    Kept(Mirror, Vec<String>),
 }
 
 /// How the program ends.
@@ -47,126 +57,73 @@ pub enum Ending {
     Nothing(PickError),
     /// A lock file was compared: whether something is outdated, and how many dependencies have no document.
     Compared(bool, usize),
-    /// The versions that a mirror keeps were listed: whether each package has a document.
+    /// The versions that a mirror keeps were listed: whether each package has a document with all its installed versions.
     Kept(bool),
 }
 
-/// How the program ends, and the lines for standard error.
-#[derive(Drop)]
-pub struct Done {
-    pub ending: Ending,
-    pub notes: Vec<u8>,
-}
-
-/// The lines for standard output, and the rest of the reply.
-#[derive(Drop)]
-struct Reply {
-    lines: Vec<u8>,
-    done: Done,
-}
-
-/// Writes the lines of the reply to a question. `load` returns the document of a package, if there is one. Returns how the program
-/// ends, and the lines for standard error.
+/// Returns the reply to a question. `load` returns the document of a package, if there is one.
 ///
 /// # Errors
 ///
-/// - `Write`: a write failed. A beginning of the lines may have been written.
-/// - `NoLock`: the value is no lock file that is read here. Nothing was written, and so for the other errors.
-/// - `Load`: what `load` returned for a package that a dependency asks for.
+/// - `NoLock`: the value is no lock file that is read here.
+/// - `Load`: what `load` returned for a package that a dependency asks for, or that is installed.
 /// - `Memory`: an allocation failed.
 ///
 /// # Memory
 ///
-/// Allocates what `pick` or `keep` allocates, and all lines. One document is in memory at a time.
+/// Allocates what `pick` or `keep` allocates. One document is in memory at a time.
 ///
 /// # Examples
 ///
-/// Of 1.2.0, 1.3.0 and 2.0.0, where `latest` is 1.2.0, it writes the line `1.2.0` for `^1`, and nothing for `^3`.
-pub fn run<W: Write, F: Fn(&str) -> Result<Option<Value>, LoadError>>(
+/// Of 1.2.0, 1.3.0 and 2.0.0, where `latest` is 1.2.0, it picks 1.2.0 for `^1`, and nothing for `^3`.
+pub fn reply_to<'a, F: Fn(&str) -> Result<Option<Value>, LoadError>>(
     alloc: Global,
-    question: Question<'_>,
+    question: Question<'a>,
     options: &Options<'_>,
-    format: Format,
     load: F,
-    writer: &mut W,
-) -> Result<Done, RunError>
+) -> Result<Reply<'a>, RunError>
     requires { F.IsAlwaysCallable load }
-    ensures written { IfOk result (λ done. (text : List ℕ)
-        × IsReply (FnReturnsAt F.Fn load) question.entry options.now format (done_value text done)
-        × Appends (W.contents writer.old) (W.contents writer.new) text) }
-    ensures failed { IfErr result (λ error. error ≢ RunError.Write
-        → IsFailure (FnReturnsAt F.Fn load) question.entry error × (writer.new ≡ writer.old)) }
-{
-    let reply = match reply_of(alloc, question, options, format, load) {
-        Ok(reply) => reply,
-        Err(error) => return Err(error),
-    };
-    match writer.write_all(reply.lines.as_slice()) {
-        Ok(()) => Ok(reply.done),
-        Err(_) => Err(RunError::Write),
-    }
-}
-
-/// The reply to a question.
-fn reply_of<F: Fn(&str) -> Result<Option<Value>, LoadError>>(
-    alloc: Global,
-    question: Question<'_>,
-    options: &Options<'_>,
-    format: Format,
-    load: F,
-) -> Result<Reply, RunError>
-    requires { F.IsAlwaysCallable load }
-    ensures reply { IfOk result (λ reply. IsReply (FnReturnsAt F.Fn load) question.entry options.now format
-        (reply_value reply)) }
+    ensures reply { IfOk result (λ reply. IsReply (FnReturnsAt F.Fn load) question.entry options.now (reply_value reply)) }
     ensures failed { IfErr result (IsFailure (FnReturnsAt F.Fn load) question.entry) }
 {
     match question {
-        Question::Pick(packument, wanted) => pick_reply(alloc, packument, wanted, options, format),
-        Question::Outdated(lock, all) => outdated_reply(alloc, lock, all, options, format, load),
+        Question::Pick(packument, wanted) => picked_reply(alloc, packument, wanted, options),
+        Question::Outdated(lock, all) => compared_reply(alloc, lock, all, options, load),
         Question::Keep(manifests, lock, all) => {
-            kept_reply(alloc, manifests, lock, all, options, format, load)
+            kept_reply(alloc, manifests, lock, all, options, load)
         }
     }
 }
 
 /// The reply for a version, a tag or a range.
-fn pick_reply(
+fn picked_reply<'a>(
     alloc: Global,
-    packument: &Value,
+    packument: &'a Value,
     wanted: &str,
     options: &Options<'_>,
-    format: Format,
-) -> Result<Reply, RunError>
-    ensures reply { IfOk result (λ reply. IsPickedReply (view packument.now) options.now wanted.now format
-        (reply_value reply)) }
+) -> Result<Reply<'a>, RunError>
+    ensures reply { IfOk result (λ reply. IsPickedReply (view packument.now) options.now wanted.now (reply_value reply)) }
     ensures failed { IfErr result (λ error. error ≡ RunError.Memory) }
 {
     match pick(alloc, packument, wanted, options) {
-        Ok(picked) => Ok(Reply {
-            lines: picked_line(alloc, picked, format)?,
-            done: done_without_notes(alloc, Ending::Picked),
-        }),
+        Ok(picked) => Ok(Reply::Picked(picked)),
         Err(error) => match error {
             PickError::Memory => Err(RunError::Memory),
-            _ => Ok(Reply {
-                lines: Vec::new(alloc),
-                done: done_without_notes(alloc, Ending::Nothing(error)),
-            }),
+            _ => Ok(Reply::Nothing(error)),
         },
     }
 }
 
 /// The reply for a lock file.
-fn outdated_reply<F: Fn(&str) -> Result<Option<Value>, LoadError>>(
+fn compared_reply<'a, F: Fn(&str) -> Result<Option<Value>, LoadError>>(
     alloc: Global,
-    lock: &Value,
+    lock: &'a Value,
     all: bool,
     options: &Options<'_>,
-    format: Format,
     load: F,
-) -> Result<Reply, RunError>
+) -> Result<Reply<'a>, RunError>
     requires { F.IsAlwaysCallable load }
-    ensures reply { IfOk result (λ reply. IsComparedReply (FnReturnsAt F.Fn load) (view lock.now) all options.now format
+    ensures reply { IfOk result (λ reply. IsComparedReply (FnReturnsAt F.Fn load) (view lock.now) all options.now
         (reply_value reply)) }
     ensures failed { IfErr result (λ error. IsLockFailure (Some (view lock.now)) error
         ⊎ IsComparedFailure (FnReturnsAt F.Fn load) (view lock.now) all error) }
@@ -176,58 +133,70 @@ fn outdated_reply<F: Fn(&str) -> Result<Option<Value>, LoadError>>(
         Err(CheckError::Refused(fault)) => return Err(RunError::NoLock(fault)),
         Err(CheckError::Memory) => return Err(RunError::Memory),
     };
-    let outcomes = match outcomes_of(alloc, &edges, all, options, load) {
-        Ok(outcomes) => outcomes,
-        Err(error) => return Err(error),
-    };
-    Ok(Reply {
-        lines: outdated_lines(alloc, &outcomes, format)?,
-        done: done_without_notes(
-            alloc,
-            Ending::Compared(has_outdated(&outcomes), absent_count(&outcomes)),
-        ),
-    })
-}
-
-/// An ending with no lines for standard error.
-fn done_without_notes(alloc: Global, ending: Ending) -> Done
-    ensures ending { result.ending ≡ ending }
-    ensures notes { result.notes.items ≡ [] }
-{
-    Done {
-        ending,
-        notes: Vec::new(alloc),
+    match outcomes_of(alloc, &edges, all, options, load) {
+        Ok(outcomes) => Ok(Reply::Compared(outcomes)),
+        Err(error) => Err(error),
     }
 }
 
 /// The reply for a mirror.
-fn kept_reply<F: Fn(&str) -> Result<Option<Value>, LoadError>>(
+fn kept_reply<'a, F: Fn(&str) -> Result<Option<Value>, LoadError>>(
     alloc: Global,
-    manifests: &[Value],
-    lock: Option<&Value>,
+    manifests: &'a [Value],
+    lock: Option<&'a Value>,
     all: bool,
     options: &Options<'_>,
-    format: Format,
     load: F,
-) -> Result<Reply, RunError>
+) -> Result<Reply<'a>, RunError>
     requires { F.IsAlwaysCallable load }
     ensures reply { IfOk result (λ reply. IsKeptReply (FnReturnsAt F.Fn load) (map view manifests.now)
-        (option_map (λ lock. view lock.now) lock.entry) all options.now format (reply_value reply)) }
+        (option_map (λ lock. view lock.now) lock.entry) all options.now (reply_value reply)) }
     ensures failed { IfErr result (λ error. IsLockFailure (option_map (λ lock. view lock.now) lock.entry) error
         ⊎ IsKeptFailure (FnReturnsAt F.Fn load) (map view manifests.now) (option_map (λ lock. view lock.now) lock.entry)
         error) }
 {
-    let asks = asks_of(alloc, manifests, lock)?;
-    let requests = requests_of(alloc, &asks)?;
-    let mirror = mirror_of(alloc, &requests, all, options, load)?;
-    let notes = notes_of(alloc, &asks, &mirror.absent)?;
-    Ok(Reply {
-        lines: mirror_lines(alloc, &mirror.kept, format)?,
-        done: Done {
-            ending: Ending::Kept(mirror.absent.as_slice().is_empty()),
-            notes: note_lines(alloc, &notes)?,
-        },
-    })
+    let asked = asked_of(alloc, manifests, lock)?;
+    let requests = requests_of(alloc, &asked.asks)?;
+    let mirror = mirror_of(alloc, &requests, &asked.installed, all, options, load)?;
+    let notes = notes_of(alloc, &asked.asks, &mirror)?;
+    Ok(Reply::Kept(mirror, notes))
+}
+
+impl<'a> Reply<'a> {
+    /// Returns how the program ends.
+    pub fn ending(&self) -> Ending
+        ensures { result ≡ ending_of (reply_value self.now) }
+    {
+        match self {
+            Reply::Picked(_) => Ending::Picked,
+            Reply::Nothing(error) => Ending::Nothing(*error),
+            Reply::Compared(outcomes) => {
+                Ending::Compared(has_outdated(outcomes), absent_count(outcomes))
+            }
+            Reply::Kept(mirror, _) => Ending::Kept(is_complete(mirror)),
+        }
+    }
+
+    /// Returns the lines for standard output.
+    pub fn lines(&self, alloc: Global, format: Format) -> Result<Vec<u8>, AllocError> {
+        let mut lines = Vec::new(alloc);
+        match self {
+            Reply::Picked(picked) => push_picked(alloc, &mut lines, *picked, format)?,
+            Reply::Nothing(_) => {}
+            Reply::Compared(outcomes) => push_outcomes(alloc, &mut lines, outcomes, format)?,
+            Reply::Kept(mirror, _) => push_kept(alloc, &mut lines, &mirror.kept, format)?,
+        }
+        Ok(lines)
+    }
+
+    /// Returns the lines of the notes, for standard error.
+    pub fn notes(&self, alloc: Global) -> Result<Vec<u8>, AllocError> {
+        let mut lines = Vec::new(alloc);
+        if let Reply::Kept(_, notes) = self {
+            push_lines(&mut lines, "npm_pick: ", notes)?;
+        }
+        Ok(lines)
+    }
 }
 
 /// Returns `true` if a dependency is outdated.
@@ -245,4 +214,11 @@ fn absent_count(outcomes: &[Outcome<'_>]) -> usize
         .iter()
         .filter(|outcome| outcome.is_absent())
         .count()
+}
+
+/// Returns `true` if each package has a document with all its installed versions.
+fn is_complete(mirror: &Mirror) -> bool
+    ensures { result ≡ ((length mirror.now.absent.items == 0) && (length mirror.now.lacking.items == 0)) }
+{
+    mirror.absent.is_empty() && mirror.lacking.is_empty()
 }

@@ -1,12 +1,13 @@
--- Worked rows of the definitions: the dependencies of manifests, and the notes about them.
-use Rattle.std.proofs.Common.{◌≡◌, ℕ, List, [], ◌∷◌, Some, None, codes, false, refl, true}
+-- Worked rows of the definitions: the dependencies of manifests, and what is installed.
+use Rattle.std.proofs.Common.{◌≡◌, ℕ, Bool, List, [], ◌∷◌, Some, None, codes, false, refl, true}
 use lib.Utf8.{encode}
 use Rattle.std.specs.Str.{chars}
 use Rattle.npm_texts.specs.WhiteSpace.{trimmed}
 use Rattle.serde_json.specs.Data.{Data, member, no_members, null, object, string}
 use Rattle.npm_pick_reports.specs.Asks.{AskValue, manifest_asks}
-use Rattle.npm_pick_reports.specs.Mirror.{absent_of, kept_of, request_of, texts_for}
-use Rattle.npm_pick_reports.specs.Notes.{absent_note, ask_notes}
+use Rattle.npm_packages.specs.Edges.{EdgeValue}
+use Rattle.npm_pick_reports.specs.Installed.{is_elsewhere, is_from_web}
+use Rattle.npm_pick_reports.specs.Mirror.{PackageValue, absent_of, kept_of, lacking_of, request_of, texts_for}
 
 abbrev ask : (name spec : List ℕ) → AskValue
 ask name spec = record { name = name; spec = spec; is_overridden = false }
@@ -31,20 +32,6 @@ an_alias_asks_for_what_it_names = refl
 pub a_repository_asks_no_registry : request_of (ask (codes "a") (codes "github:b/a")) ≡ None
 a_repository_asks_no_registry = refl
 
-pub it_is_said : ask_notes (ask (codes "a") (codes "github:b/a")) ≡ codes "not from a registry: a (github:b/a)" ∷ []
-it_is_said = refl
-
-pub of_a_range_nothing_is_said : ask_notes (ask (codes "a") (codes "^1")) ≡ []
-of_a_range_nothing_is_said = refl
-
-pub of_an_override_it_is_said : ask_notes (record { name = codes "a"; spec = codes "^1"; is_overridden = true })
-    ≡ codes "overrides are not read: a (^1)" ∷ []
-of_an_override_it_is_said = refl
-
-pub of_an_override_alone : ask_notes (record { name = codes "a"; spec = codes "github:b/a"; is_overridden = true })
-    ≡ codes "overrides are not read: a (github:b/a)" ∷ []
-of_an_override_alone = refl
-
 pub white_space_is_not_asked_for : request_of (ask (codes "a") (codes "npm:b@next "))
     ≡ Some (record { name = codes "b"; text = codes "next" })
 unfolding trimmed chars encode
@@ -58,16 +45,66 @@ pub a_name_has_its_own_texts : texts_for (codes "a") (record { name = codes "a";
     ≡ codes "^1" ∷ codes "next" ∷ []
 a_name_has_its_own_texts = refl
 
-pub a_version_has_its_name :
-    kept_of (record { name = codes "@s/a"; keys = Some (codes "1.0.0" ∷ codes "1.1.0" ∷ []) })
+abbrev wanted_of : (keys lacking : List (List ℕ)) → Bool → PackageValue
+wanted_of keys lacking is_absent = record { name = codes "@s/a"; keys = keys; lacking = lacking; is_absent = is_absent }
+
+pub a_version_has_its_name : kept_of (wanted_of (codes "1.0.0" ∷ codes "1.1.0" ∷ []) [] false)
     ≡ codes "@s/a@1.0.0" ∷ codes "@s/a@1.1.0" ∷ []
 a_version_has_its_name = refl
 
-pub without_a_document_none_is_kept : kept_of (record { name = codes "a"; keys = None }) ≡ []
-without_a_document_none_is_kept = refl
+pub what_is_installed_is_kept_without_a_document : kept_of (wanted_of (codes "1.0.0" ∷ []) [] true)
+    ≡ codes "@s/a@1.0.0" ∷ []
+what_is_installed_is_kept_without_a_document = refl
 
-pub a_document_without_such_versions_is_there : absent_of (record { name = codes "a"; keys = Some [] }) ≡ []
+pub a_package_without_a_document_is_named : absent_of (wanted_of [] [] true) ≡ codes "@s/a" ∷ []
+a_package_without_a_document_is_named = refl
+
+pub a_document_without_such_versions_is_there : absent_of (wanted_of [] [] false) ≡ []
 a_document_without_such_versions_is_there = refl
 
-pub what_is_said_without_a_document : absent_note (codes "a") ≡ codes "no document in the folder: a"
-what_is_said_without_a_document = refl
+pub a_version_that_is_not_in_the_document : lacking_of (wanted_of [] (codes "1.0.0" ∷ []) false) ≡ codes "@s/a@1.0.0" ∷ []
+a_version_that_is_not_in_the_document = refl
+
+-- ---- what is installed
+
+-- a dependency on `a`, for which the package in `node_modules/a` is found
+abbrev edge : (spec : List ℕ) → (is_overridden : Bool) → EdgeValue
+edge spec is_overridden = record {
+  from = [];
+  name = codes "a";
+  spec = spec;
+  is_needed = true;
+  is_peer = false;
+  is_dev = false;
+  is_overridden = is_overridden;
+  to = Some (codes "node_modules/a");
+  version = Some (codes "1.0.0");
+}
+
+pub a_range_asks_a_registry : is_elsewhere (edge (codes "^1") false) ≡ false
+a_range_asks_a_registry = refl
+
+pub an_address_does_not : is_elsewhere (edge (codes "https://x.y/a.tgz") false) ≡ true
+an_address_does_not = refl
+
+pub what_an_override_makes_of_it_is_not_known : is_elsewhere (edge (codes "github:b/a") true) ≡ false
+what_an_override_makes_of_it_is_not_known = refl
+
+-- a package that is from there
+abbrev from : (address : List ℕ) → Data
+from address = object (member (codes "resolved") (string address) no_members)
+
+pub an_archive_is_from_the_web : is_from_web (from (codes "https://r.io/a/-/a-1.0.0.tgz")) ≡ true
+an_archive_is_from_the_web = refl
+
+pub what_says_nothing_may_be : is_from_web (object no_members) ≡ true
+what_says_nothing_may_be = refl
+
+pub a_repository_is_not : is_from_web (from (codes "git+ssh://git@github.com/b/a.git#0")) ≡ false
+a_repository_is_not = refl
+
+pub a_file_is_not : is_from_web (from (codes "file:a-1.0.0.tgz")) ≡ false
+a_file_is_not = refl
+
+pub a_path_is_not : is_from_web (from (codes "../a-1.0.0.tgz")) ≡ false
+a_path_is_not = refl

@@ -1,9 +1,7 @@
--- Worked rows of the definitions: dependencies that are outdated, and their lines.
-use Rattle.std.proofs.Common.{◌≡◌, ℕ, Bool, List, [], ◌∷◌, Option, Some, None, codes, false, refl, true}
-use Rattle.npm_pick_reports.specs.Outdated.{RowValue, absent, is_current, is_passed, outdated, passed}
+-- Worked rows of the definitions: dependencies that are outdated.
+use Rattle.std.proofs.Common.{◌≡◌, ℕ, Bool, List, [], Option, Some, None, codes, false, refl, true}
+use Rattle.npm_pick_reports.specs.Outdated.{RowValue, is_current, is_passed}
 use Rattle.npm_packages.specs.Edges.{EdgeValue}
-use Rattle.npm_pick_reports.specs.OutdatedLines.{outcome_lines}
-use Rattle.npm_pick_reports.specs.declared.format.Format.TheVariants.{Text}
 
 abbrev row : (version : Option (List ℕ)) → RowValue
 row version = record {
@@ -21,11 +19,6 @@ row version = record {
   wanted = codes "1.2.0";
   latest = codes "2.0.0";
 }
-
-pub what_is_outdated_alone_has_a_line :
-    outcome_lines Text (passed ∷ outdated (row (Some (codes "1.0.0"))) ∷ absent ∷ outdated (row None) ∷ [])
-    ≡ codes "a 1.0.0 1.2.0 2.0.0\na MISSING 1.2.0 2.0.0\n"
-what_is_outdated_alone_has_a_line = refl
 
 pub the_latest_is_current : is_current (row (Some (codes "2.0.0"))).edge (codes "2.0.0") (codes "2.0.0") ≡ true
 the_latest_is_current = refl

@@ -3,12 +3,16 @@ ghost use Rattle.std.specs.Prelude.{◌≡◌, ◌↔◌, ◌++◌, IfErr, IfOk,
 ghost use Rattle.std.specs.List.{flat_map};
 ghost use Rattle.serde_json.specs.View.{members_view, view};
 ghost use Rattle.npm_packages.specs.Edges.{edge_value};
+ghost use Rattle.npm_texts.specs.RegistrySpec.{registry_spec_value};
 ghost use Rattle.npm_pick_reports.specs.Asks as Asks;
+ghost use Rattle.npm_pick_reports.specs.Installed.{AreInstalled, AreInstalledIfAny};
 ghost use Rattle.npm_pick_reports.specs.LockFailures.{IsLockFailure};
 ghost use Rattle.npm_pick_reports.specs.Asks.{AreAsks, AreAsksOfEdge, AreAsksOfLock, AskValue, IsLinked, ask_value};
 
+use crate::mirror::installed::installed_of;
 use crate::run_error::RunError;
 use npm_packages::{CheckError, Edge, edges_of, is_installed};
+use npm_texts::RegistrySpec;
 use serde_json::{Map, Value};
 use std::alloc::{AllocError, Global};
 
@@ -21,26 +25,37 @@ pub struct Ask<'v> {
     pub is_overridden: bool,
 }
 
-/// Returns the dependencies of these manifests, in all four groups, and then those of all packages of a lock file. A dependency for
-/// which the lock file has a folder of the project, as a workspace, is left out.
+/// What manifests and a lock file ask for.
+#[derive(Drop)]
+pub struct Asked<'v> {
+    /// Their dependencies.
+    pub asks: Vec<Ask<'v>>,
+    /// The packages of the lock file that ask a registry, each with the version that is installed.
+    pub installed: Vec<RegistrySpec<'v>>,
+}
+
+/// Returns the dependencies of these manifests, in all four groups, and then those of all packages of a lock file, with what is
+/// installed. A dependency for which the lock file has a folder of the project, as a workspace, is left out.
 ///
 /// # Errors
 ///
 /// - `NoLock`: the value is no lock file that is read here.
 /// - `Memory`: an allocation failed.
-pub fn asks_of<'v>(
+pub fn asked_of<'v>(
     alloc: Global,
     manifests: &'v [Value],
     lock: Option<&'v Value>,
-) -> Result<Vec<Ask<'v>>, RunError>
-    ensures asks { IfOk result (λ asks. AreAsks (map view manifests.now) (option_map (λ lock. view lock.now) lock.entry)
-        (map ask_value asks.items)) }
+) -> Result<Asked<'v>, RunError>
+    ensures asks { IfOk result (λ asked. AreAsks (map view manifests.now) (option_map (λ lock. view lock.now) lock.entry)
+        (map ask_value asked.asks.items)) }
+    ensures installed { IfOk result (λ asked. AreInstalledIfAny (option_map (λ lock. view lock.now) lock.entry)
+        (map registry_spec_value asked.installed.items)) }
     ensures failed { IfErr result (IsLockFailure (option_map (λ lock. view lock.now) lock.entry)) }
 {
     let mut asks = Vec::new(alloc);
     add_manifests(&mut asks, manifests)?;
-    add_locked(alloc, &mut asks, lock)?;
-    Ok(asks)
+    let installed = add_locked(alloc, &mut asks, lock)?;
+    Ok(Asked { asks, installed })
 }
 
 /// Adds the dependencies of manifests.
@@ -108,27 +123,35 @@ fn add_spec<'v>(asks: &mut Vec<Ask<'v>>, name: &'v str, spec: &'v Value) -> Resu
     Ok(())
 }
 
-/// Adds the dependencies of all packages of a lock file, if there is one.
+/// Adds the dependencies of all packages of a lock file, if there is one, and returns what is installed.
 fn add_locked<'v>(
     alloc: Global,
     asks: &mut Vec<Ask<'v>>,
     lock: Option<&'v Value>,
-) -> Result<(), RunError>
+) -> Result<Vec<RegistrySpec<'v>>, RunError>
     ensures added { OnOk result ((found : List AskValue)
         × Asks.AreAsksOfLockIfAny (option_map (λ lock. view lock.now) lock.entry) found
         × (map ask_value asks.new.items ≡ map ask_value asks.old.items ++ found)) }
+    ensures installed { IfOk result (λ installed. AreInstalledIfAny (option_map (λ lock. view lock.now) lock.entry)
+        (map registry_spec_value installed.items)) }
     ensures failed { IfErr result (IsLockFailure (option_map (λ lock. view lock.now) lock.entry)) }
 {
     match lock {
         Some(lock) => add_lock(alloc, asks, lock),
-        None => Ok(()),
+        None => Ok(Vec::new(alloc)),
     }
 }
 
-/// Adds the dependencies of all packages of a lock file.
-fn add_lock<'v>(alloc: Global, asks: &mut Vec<Ask<'v>>, lock: &'v Value) -> Result<(), RunError>
+/// Adds the dependencies of all packages of a lock file, and returns what is installed.
+fn add_lock<'v>(
+    alloc: Global,
+    asks: &mut Vec<Ask<'v>>,
+    lock: &'v Value,
+) -> Result<Vec<RegistrySpec<'v>>, RunError>
     ensures added { OnOk result ((found : List AskValue) × AreAsksOfLock (view lock.now) found
         × (map ask_value asks.new.items ≡ map ask_value asks.old.items ++ found)) }
+    ensures installed { IfOk result (λ installed. AreInstalled (view lock.now)
+        (map registry_spec_value installed.items)) }
     ensures failed { IfErr result (IsLockFailure (Some (view lock.now))) }
 {
     let edges = match edges_of(alloc, lock) {
@@ -137,7 +160,7 @@ fn add_lock<'v>(alloc: Global, asks: &mut Vec<Ask<'v>>, lock: &'v Value) -> Resu
         Err(CheckError::Memory) => return Err(RunError::Memory),
     };
     add_edges(asks, &edges)?;
-    Ok(())
+    Ok(installed_of(alloc, lock, &edges)?)
 }
 
 /// Adds these dependencies.

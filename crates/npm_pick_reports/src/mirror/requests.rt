@@ -50,27 +50,36 @@ fn request_of(ask: Ask<'_>) -> Option<RegistrySpec<'_>>
     }
 }
 
-/// Returns the names of the packages in the requests, in the order of their bytes, each once.
-pub fn names_of(alloc: Global, requests: &[RegistrySpec<'_>]) -> Result<Vec<String>, AllocError>
+/// Returns the names of the packages in the requests and of those that are installed, in the order of their bytes, each once.
+pub fn names_of(
+    alloc: Global,
+    requests: &[RegistrySpec<'_>],
+    installed: &[RegistrySpec<'_>],
+) -> Result<Vec<String>, AllocError>
     ensures ordered { IfOk result (λ names. IsStrictlySortedBy (slice_cmp nat_cmp) (map string_bytes names.items)) }
     ensures exact { IfOk result (λ names. (name : List ℕ) → Contains (map string_bytes names.items) name
-        ↔ Contains (Mirrors.names_of (map registry_spec_value requests.now)) name) }
+        ↔ Mirrors.IsNeededFor (map registry_spec_value requests.now) (map registry_spec_value installed.now) name) }
 {
-    let mut names = all_names(alloc, requests)?;
+    let mut names = Vec::new(alloc);
+    add_names(alloc, &mut names, requests)?;
+    add_names(alloc, &mut names, installed)?;
     put_in_order(&mut names);
     Ok(names)
 }
 
-/// The names as they come.
-fn all_names(alloc: Global, requests: &[RegistrySpec<'_>]) -> Result<Vec<String>, AllocError>
-    ensures { IfOk result (λ names. map string_bytes names.items
-        ≡ Mirrors.names_of (map registry_spec_value requests.now)) }
+/// Adds the names as they come.
+fn add_names(
+    alloc: Global,
+    names: &mut Vec<String>,
+    requests: &[RegistrySpec<'_>],
+) -> Result<(), AllocError>
+    ensures { OnOk result (map string_bytes names.new.items
+        ≡ map string_bytes names.old.items ++ Mirrors.names_of (map registry_spec_value requests.now)) }
 {
-    let mut names = Vec::new(alloc);
     for request in requests {
         names.push(String::from_str(alloc, request.name)?)?;
     }
-    Ok(names)
+    Ok(())
 }
 
 /// The texts of requests, by the names of packages.

@@ -7,4 +7,4 @@ use Rattle.npm_pick_reports.proofs.mirror.mirror_of.Given as goal
 
 abbrev pub invariant-loop-name : goal.invariant-loop-name
 invariant-loop-name g l = AreKeptIn (FnReturnsAt g.F.Fn l.load) l.options l.all (map registry_spec_value l.requests)
-    (map string_bytes (take l.name-index l.name-items)) l.mirror
+    (map registry_spec_value l.installed) (map string_bytes (take l.name-index l.name-items)) l.mirror

@@ -1,8 +1,0 @@
--- The values so far are those of the texts so far.
-use Rattle.std.proofs.Common.{◌≡◌, map, string_bytes, take}
-use Rattle.serde_json.specs.Data.{string}
-use Rattle.serde_json.specs.View.{view}
-use Rattle.npm_pick_reports.proofs.mirror.lines.values_of.Given as goal
-
-abbrev pub invariant-loop-text : goal.invariant-loop-text
-invariant-loop-text l = map view l.values.items ≡ map string (map string_bytes (take l.text-index l.texts))

@@ -1,9 +1,0 @@
--- The names so far are those of the requests so far.
-use Rattle.std.proofs.Common.{◌≡◌, map, string_bytes, take}
-use Rattle.npm_texts.specs.RegistrySpec.{registry_spec_value}
-use Rattle.npm_pick_reports.specs.Mirror.{names_of}
-use Rattle.npm_pick_reports.proofs.mirror.requests.all_names.Given as goal
-
-abbrev pub invariant-loop-request : goal.invariant-loop-request
-invariant-loop-request l = map string_bytes l.names.items
-    ≡ names_of (map registry_spec_value (take l.request-index l.requests))

@@ -1,9 +1,13 @@
 -- The members of `packages`: npm's "package-lock.json", "packages".
-use Rattle.std.specs.Prelude.{◌||◌, ℕ, List, [], ◌∷◌, Bool, true, false, if◌then◌else◌, Option, Some, None, bytes_eq, codes, option_and_then}
+use Rattle.std.specs.Prelude.{◌||◌, ◌++◌, ℕ, List, [], ◌∷◌, Bool, true, false, if◌then◌else◌, Option, Some, None, bytes_eq, codes, option_and_then}
 use Rattle.std.specs.Prelude.{option_map, unwrap_or}
-use Rattle.std.specs.Option.{option_map_or}
+use Rattle.std.specs.Option.{option_map_or, option_or}
+use Rattle.std.specs.Result.{result_ok}
+use Rattle.base64.specs.Engines.{standard}
+use Rattle.base64.specs.GeneralPurpose.{encode_of}
+use Rattle.hex.specs.Hex.{decode_sized}
 use Rattle.serde_json.specs.Data.{Data, Members, boolean, no_members, object, put, string}
-use Rattle.serde_json.specs.Find.{get}
+use Rattle.serde_json.specs.Find.{as_str, get}
 use Rattle.npm_texts.specs.Truth.{has_true}
 use Rattle.npm_flat_locks.specs.Installed.{InstalledValue}
 use Rattle.npm_flat_locks.specs.declared.marks.Marks.{Marks}
@@ -33,7 +37,7 @@ with_copies (key ∷ keys) manifest members = with_copies keys manifest (with_co
 -- what is written as the manifest has it
 abbrev pub copied : List (List ℕ)
 copied = codes "dependencies" ∷ codes "optionalDependencies" ∷ codes "peerDependencies" ∷ codes "peerDependenciesMeta" ∷ codes "bin"
-    ∷ codes "engines" ∷ codes "os" ∷ codes "cpu" ∷ []
+    ∷ codes "engines" ∷ codes "os" ∷ codes "cpu" ∷ codes "libc" ∷ []
 
 -- the licence; of an object, as old manifests have it, the `type`
 abbrev pub license_of : (manifest : Data) → Option Data
@@ -64,9 +68,21 @@ with_alias one members = if bytes_eq one.of_package one.name then members else p
 abbrev pub member_in : Option Data → (key : List ℕ) → Option Data
 member_in value key = option_and_then (get key) value
 
+-- the 20 bytes of a `shasum`, if it is 40 hexadecimal digits
+abbrev pub sha1_bytes : (shasum : Option Data) → Option (List ℕ)
+sha1_bytes shasum = option_and_then (λ text. result_ok (decode_sized text 20)) (option_and_then as_str shasum)
+
+-- the same as npm writes it: `sha1-`, and the bytes in base64
+abbrev pub sha1_of : (shasum : Option Data) → Option Data
+sha1_of shasum = option_map (λ bytes. string (codes "sha1-" ++ encode_of standard bytes)) (sha1_bytes shasum)
+
+-- the sum of the tarball: old documents have a `shasum` alone
+abbrev pub sum_of : (dist : Option Data) → Option Data
+sum_of dist = option_or (member_in dist (codes "integrity")) (sha1_of (member_in dist (codes "shasum")))
+
 -- where the tarball is, and its sum
 abbrev pub with_dist : (dist : Option Data) → Members → Members
-with_dist dist members = with_some (codes "integrity") (member_in dist (codes "integrity"))
+with_dist dist members = with_some (codes "integrity") (sum_of dist)
     (with_some (codes "resolved") (member_in dist (codes "tarball")) members)
 
 -- why the package is not installed everywhere

@@ -17,8 +17,8 @@ use std::alloc::Global;
 /// Returns the lock file of version 3 for the manifest of a root and the packages in its `node_modules`. Of two packages of one name
 /// the last counts.
 ///
-/// A package has `resolved` and `integrity` of the `dist` of its manifest. It is `dev`, `optional`, `devOptional` or `peer` if each way
-/// to it from the root has such a dependency. A root has no `workspaces` here, and no package has `bundleDependencies` or `funding`.
+/// A package has `resolved` and `integrity` of the `dist` of its manifest; of a `shasum` alone `integrity` is its SHA-1 in base64. It is
+/// `dev`, `optional`, `devOptional` or `peer` if each way to it from the root has such a dependency. A root has no `workspaces` here, and no package has `bundleDependencies` or `funding`.
 ///
 /// # Errors
 ///

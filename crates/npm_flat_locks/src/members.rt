@@ -1,5 +1,7 @@
 //! The members of `packages`: the root, and the packages in its `node_modules`.
-ghost use Rattle.std.specs.Prelude.{◌≡◌, IfOk, OnOk, codes, option_map};
+ghost use Rattle.std.specs.Prelude.{◌≡◌, ◌++◌, IfOk, OnOk, codes, option_map, string_bytes};
+ghost use Rattle.base64.specs.Engines.{standard};
+ghost use Rattle.base64.specs.GeneralPurpose.{encode_of};
 ghost use Rattle.serde_json.specs.Data.{boolean, put as with_member};
 ghost use Rattle.serde_json.specs.View.{members_view, view};
 ghost use Rattle.npm_flat_locks.specs.Installed.{installed_value};
@@ -9,6 +11,8 @@ ghost use Rattle.npm_flat_locks.specs.Members.{with_copy, with_mark, with_some};
 use crate::Result;
 use crate::installed::Installed;
 use crate::marks::Marks;
+use base64::engine::general_purpose::STANDARD;
+use hex::FromHex;
 use npm_texts::{has_true, put_text};
 use serde_json::{Map, Value, put};
 use std::alloc::Global;
@@ -58,7 +62,45 @@ fn put_dist(members: &mut Map<String, Value>, alloc: Global, dist: Option<&Value
         ≡ Members.with_dist (option_map (λ dist. view dist.now) dist.entry) (members_view members.old.entries)) }
 {
     put_some(members, alloc, "resolved", member_in(dist, "tarball"))?;
-    put_some(members, alloc, "integrity", member_in(dist, "integrity"))
+    match member_in(dist, "integrity") {
+        Some(integrity) => put_some(members, alloc, "integrity", Some(integrity)),
+        None => put_sha1(members, alloc, member_in(dist, "shasum")),
+    }
+}
+
+/// Adds the sum of a `shasum`, if it is SHA-1.
+fn put_sha1(members: &mut Map<String, Value>, alloc: Global, shasum: Option<&Value>) -> Result<()>
+    ensures { OnOk result (members_view members.new.entries
+        ≡ with_some (codes "integrity") (Members.sha1_of (option_map (λ sum. view sum.now) shasum.entry))
+        (members_view members.old.entries)) }
+{
+    match sha1_bytes(shasum) {
+        Some(bytes) => {
+            let text = sha1_text(alloc, &bytes)?;
+            put_text(members, alloc, "integrity", text.as_str())
+        }
+        None => Ok(()),
+    }
+}
+
+/// The bytes of a `shasum`, if it is 40 hexadecimal digits.
+fn sha1_bytes(shasum: Option<&Value>) -> Option<[u8; 20]>
+    ensures { result ≡ Members.sha1_bytes (option_map (λ sum. view sum.now) shasum.entry) }
+{
+    let text = shasum?.as_str()?;
+    match <[u8; 20] as FromHex>::from_hex(text) {
+        Ok(bytes) => Some(bytes),
+        Err(_) => None,
+    }
+}
+
+/// `sha1-`, and the bytes in base64.
+fn sha1_text(alloc: Global, bytes: &[u8]) -> Result<String>
+    ensures { IfOk result (λ text. string_bytes text ≡ codes "sha1-" ++ encode_of standard bytes.now) }
+{
+    let mut text = String::from_str(alloc, "sha1-")?;
+    STANDARD.encode_string(bytes, &mut text)?;
+    Ok(text)
 }
 
 /// A member of a value, if there is one.
@@ -81,7 +123,8 @@ fn put_copies(members: &mut Map<String, Value>, alloc: Global, manifest: &Value)
     put_copy(members, alloc, "bin", manifest)?;
     put_copy(members, alloc, "engines", manifest)?;
     put_copy(members, alloc, "os", manifest)?;
-    put_copy(members, alloc, "cpu", manifest)
+    put_copy(members, alloc, "cpu", manifest)?;
+    put_copy(members, alloc, "libc", manifest)
 }
 
 /// Adds the licence, and whether a script runs when the package is installed.

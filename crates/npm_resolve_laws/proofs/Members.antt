@@ -9,7 +9,7 @@ use Rattle.serde_json.specs.Find.{as_str, get, get_member}
 use Rattle.npm_packages.specs.Asked.{AskedValue, asked_of}
 use Rattle.npm_texts.specs.Truth.{has_true}
 use Rattle.npm_flat_locks.specs.Installed.{InstalledValue}
-use Rattle.npm_flat_locks.specs.Members.{copied, has_script, license_of, member_in, package_data, root_data, with_alias, with_copies, with_copy, with_dist, with_mark, with_marks, with_said, with_some}
+use Rattle.npm_flat_locks.specs.Members.{copied, has_script, license_of, member_in, package_data, root_data, sum_of, with_alias, with_copies, with_copy, with_dist, with_mark, with_marks, with_said, with_some}
 use Rattle.npm_flat_locks.specs.declared.marks.Marks.{Marks}
 
 -- ---- one member more
@@ -118,7 +118,7 @@ past_dist : (q : List ℕ) (dist : Option Data) (ms : Members) → bytes_eq q (c
     → bytes_eq q (codes "resolved") ≡ false → get_member q (with_dist dist ms) ≡ get_member q ms
 past_dist q dist ms integrity resolved =
     let tarball = member_in dist (codes "tarball") in
-    other_some q (codes "integrity") integrity (member_in dist (codes "integrity")) (with_some (codes "resolved") tarball ms)
+    other_some q (codes "integrity") integrity (sum_of dist) (with_some (codes "resolved") tarball ms)
     ∙ other_some q (codes "resolved") resolved tarball ms
 
 -- what stands before the copies

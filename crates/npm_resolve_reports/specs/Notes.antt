@@ -38,14 +38,19 @@ unfit_line one unfit = codes "npm_resolve: not for --" ++ (unfit.member ++ (code
 abbrev pub unfit_lines : Platform → List Document → ChosenValue → List ℕ
 unfit_lines platform documents one = option_map_or (unfit_line one) (unfit_of platform documents one) []
 
--- those of what is selected
-abbrev pub unfit_notes : Platform → List Document → Resolution → List ℕ
-unfit_notes platform documents (Resolutions.Selected chosen) = flat_map (unfit_lines platform documents) (map chosen_value chosen.items)
-unfit_notes platform documents (Resolutions.NoSelection found) = []
-unfit_notes platform documents Resolutions.Undecided = []
+-- `npm_resolve: no document, so versions that need it are left out: a`
+abbrev pub missing_line : (name : List ℕ) → List ℕ
+missing_line name = codes "npm_resolve: no document, so versions that need it are left out: " ++ (shown name ++ (10 ∷ []))
 
--- A line for each ask that is left out, for each name whose rule in `overrides` is not read, and for each selected version that is not for
+-- What is said of a selection: a line for each name without a document that a version needs, and for each selected version that is not for
 -- the platform.
-abbrev pub all_notes : Platform → List Document → (left_out : List AskValue) → (unread : List (List ℕ)) → Resolution → List ℕ
-all_notes platform documents left_out unread resolution =
-    note_lines left_out ++ (flat_map unread_line unread ++ unfit_notes platform documents resolution)
+abbrev pub selection_notes : Platform → List Document → (missing : List (List ℕ)) → Resolution → List ℕ
+selection_notes platform documents missing (Resolutions.Selected chosen) =
+    flat_map missing_line missing ++ flat_map (unfit_lines platform documents) (map chosen_value chosen.items)
+selection_notes platform documents missing (Resolutions.NoSelection found) = []
+selection_notes platform documents missing Resolutions.Undecided = []
+
+-- A line for each ask that is left out, for each name whose rule in `overrides` is not read, and what is said of a selection.
+abbrev pub all_notes : Platform → List Document → (left_out : List AskValue) → (unread missing : List (List ℕ)) → Resolution → List ℕ
+all_notes platform documents left_out unread missing resolution =
+    note_lines left_out ++ (flat_map unread_line unread ++ selection_notes platform documents missing resolution)

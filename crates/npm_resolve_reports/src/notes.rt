@@ -13,22 +13,23 @@ use command_lines::push_shown;
 use npm_resolve::{Ask, Chosen, Document, Resolution};
 use std::alloc::Global;
 
-/// Returns a line for each ask that is left out, for each name whose rule in `overrides` is not read, and for each version that is
-/// selected and is not for the platform.
+/// Returns a line for each ask that is left out, and for each name whose rule in `overrides` is not read; if versions are selected, also
+/// for each name without a document that a version needs, and for each selected version that is not for the platform.
 pub(crate) fn all_notes(
     alloc: Global,
     platform: Platform<'_>,
     documents: &[Document],
     left_out: &[Ask<'_>],
     unread: &[&str],
+    missing: &[&str],
     resolution: &Resolution<'_>,
 ) -> Result<Vec<u8>>
     ensures { IfOk result (λ lines. lines.items ≡ Notes.all_notes platform documents.now (map ask_value left_out.now)
-        (map text unread.now) resolution.now) }
+        (map text unread.now) (map text missing.now) resolution.now) }
 {
     let mut lines = note_lines(alloc, left_out)?;
     lines.append(&mut unread_lines(alloc, unread)?)?;
-    lines.append(&mut unfit_notes(alloc, platform, documents, resolution)?)?;
+    lines.append(&mut selection_notes(alloc, platform, documents, missing, resolution)?)?;
     Ok(lines)
 }
 
@@ -74,19 +75,44 @@ fn push_unread(lines: &mut Vec<u8>, name: &str) -> Result<()>
     lines.extend_from_slice(b"\n")
 }
 
-/// A line for each version that is selected and is not for the platform.
-fn unfit_notes(
+/// What is said of a selection.
+fn selection_notes(
     alloc: Global,
     platform: Platform<'_>,
     documents: &[Document],
+    missing: &[&str],
     resolution: &Resolution<'_>,
 ) -> Result<Vec<u8>>
-    ensures { IfOk result (λ lines. lines.items ≡ Notes.unfit_notes platform documents.now resolution.now) }
+    ensures { IfOk result (λ lines. lines.items ≡ Notes.selection_notes platform documents.now (map text missing.now) resolution.now) }
 {
     match resolution {
-        Resolution::Selected(chosen) => unfit_lines(alloc, platform, documents, chosen),
+        Resolution::Selected(chosen) => {
+            let mut lines = missing_lines(alloc, missing)?;
+            lines.append(&mut unfit_lines(alloc, platform, documents, chosen)?)?;
+            Ok(lines)
+        }
         Resolution::NoSelection(_) | Resolution::Undecided => Ok(Vec::new(alloc)),
     }
+}
+
+/// A line for each name without a document that a version needs.
+fn missing_lines(alloc: Global, missing: &[&str]) -> Result<Vec<u8>>
+    ensures { IfOk result (λ lines. lines.items ≡ flat_map Notes.missing_line (map text missing.now)) }
+{
+    let mut lines = Vec::new(alloc);
+    for name in missing {
+        push_missing(&mut lines, *name)?;
+    }
+    Ok(lines)
+}
+
+/// Adds the line of a name.
+fn push_missing(lines: &mut Vec<u8>, name: &str) -> Result<()>
+    ensures { OnOk result (lines.new.items ≡ lines.old.items ++ Notes.missing_line name.now) }
+{
+    lines.extend_from_slice(b"npm_resolve: no document, so versions that need it are left out: ")?;
+    push_shown(lines, name)?;
+    lines.extend_from_slice(b"\n")
 }
 
 /// A line for each of these versions that is not for the platform.

@@ -13,7 +13,7 @@ use crate::notes::all_notes;
 use crate::platform::Platform;
 use crate::text::text_lines;
 use npm_pick_reports::{LoadError, RunError};
-use npm_resolve::{Answer, Document, Omits, Options, Reach, Resolution, documents_for, resolved};
+use npm_resolve::{Document, Omits, Options, Reach, Resolution, documents_for, resolved};
 use serde_json::Value;
 use std::alloc::{AllocError, Global};
 use std::io::Write;
@@ -122,13 +122,16 @@ fn reply_of<F: Fn(&str) -> Result<Option<Value>, LoadError>>(
         Err(error) => return Err(RunError::Load(error)),
     };
     let answer = resolved(alloc, manifests, &documents, &options, reach, omits, steps)?;
-    let Answer {
-        resolution,
-        left_out,
-        unread,
-    } = answer;
-    let notes = all_notes(alloc, platform, &documents, &left_out, &unread, &resolution)?;
-    if is_unread(format, &resolution, &unread) {
+    let notes = all_notes(
+        alloc,
+        platform,
+        &documents,
+        &answer.left_out,
+        &answer.unread,
+        &answer.missing,
+        &answer.resolution,
+    )?;
+    if is_unread(format, &answer.resolution, &answer.unread) {
         return Ok(Reply {
             lines: Vec::new(alloc),
             done: Done {
@@ -138,9 +141,9 @@ fn reply_of<F: Fn(&str) -> Result<Option<Value>, LoadError>>(
         });
     }
     Ok(Reply {
-        lines: lines_of(alloc, manifests, &documents, &resolution, format)?,
+        lines: lines_of(alloc, manifests, &documents, &answer.resolution, format)?,
         done: Done {
-            ending: ending_of(&resolution),
+            ending: ending_of(&answer.resolution),
             notes,
         },
     })

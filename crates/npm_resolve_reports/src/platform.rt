@@ -11,7 +11,7 @@ use serde_json::Value;
 use std::slice;
 
 /// The system that packages are installed on. What is `None` is not known, and then each package fits.
-#[derive(Clone, Copy, Debug, PartialEq, Eq, Drop)]
+#[derive(Clone, Copy, Drop)]
 pub struct Platform<'p> {
     /// As Node's `process.platform`: `linux`.
     pub os: Option<&'p str>,

@@ -1,5 +1,5 @@
 //! The problem that documents pose.
-ghost use Rattle.std.specs.Prelude.{IfOk};
+ghost use Rattle.std.specs.Prelude.{◌≡◌, IfOk};
 ghost use Rattle.std.specs.List.{AllZip};
 ghost use Rattle.npm_packages.specs.Rules.{rule_at};
 ghost use Rattle.npm_candidates.specs.Meanings.{MeaningValue, Means};

@@ -167,8 +167,8 @@ fn meaning_for(
 }
 
 /// Returns `true` if a spec for this package is met by versions of the package of a name: it is for that package, or for the name itself.
-fn is_for(package: &str, offer: &Offer<'_>) -> bool
-    ensures { result ≡ Posing.is_for package.now offer.now }
+fn is_for(asked: &str, offer: &Offer<'_>) -> bool
+    ensures { result ≡ Posing.is_for asked.now offer.now }
 {
-    package == offer.package || package == offer.name
+    asked == offer.package || asked == offer.name
 }

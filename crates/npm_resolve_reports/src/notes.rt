@@ -24,7 +24,7 @@ pub(crate) fn all_notes(
     missing: &[&str],
     resolution: &Resolution<'_>,
 ) -> Result<Vec<u8>>
-    ensures { IfOk result (λ lines. lines.items ≡ Notes.all_notes platform documents.now (map ask_value left_out.now)
+    ensures { IfOk result (λ lines. lines.items ≡ Notes.all_notes platform.entry documents.now (map ask_value left_out.now)
         (map text unread.now) (map text missing.now) resolution.now) }
 {
     let mut lines = note_lines(alloc, left_out)?;
@@ -83,7 +83,7 @@ fn selection_notes(
     missing: &[&str],
     resolution: &Resolution<'_>,
 ) -> Result<Vec<u8>>
-    ensures { IfOk result (λ lines. lines.items ≡ Notes.selection_notes platform documents.now (map text missing.now) resolution.now) }
+    ensures { IfOk result (λ lines. lines.items ≡ Notes.selection_notes platform.entry documents.now (map text missing.now) resolution.now) }
 {
     match resolution {
         Resolution::Selected(chosen) => {
@@ -123,7 +123,7 @@ fn unfit_lines(
     chosen: &[Chosen<'_>],
 ) -> Result<Vec<u8>>
     ensures { IfOk result (λ lines. lines.items
-        ≡ flat_map (Notes.unfit_lines platform documents.now) (map chosen_value chosen.now)) }
+        ≡ flat_map (Notes.unfit_lines platform.entry documents.now) (map chosen_value chosen.now)) }
 {
     let mut lines = Vec::new(alloc);
     for one in chosen {
@@ -140,7 +140,7 @@ fn push_unfit(
     one: Chosen<'_>,
 ) -> Result<()>
     ensures { OnOk result (lines.new.items
-        ≡ lines.old.items ++ Notes.unfit_lines platform documents.now (chosen_value one.entry)) }
+        ≡ lines.old.items ++ Notes.unfit_lines platform.entry documents.now (chosen_value one.entry)) }
 {
     match unfit_of(platform, documents, one) {
         Some(unfit) => push_system(lines, unfit, one),
@@ -154,7 +154,7 @@ fn unfit_of<'p>(
     documents: &[Document],
     one: Chosen<'_>,
 ) -> Option<Unfit<'p>>
-    ensures { option_map unfit_value result ≡ Notes.unfit_of platform documents.now (chosen_value one.entry) }
+    ensures { option_map unfit_value result ≡ Notes.unfit_of platform.entry documents.now (chosen_value one.entry) }
 {
     let manifest = manifest_of(documents, one.name, one.key)?;
     platform.unfit(manifest)

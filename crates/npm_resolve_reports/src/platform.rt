@@ -31,7 +31,7 @@ pub(crate) struct Unfit<'p> {
 impl<'p> Platform<'p> {
     /// Returns the first of `os`, `cpu` and `libc` of a manifest that does not admit the platform.
     pub(crate) fn unfit(self, manifest: &Value) -> Option<Unfit<'p>>
-        ensures { option_map unfit_value result ≡ Systems.unfit_of self (view manifest.now) }
+        ensures { option_map unfit_value result ≡ Systems.unfit_of self.entry (view manifest.now) }
     {
         if let Some(unfit) = unfit_in(manifest, "os", self.os) {
             return Some(unfit);

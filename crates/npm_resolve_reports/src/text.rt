@@ -109,11 +109,11 @@ fn push_known(
 }
 
 /// Adds why it cannot be installed. What the same versions ask for is one line.
-fn push_reasons(
+fn push_reasons<'r>(
     alloc: Global,
     lines: &mut Vec<u8>,
-    documents: &[Document],
-    reasons: &[Reason<'_>],
+    documents: &'r [Document],
+    reasons: &'r [Reason<'r>],
 ) -> Result<()> {
     lines.extend_from_slice(b"because\n")?;
     let numbers = numbers_of(alloc, reasons)?;
@@ -126,9 +126,9 @@ fn push_reasons(
         if said < number {
             said = number;
             let sentence = Sentence {
-                documents,
+                documents: &*documents,
                 reason,
-                together: reasons,
+                together: &*reasons,
                 numbers: &numbers,
             };
             push_reason(alloc, lines, number, sentence)?;

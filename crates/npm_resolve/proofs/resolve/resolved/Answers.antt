@@ -33,7 +33,7 @@ returns c = record {
     are_listed = rw (c.deref.ensures.value, c.in_ok-rules.ensures) at c.in_ok-listed.ensures;
     absent = c.in_ok-names.ensures.0;
     are_absent = rw c.deref-2.ensures.value at c.in_ok-names.ensures.1;
-    named = c.in_ok-names.ensures.2.0;
+    named = c.in_ok-names.ensures.2;
     demanded = rw (c.deref-4.ensures.value, c.deref-5.ensures.value) at c.in_ok-root.ensures.root_demands;
     packages = rw c.deref-5.ensures.value at c.in_ok-root.ensures.packages;
     allowed = rw (c.deref-6.ensures.value, c.deref-7.ensures.value) at c.in_ok-ranges.ensures;
@@ -43,5 +43,5 @@ returns c = record {
   unread = subst (λ (rules : RulesValue). map text c.in_ok-unread.unread.items
       ≡ unread_among rules (map (λ (one : Listed). one.name.now) c.in_ok-names.field-0.names.items))
       c.in_ok-rules.ensures (rw c.deref-3.ensures.value at c.in_ok-unread.ensures);
-  missing = c.in_ok-names.ensures.2.1;
+  missing = c.in_ok-names.ensures.3;
 }

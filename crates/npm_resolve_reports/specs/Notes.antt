@@ -29,10 +29,17 @@ unread_line name = codes "npm_resolve: overrides are not read: " ++ (shown name 
 abbrev pub unfit_of : Platform → List Document → ChosenValue → Option UnfitValue
 unfit_of platform documents one = option_and_then (Systems.unfit_of platform) (manifest_of documents one.name one.key)
 
+-- `npm_resolve: not for --os linux: `
+abbrev pub unfit_words : UnfitValue → List ℕ
+unfit_words unfit = codes "npm_resolve: not for --" ++ (unfit.member ++ (codes " " ++ (shown unfit.system ++ codes ": ")))
+
+-- `fsevents 2.3.3`, and a newline
+abbrev pub version_words : ChosenValue → List ℕ
+version_words one = shown one.name ++ (codes " " ++ (shown one.key ++ (10 ∷ [])))
+
 -- `npm_resolve: not for --os linux: fsevents 2.3.3`
 abbrev pub unfit_line : ChosenValue → UnfitValue → List ℕ
-unfit_line one unfit = codes "npm_resolve: not for --" ++ (unfit.member ++ (codes " " ++ (shown unfit.system ++ (codes ": "
-    ++ (shown one.name ++ (codes " " ++ (shown one.key ++ (10 ∷ []))))))))
+unfit_line one unfit = unfit_words unfit ++ version_words one
 
 -- the line of a selected version, if it is not for the platform
 abbrev pub unfit_lines : Platform → List Document → ChosenValue → List ℕ

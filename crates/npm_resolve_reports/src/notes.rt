@@ -164,11 +164,25 @@ fn unfit_of<'p>(
 fn push_system(lines: &mut Vec<u8>, unfit: Unfit<'_>, one: Chosen<'_>) -> Result<()>
     ensures { OnOk result (lines.new.items ≡ lines.old.items ++ Notes.unfit_line (chosen_value one.entry) (unfit_value unfit.entry)) }
 {
+    push_member(lines, unfit)?;
+    push_version(lines, one)
+}
+
+/// Adds what does not fit.
+fn push_member(lines: &mut Vec<u8>, unfit: Unfit<'_>) -> Result<()>
+    ensures { OnOk result (lines.new.items ≡ lines.old.items ++ Notes.unfit_words (unfit_value unfit.entry)) }
+{
     lines.extend_from_slice(b"npm_resolve: not for --")?;
     lines.extend_from_slice(unfit.member.as_bytes())?;
     lines.extend_from_slice(b" ")?;
     push_shown(lines, unfit.system)?;
-    lines.extend_from_slice(b": ")?;
+    lines.extend_from_slice(b": ")
+}
+
+/// Adds a version, and ends the line.
+fn push_version(lines: &mut Vec<u8>, one: Chosen<'_>) -> Result<()>
+    ensures { OnOk result (lines.new.items ≡ lines.old.items ++ Notes.version_words (chosen_value one.entry)) }
+{
     push_shown(lines, one.name)?;
     lines.extend_from_slice(b" ")?;
     push_shown(lines, one.key)?;

@@ -126,7 +126,7 @@ fn dependents(alloc: Global, lock: &Value, folder: &str) -> Answer {
     }
 }
 
-fn alias(alloc: Global, lock: &Value, folder: &str) -> Answer {
+fn alias<'v>(alloc: Global, lock: &'v Value, folder: &'v str) -> Answer {
     match edges_of(alloc, lock) {
         Ok(edges) => match Aliases::of_edges(alloc, &edges) {
             Ok(aliases) => answer::text_if_any(alloc, aliases.name(folder)),

@@ -217,8 +217,7 @@ def numbered(problem):
         name, text, needed = ask
         asked, text = registered(name, text)
         package, versions = places[name]
-        # A spec that is no alias is met by the version of whichever package has the name.
-        ranges.append([int(asked in (package, name) and allowed(documents[package], version, text, options)) for version in versions])
+        ranges.append([int(asked == package and allowed(documents[package], version, text, options)) for version in versions])
         return [names.index(name), len(ranges) - 1, needed]
 
     packages = [[[demand(ask) for ask in asks(manifest, documents[package]["versions"][version], omits, is_flat)

@@ -2,6 +2,5 @@ mod Zips
 mod Wishing
 mod Gathering
 mod Naming
-mod Needing
 mod Keys
 mod Changing

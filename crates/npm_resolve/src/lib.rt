@@ -12,7 +12,6 @@ mod culprits;
 mod documents;
 mod explained;
 mod instance;
-mod missing;
 mod posed;
 mod requests;
 mod resolve;

@@ -20,7 +20,7 @@ use Rattle.npm_resolve.specs.declared.answer.Resolution.{Resolution}
 use Rattle.npm_resolve.specs.declared.answer.Resolution.TheVariants as Resolutions
 use Rattle.npm_resolve.specs.declared.documents.Document.{Document}
 use Rattle.npm_resolve_reports.specs.Locks.{AreLockLines}
-use Rattle.npm_resolve_reports.specs.Objects.{IsJsonText}
+use Rattle.npm_resolve_reports.specs.Objects.{json_text}
 use Rattle.npm_resolve_c.specs.Asked.{Texts, missing_of, reach_of}
 use Rattle.npm_resolve_c.specs.LockFile.{IsLockRefused}
 use Rattle.npm_resolve_c.specs.Options.{AreOptions, IsTime, IsVersion}
@@ -88,16 +88,16 @@ Gives documents name (Err error) = error ≡ Memory
 
 -- ---- the answer
 
--- the text of the lock file for what is selected. That of the JSON object, if nothing is, is tested.
+-- the text of the lock file for what is selected, or of the JSON object if nothing is
 abbrev pub IsFileText : List Value → List Document → Resolution → (text : List ℕ) → Type 0
 IsFileText manifests documents (Resolutions.Selected chosen) text =
     AreLockLines manifests documents (map chosen_value chosen.items) text
-IsFileText manifests documents (Resolutions.NoSelection blamed) text = ⊤
-IsFileText manifests documents Resolutions.Undecided text = ⊤
+IsFileText manifests documents (Resolutions.NoSelection blamed) text = text ≡ json_text documents (Resolutions.NoSelection blamed)
+IsFileText manifests documents Resolutions.Undecided text = text ≡ json_text documents Resolutions.Undecided
 
 -- the text of the JSON object, or of a lock file if one is asked for
 abbrev pub IsTextOf : (lock_file : Bool) → List Value → List Document → Resolution → (text : List ℕ) → Type 0
-IsTextOf false manifests documents resolution text = IsJsonText resolution text
+IsTextOf false manifests documents resolution text = text ≡ json_text documents resolution
 IsTextOf true manifests documents resolution text = IsFileText manifests documents resolution text
 
 -- The text is that of an answer, for the documents that are needed.

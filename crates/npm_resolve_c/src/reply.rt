@@ -1,7 +1,7 @@
 //! What a resolver answers.
-ghost use Rattle.std.specs.Prelude.{IfErr, IfOk};
+ghost use Rattle.std.specs.Prelude.{◌≡◌, IfErr, IfOk};
 ghost use Rattle.serde_json.specs.View.{view};
-ghost use Rattle.npm_resolve_reports.specs.Objects.{IsJsonText};
+ghost use Rattle.npm_resolve_reports.specs.Objects.{json_text};
 ghost use Rattle.npm_resolve_c.specs.Asked.{texts_value};
 ghost use Rattle.npm_resolve_c.specs.Reply.{IsFileText, IsManifest, IsManifestRefused, IsReply, IsTextFor, IsTextOf, reply_value};
 
@@ -131,7 +131,7 @@ fn object_text(
     documents: &[Document],
     resolution: &Resolution<'_>,
 ) -> Result<Vec<u8>, AllocError>
-    ensures { IfOk result (λ text. IsJsonText resolution.now text.items) }
+    ensures { IfOk result (λ text. text.items ≡ json_text documents.now resolution.now) }
 {
     Ok(resolution_text(alloc, documents, resolution)?.into_bytes())
 }

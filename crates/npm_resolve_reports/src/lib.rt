@@ -9,7 +9,6 @@ mod json;
 mod lock;
 mod notes;
 mod object_text;
-mod platform;
 mod reasons_json;
 mod reply;
 mod sentence;
@@ -19,7 +18,6 @@ pub use format::Format;
 pub use lock::lock_lines;
 pub use npm_pick_reports::{LoadError, RunError};
 pub use object_text::resolution_text;
-pub use platform::Platform;
 pub use reply::{Done, Ending, Question, run};
 
 /// The result of what fails by memory alone, if no other error is named.

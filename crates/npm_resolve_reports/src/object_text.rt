@@ -1,6 +1,6 @@
 //! The text of the JSON object, which other languages read.
-ghost use Rattle.std.specs.Prelude.{IfOk, string_bytes};
-ghost use Rattle.npm_resolve_reports.specs.Objects.{IsJsonText};
+ghost use Rattle.std.specs.Prelude.{◌≡◌, IfOk, string_bytes};
+ghost use Rattle.npm_resolve_reports.specs.Objects as Objects;
 
 use crate::Result;
 use crate::json::json_text;
@@ -26,7 +26,7 @@ pub fn resolution_text(
     documents: &[Document],
     resolution: &Resolution<'_>,
 ) -> Result<String>
-    ensures { IfOk result (λ text. IsJsonText resolution.now (string_bytes text)) }
+    ensures { IfOk result (λ text. string_bytes text ≡ Objects.json_text documents.now resolution.now) }
 {
     json_text(alloc, documents, resolution)
 }

@@ -1,0 +1,13 @@
+-- The line of one culprit more.
+use Rattle.npm_resolve.specs.ReasonValues.{culprit_value}
+use Rattle.npm_resolve_reports.proofs.Gathered.{made_all, made_at}
+use Rattle.npm_resolve_reports.specs.Texts.{fitting_line}
+use Rattle.npm_resolve_reports.proofs.text.push_all_fitting.Goals as goal
+
+pub loop-culprit-preserved : goal.loop-culprit-preserved
+loop-culprit-preserved c = made_at culprit_value c.args.culprits.now fitting_line c.args.lines.now.items c.loop-culprit.culprit-index _ _ _
+    c.loop-culprit-test.true c.in_ok-push_fitting.ensures c.loop-culprit.invariant
+
+pub returns : goal.returns
+returns c = made_all culprit_value c.args.culprits.now fitting_line c.args.lines.now.items c.loop-culprit.culprit-index _
+    c.loop-culprit-test.false c.loop-culprit.invariant

@@ -160,8 +160,8 @@ const bytes = (a, b) => Buffer.compare(Buffer.from(a), Buffer.from(b));
 const shown = (text) => [...Buffer.from(text)].map((byte) => (byte >= 0x20 && byte < 0x7f ? String.fromCharCode(byte)
     : `\\x${byte.toString(16).padStart(2, '0')}`)).join('');
 
-// The versions that are kept for these specs, whether a package has no document, and what standard error says.
-function npmsKept(asks, all, options) {
+// The versions that are kept for these specs and installed packages, whether a document lacks something, and what standard error says.
+function npmsKept(asks, installed, all, options) {
     const specs = new Map();
     const notes = new Set();
     for (const [name, text] of asks) {
@@ -173,16 +173,20 @@ function npmsKept(asks, all, options) {
             notes.add(`not from a registry: ${name} (${text})`);
         }
     }
-    const names = [...specs.keys()].sort(bytes);
-    const kept = names.filter((name) => documents[name]).flatMap((name) => {
-        const keys = specs.get(name).map((text) => picked(documents[name], text, options)?.version).filter((key) => key);
-        const admitted = Object.keys(documents[name].versions).filter((key) => all && isPublished(documents[name], key, options)
-            && specs.get(name).some((text) => semver.satisfies(key, text, { loose: true })));
-        return [...new Set([...keys, ...admitted])].sort((a, b) => semver.compare(a, b) || bytes(a, b)).map((key) => `${name}@${key}`);
+    const names = [...new Set([...specs.keys(), ...installed.map(([name]) => name)])].sort(bytes);
+    const kept = names.flatMap((name) => {
+        const texts = documents[name] ? specs.get(name) ?? [] : [];
+        const keys = texts.map((text) => picked(documents[name], text, options)?.version).filter((key) => key);
+        const admitted = Object.keys(documents[name]?.versions ?? {}).filter((key) => all && isPublished(documents[name], key, options)
+            && texts.some((text) => semver.satisfies(key, text, { loose: true })));
+        const own = installed.filter(([of]) => of === name).map(([, key]) => key);
+        return [...new Set([...keys, ...admitted, ...own])].sort((a, b) => semver.compare(a, b) || bytes(a, b)).map((key) => `${name}@${key}`);
     });
     const absent = names.filter((name) => !documents[name]);
-    const said = [...absent.map((name) => `no document in the folder: ${name}`), ...notes].sort(bytes);
-    return { kept, status: absent.length ? 1 : 0, error: said.map((note) => `npm_pick: ${shown(note)}\n`).join('') };
+    const lacking = installed.filter(([name, key]) => documents[name] && !Object.hasOwn(documents[name].versions, key)).map((one) => one.join('@'));
+    const said = [...absent.map((name) => `no document in the folder: ${name}`),
+        ...new Set(lacking.map((one) => `installed, but not in the document: ${one}`)), ...notes].sort(bytes);
+    return { kept, status: absent.length || lacking.length ? 1 : 0, error: said.map((note) => `npm_pick: ${shown(note)}\n`).join('') };
 }
 
 function isPublished(document, key, options) {
@@ -194,10 +198,28 @@ const GROUPS = ['dependencies', 'devDependencies', 'optionalDependencies', 'peer
 // The dependencies of a manifest or of a package of a lock file. Of one name in two groups both count for a manifest.
 const asksOf = (manifest) => GROUPS.flatMap((group) => Object.entries(manifest[group] ?? {}));
 
-// The dependencies of the packages of a lock file: of one name the last group counts, and devDependencies do for the root alone.
-function asksOfLock(lock) {
-    return Object.entries(lock.packages).flatMap(([folder, asker]) => Object.entries(Object.assign({}, asker.peerDependencies,
-        asker.dependencies, asker.optionalDependencies, folder === '' ? asker.devDependencies : {})));
+// The dependencies of a package of a lock file: of one name the last group counts, and devDependencies do for the root alone.
+const asksOfPackage = (folder, asker) => Object.entries(Object.assign({}, asker.peerDependencies, asker.dependencies, asker.optionalDependencies,
+    folder === '' ? asker.devDependencies : {}));
+
+const asksOfLock = (lock) => Object.entries(lock.packages).flatMap(([folder, asker]) => asksOfPackage(folder, asker));
+
+// The folder in which a name is found from a folder: its own `node_modules`, or the nearest above.
+function foundFrom(lock, folder, name) {
+    const place = `${folder}${folder ? '/' : ''}node_modules/${name}`;
+    return lock.packages[place] ? place : folder && foundFrom(lock, folder.slice(0, Math.max(0, folder.lastIndexOf('/node_modules/'))), name);
+}
+
+// The installed packages, by name and version, for which no dependency is by an address, a repository, a file or a folder.
+function installedOf(lock) {
+    const isElsewhere = ([name, text]) => {
+        const { subSpec, ...asked } = npa.resolve(name, text, '/');
+        return !(subSpec ?? asked).registry;
+    };
+    const elsewhere = new Set(Object.entries(lock.packages).flatMap(([folder, asker]) => asksOfPackage(folder, asker)
+        .filter(isElsewhere).map(([name]) => foundFrom(lock, folder, name))));
+    return Object.entries(lock.packages).filter(([folder]) => folder && !elsewhere.has(folder))
+        .map(([folder, { version }]) => [folder.split('node_modules/').pop(), version]);
 }
 
 // A manifest with white space around its specs, which npm install leaves out and npm outdated does not, and with hosts that npm
@@ -216,13 +238,14 @@ function compareKept(folder) {
     const wide = path.join(folder, 'spaced.json');
     const read = (file) => JSON.parse(fs.readFileSync(file, 'utf8'));
     fs.writeFileSync(wide, JSON.stringify(spaced(read(manifest))));
-    for (const [words, asks] of [[['--manifest', manifest], asksOf(read(manifest))], [['--lock', lock], asksOfLock(read(lock))],
+    for (const [words, asks, installed = []] of [[['--manifest', manifest], asksOf(read(manifest))],
+        [['--lock', lock], asksOfLock(read(lock)), installedOf(read(lock))],
         [['--manifest', wide], asksOf(read(wide))],
-        [['--lock', lock, '--manifest', manifest], [...asksOf(read(manifest)), ...asksOfLock(read(lock))]]]) {
+        [['--lock', lock, '--manifest', manifest], [...asksOf(read(manifest)), ...asksOfLock(read(lock))], installedOf(read(lock))]]) {
         const all = chance(50);
         const made = madeOptions();
         const isJson = chance(30);
-        const { kept, ...expected } = npmsKept(asks, all, made.options);
+        const { kept, ...expected } = npmsKept(asks, installed, all, made.options);
         const answer = answerOf([...made.words, '--packuments', path.join(folder, 'mirror'), ...words, '--keep',
             ...(all ? ['--all'] : []), ...(isJson ? ['--format=json'] : [])]);
         expected.output = isJson ? `${JSON.stringify(kept)}\n` : kept.map((line) => `${line}\n`).join('');

@@ -160,13 +160,18 @@ const bytes = (a, b) => Buffer.compare(Buffer.from(a), Buffer.from(b));
 const shown = (text) => [...Buffer.from(text)].map((byte) => (byte >= 0x20 && byte < 0x7f ? String.fromCharCode(byte)
     : `\\x${byte.toString(16).padStart(2, '0')}`)).join('');
 
+// What npm reads a dependency as; of an alias what it stands for.
+function askedBy(name, text) {
+    const { subSpec, ...asked } = npa.resolve(name, text, '/');
+    return subSpec ?? asked;
+}
+
 // The versions that are kept for these specs and installed packages, whether a document lacks something, and what standard error says.
 function npmsKept(asks, installed, all, options) {
     const specs = new Map();
     const notes = new Set();
     for (const [name, text] of asks) {
-        const { subSpec, ...asked } = npa.resolve(name, text, '/');
-        const { registry, name: real, fetchSpec } = subSpec ?? asked;
+        const { registry, name: real, fetchSpec } = askedBy(name, text);
         if (registry) {
             specs.set(real, [...specs.get(real) ?? [], fetchSpec]);
         } else {
@@ -212,12 +217,8 @@ function foundFrom(lock, folder, name) {
 
 // The installed packages, by name and version, for which no dependency is by an address, a repository, a file or a folder.
 function installedOf(lock) {
-    const isElsewhere = ([name, text]) => {
-        const { subSpec, ...asked } = npa.resolve(name, text, '/');
-        return !(subSpec ?? asked).registry;
-    };
     const elsewhere = new Set(Object.entries(lock.packages).flatMap(([folder, asker]) => asksOfPackage(folder, asker)
-        .filter(isElsewhere).map(([name]) => foundFrom(lock, folder, name))));
+        .filter(([name, text]) => !askedBy(name, text).registry).map(([name]) => foundFrom(lock, folder, name))));
     return Object.entries(lock.packages).filter(([folder]) => folder && !elsewhere.has(folder))
         .map(([folder, { version }]) => [folder.split('node_modules/').pop(), version]);
 }
@@ -237,11 +238,12 @@ function compareKept(folder) {
     const lock = path.join(folder, 'project/package-lock.json');
     const wide = path.join(folder, 'spaced.json');
     const read = (file) => JSON.parse(fs.readFileSync(file, 'utf8'));
-    fs.writeFileSync(wide, JSON.stringify(spaced(read(manifest))));
-    for (const [words, asks, installed = []] of [[['--manifest', manifest], asksOf(read(manifest))],
-        [['--lock', lock], asksOfLock(read(lock)), installedOf(read(lock))],
+    const [root, locked] = [read(manifest), read(lock)];
+    const [asksOfRoot, asksOfLocked, installedThere] = [asksOf(root), asksOfLock(locked), installedOf(locked)];
+    fs.writeFileSync(wide, JSON.stringify(spaced(root)));
+    for (const [words, asks, installed = []] of [[['--manifest', manifest], asksOfRoot], [['--lock', lock], asksOfLocked, installedThere],
         [['--manifest', wide], asksOf(read(wide))],
-        [['--lock', lock, '--manifest', manifest], [...asksOf(read(manifest)), ...asksOfLock(read(lock))], installedOf(read(lock))]]) {
+        [['--lock', lock, '--manifest', manifest], [...asksOfRoot, ...asksOfLocked], installedThere]]) {
         const all = chance(50);
         const made = madeOptions();
         const isJson = chance(30);

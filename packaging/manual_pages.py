@@ -2,7 +2,8 @@
 import re
 import time
 
-OPTION = re.compile(r"^ {0,4}(-\S.*?)(?:  +(\S.*))?$")
+# The head of an option, with fewer blanks before it than its text has; `clap` writes six where there is no short one.
+OPTION = re.compile(r"^(?: {0,4}(?=-)| {6}(?=--))(-\S.*?)(?:  +(\S.*))?$")
 
 
 class Help:

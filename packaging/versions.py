@@ -12,7 +12,7 @@ PLACES = (
     ("bindings/c/include/npm_resolve.h", r'#define NPM_RESOLVE_LIBRARY_VERSION "([^"]*)"'),
     ("bindings/python/src/node_semver/__init__.py", r'^__version__ = "([^"]*)"'),
     ("bindings/node/package.json", r'^  "version": "([^"]*)"'),
-    ("crates/npm_lock_program/src/arguments/help.rt", r'"(?:npm_lock_check )?(\d[^"\\]*)(?:\\n)?"'),
+    ("crates/npm_lock_check/src/arguments/command.rt", r'NUMBER: &str = "([^"]*)"'),
     ("crates/npm_pick_command/src/help.rt", r'"npm_pick ([^"\\]*)\\n"'),
     ("crates/npm_resolve_command/src/help.rt", r'"npm_resolve ([^"\\]*)\\n"'),
     ("README.md", r"denimscree-semver-([0-9][0-9.]*)\.tgz"),

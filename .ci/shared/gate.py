@@ -1,6 +1,5 @@
 """The gate: proves each crate and its tests, and runs all parts and all tests. What needs no proof runs beside the proofs, and so do wrong bodies,
 each as soon as what it needs is proved; then come the packages, which are built in the same folders one after another, and the tests."""
-# See docs/DECISIONS.md, "Wrong bodies are tried in two ways".
 import contextlib
 import os
 import re

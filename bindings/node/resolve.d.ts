@@ -140,11 +140,17 @@ declare namespace resolve {
         outcome: 'undecided';
     }
 
+    /** There is no lock file: the rules in `overrides` for these names are not read, and `npm ci` would refuse it. */
+    interface Unread {
+        outcome: 'unread';
+        overrides: string[];
+    }
+
     /** The answer. An object may have more members than these. The packages are in the order in which they are first needed. */
     type Resolution = { outcome: 'selected'; packages: Chosen[] } | NoSelection | Undecided;
 
     /** The answer with `lockfile: true`: the text of a package-lock.json of version 3, if versions fit together. */
-    type LockResolution = { outcome: 'selected'; lockfile: string } | NoSelection | Undecided;
+    type LockResolution = { outcome: 'selected'; lockfile: string } | Unread | NoSelection | Undecided;
 
     interface ResolveError extends Error {
         code?: 'EINVALIDMANIFEST' | 'EINVALIDDOCUMENTS' | 'EINVALIDLOCK' | 'EINVALIDOPTION' | 'ERR_MEMORY_ALLOCATION_FAILED';

@@ -1,7 +1,8 @@
 // SPDX-License-Identifier: Apache-2.0
 // Speed beside npm's own `semver`, in one run: the least of several rounds by turns, in nanoseconds of processor time a
 // call. The time of other processes does not count. ROUNDS is how many, 70 if it is not set. With a word: the rows that
-// have it. With the word `long`: how the time of each function grows with the length of a text.
+// have it. With the word `limits`: the rows that have a limit, as docs/SPEED.md has them; the status is 1 if one is above it. With the word
+// `long`: how the time of each function grows with the length of a text.
 'use strict';
 
 const { calls, shapes } = require('./test/long.js');
@@ -159,6 +160,37 @@ const rows = {
     }),
 };
 
+// Which part of npm's time a call takes at most.
+const limits = {
+    '`satisfies`, texts, 200 ranges again and again': 0.1,
+    '`satisfies`, texts, 20,000 ranges': 0.1,
+    '`new Range`, 20,000 ranges': 0.1,
+    '`maxSatisfying` of 1,000 texts': 0.3,
+    '`compare` of two texts': 0.45,
+    '`sort` of 10,000 texts': 0.1,
+    '`sort` of 10,000 `SemVer`s': 0.3,
+    '`valid`': 0.45,
+    '`coerce`': 0.95,
+    '`inc`': 0.95,
+    '`subset`': 0.95,
+    '`intersects`': 0.95,
+    '`minVersion`': 0.95,
+    '`validRange`, 20,000 ranges': 1,
+    '`validRange`, 20,000 hyphen ranges': 1,
+};
+
+function compareWithLimits() {
+    console.log("call | npm | here | of npm's time | at most\n---|---|---|---|---");
+    for (const [name, most] of Object.entries(limits)) {
+        const [calls, prepare] = rows[name];
+        const [theirs, ours] = least(prepare(npm), prepare(here)).map((time) => time / calls);
+        const part = ours / theirs;
+        const times = [theirs, ours].map((time) => Math.round(time).toLocaleString('en'));
+        console.log([name, ...times, part.toFixed(2), most.toFixed(2)].join(' | '));
+        process.exitCode ||= Number(part > most);
+    }
+}
+
 function compareWithNpm(word = '') {
     console.log('| call | npm, ns | here, ns | npm / here |\n|---|---|---|---|');
     for (const [name, [calls, prepare]] of Object.entries(rows).filter(([name]) => name.includes(word))) {
@@ -193,6 +225,8 @@ function growth() {
 
 if (process.argv[2] === 'long') {
     growth();
+} else if (process.argv[2] === 'limits') {
+    compareWithLimits();
 } else {
     compareWithNpm(process.argv[2]);
 }

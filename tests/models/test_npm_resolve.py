@@ -14,7 +14,8 @@ version_solving, which makes all selections:
   asked for, the tag does not count, and the lesser version does. What is published too late or restricted is not made here; npm_pick's
   comparison has it.
 """
-# See docs/DECISIONS.md, "An optional dependency of a version only limits".
+# An optional dependency of a version only limits, since npm proceeds without it: packages with a build for each platform are selected only if
+# the manifest names the platform's.
 import solving
 from support import programs
 
@@ -217,7 +218,8 @@ def numbered(problem):
         name, text, needed = ask
         asked, text = registered(name, text)
         package, versions = places[name]
-        ranges.append([int(asked == package and allowed(documents[package], version, text, options)) for version in versions])
+        # A spec that is no alias is met by the version of whichever package has the name.
+        ranges.append([int(asked in (package, name) and allowed(documents[package], version, text, options)) for version in versions])
         return [names.index(name), len(ranges) - 1, needed]
 
     packages = [[[demand(ask) for ask in asks(manifest, documents[package]["versions"][version], omits, is_flat)

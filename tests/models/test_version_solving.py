@@ -1,7 +1,7 @@
 """version_solving and solving_reasons beside their definitions on small instances, on long instances, and with each request for memory
 refused."""
-# See docs/DECISIONS.md, "What the search for versions keeps is checked where it is used".
-# See docs/DECISIONS.md, "Reasons are checked after they are found".
+# The search checks what it keeps where it uses it, and its reasons once they are found: so nothing is proved of where a step looks, and the
+# search may change freely. It costs a second reading of all demands, and a second search over the culprits.
 import os
 
 import pytest

@@ -5,7 +5,8 @@ file that the program writes, npm_lock_check finds nothing; `npm ci` installs it
 wrong with what is installed; and npm keeps what the file says when it writes it anew, each mark of a package too. A third of the
 manifests have `overrides`, for packages that the root itself does not ask for: npm refuses others.
 """
-# See docs/DECISIONS.md, "Marks of a lock file are those of the ways to a package".
+# The marks of a package in a lock file are those of the ways to it. npm's one walk can leave a mark that no longer holds, where a package is
+# reached in several ways.
 import itertools
 import json
 import os

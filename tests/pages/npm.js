@@ -1,5 +1,5 @@
-// Reads a JSON array a line, the name of a function of npm's semver and its arguments, or a call as a page has it, and writes what it
-// returns as a line of JSON. A range is its text, a version has its build, and an error is null.
+// Reads a JSON array a line, the name of a function of npm's semver and its arguments, and writes what it returns as a line of JSON.
+// A range is its text, a version has its build, and an error is null.
 'use strict';
 
 const readline = require('readline');
@@ -7,8 +7,7 @@ const semver = require('../npm/shared.js').npms('semver');
 
 function result(name, ...values) {
     try {
-        const found = name.endsWith(')') ? new Function('semver', `return semver.${name}`)(semver)
-            : name === 'Range' ? new semver.Range(...values).range : semver[name](...values);
+        const found = name === 'Range' ? new semver.Range(...values).range : semver[name](...values);
         return found instanceof semver.SemVer ? [found.version, ...found.build.length ? [found.build.join('.')] : []].join('+') : found;
     } catch (_) {
         return null;

@@ -180,33 +180,6 @@ def npm_root():
     return subprocess.run(["npm", "root", "-g"], env=programs.environment(), capture_output=True, encoding="utf-8", check=True).stdout.strip()
 
 
-# ---- the package for Node
-
-OF_NODE = pages.tables(pages.section(pages.page("bindings/node/README.md"), "## Differences from npm"))[0]
-
-
-def in_library(call):
-    """What the library returns where the package makes this call, as JSON, or None if it makes none of it."""
-    ranged = re.fullmatch(r"validRange\('([^']+)'(, true)?(, \{ includePrerelease: true \})?\)", call)
-    asked = re.fullmatch(r"satisfies\('([^']+)', '([^']+)'\)", call)
-    if ranged:
-        text, loose, inside = ranged.groups()
-        return calls.npm_range_of(text, *["loose"] * bool(loose), *["prereleases"] * bool(inside))
-    if asked:
-        return calls.call("npm_semver::parse_range, satisfies", asked[2], "strict", asked[1]) == "true"
-    return NotImplemented
-
-
-@pytest.mark.parametrize("what, call, npms, here", OF_NODE, ids=[row[0] for row in OF_NODE])
-def test_calls_of_the_package_for_node(what, call, npms, here):
-    value = lambda cell: json.loads(pages.quoted(cell)[0].replace("'", '"'))
-    (call,) = pages.quoted(call)
-    found = in_library(call)
-    # (no program compares builds: the tests of the package do)
-    assert found == value(here) or found is NotImplemented and call.startswith("compareBuild")
-    assert npm(call) == value(npms)
-
-
 # ---- rules that the comparisons know
 
 @pytest.mark.parametrize("script, page, heading", [

@@ -7,6 +7,7 @@ import pytest
 from support import calls, pages, programs
 
 GRAMMAR, USE, DIFFERENCES, README = "docs/GRAMMAR.md", "crates/node_semver/README.md", "docs/DIFFERENCES.md", "README.md"
+SQL, PYTHON = "bindings/sql/README.md", "bindings/python/README.md"
 
 
 def is_version(text, version):
@@ -119,6 +120,23 @@ def has_the_bytes(version, *, key="1 2 3 255"):
     return calls.call("semver_keys::version_key", version) == key
 
 
+def is_key_of(key, version):
+    """The key is written in hexadecimal digits."""
+    return calls.call("semver_keys::version_key", version) == " ".join(str(int(byte, 16)) for byte in key.split())
+
+
+def is_found_in(version, text):
+    return calls.call("npm_semver::coerce", text, "ltr") == version
+
+
+def is_no_strict_version(text):
+    return calls.result("npm_semver::parse_version", text) is None
+
+
+def is_not_in(version, text):
+    return not calls.is_admitted(text, version) and calls.range_of("") is None
+
+
 def is_so_in_python(expression, answer):
     """The expression is one of the package for Python, which reads a range by `Range::parse`."""
     version, text = re.fullmatch(r'"(.+)" in Range\("(.+)"\)', expression).groups()
@@ -165,6 +183,10 @@ SENTENCES = [
     (DIFFERENCES, "the empty text is refused, and {} is {}", prints),
     (USE, "{} has the bytes 1, 2, 3 and 255", has_the_bytes),
     (README, "ignores unknown words: {} means {}", is_range),
+    (SQL, "is the key, without the build: {} for {}", is_key_of),
+    (SQL, "is what npm's `coerce` finds, {} in {}", is_found_in),
+    (SQL, "are read by SemVer 2.0.0's grammar**: {} is none", is_no_strict_version),
+    (PYTHON, "the empty text is no range, and {} is not in {}", is_not_in),
     (README, "[Python](bindings/python/README.md) | {} is {}", is_so_in_python),
     (README, "[Node](bindings/node/README.md) | {} is {}", is_so_in_node),
 ]

@@ -15,8 +15,12 @@ UNLISTED = {"-rev"}  # npm's help does not list it either.
 
 
 def options(program):
-    """The options that the definitions of its crate know, or else of the crates that this one uses."""
+    """The options that `clap` reads, or that the definitions of its crate know, or else of the crates that this one uses."""
     crate = programs.crate_of(program)
+    sources = "".join(map(files.read, files.sources(crate)))
+    if "clap" in crates.listed()[crate][0]:
+        named = re.findall(r'\b(?:flag|option|path)\(\s*alloc,\s*"([a-z-]+)"', sources)
+        return sorted({f"--{name}" for name in named} | {"--help", "--version", "-V", "-h"})
     known = [re.findall(r'codes "(--?[a-zA-Z?][a-z-]*)"', "".join(map(files.read, files.matching(*(f"crates/{it}/specs/*.antt" for it in names)))))
              for names in ([crate], crates.listed()[crate][0])]
     return sorted(set(known[0] or known[1]) - UNLISTED)
@@ -29,7 +33,7 @@ def help_of(program):
 
 @pytest.mark.parametrize("program, option", [(program, option) for program in PROGRAMS for option in options(program)])
 def test_has_a_line_for_each_option(program, option):
-    listed = re.findall(r"^  (-.*?)(?:  |$)", help_of(program), re.M)
+    listed = re.findall(r"^  (?:    )?(-.*?)(?:  |$)", help_of(program), re.M)
     assert option in {name for line in listed for name in re.findall(r"(?<![^ ])-[^ ,\[]+", line)}
 
 

@@ -7,7 +7,7 @@ import pytest
 
 from support import programs, rows
 
-SOURCES = ["npm_lock_check/src/*.rt", "npm_lock_program/src/arguments/*.rt", "npm_lock_program/src/checks/*.rt", "npm_packages/src/fault.rt",
+SOURCES = ["npm_lock_check/src/*.rt", "npm_lock_check/src/arguments/*.rt", "npm_lock_check/src/checks/*.rt", "npm_packages/src/fault.rt",
            "npm_advisories/src/fault.rt"]
 
 

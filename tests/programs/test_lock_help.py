@@ -27,6 +27,16 @@ FILES = {
     "groups.json": {"lockfileVersion": 3, "packages": {
         "": {"devDependencies": {"d": "1"}, "optionalDependencies": {"o": "1"}}, "node_modules/d": {"version": "2.0.0", "dev": True},
         "node_modules/o": {"version": "2.0.0", "optional": True}, "node_modules/b": {"version": "2.0.0", "devOptional": True}}},
+    "none.json": [],
+    "sources.json": {"lockfileVersion": 3, "packages": {
+        "": {"dependencies": {name: "1" for name in "vphrn"}},
+        **{f"node_modules/{name}": {"version": "1.0.0", "resolved": address, "integrity": "sha512-AA=="} for name, address in (
+            ("v", "https://r/v/-/v-1.0.1.tgz"), ("p", "https://r/q/-/q-1.0.0.tgz"), ("h", "http://r/h/-/h-1.0.0.tgz"),
+            ("r", "https://s/r/-/r-1.0.0.tgz"))},
+        "node_modules/n": {"version": "1.0.0", "resolved": "https://r/n/-/n-1.0.0.tgz"}}},
+    **{f"{name}.json": {"lockfileVersion": 3, "packages": {
+        "": {"devDependencies": {"x": "file:l"}, **more}, "l": {"dependencies": {"d": "2"}}, "l/node_modules/d": {"version": "2.0.0", "dev": True},
+        "node_modules/x": {"link": True, "resolved": "l"}}} for name, more in (("linked", {}), ("below", {"workspaces": ["l"]}))},
     "all.json": {name: [{"id": number, "vulnerable_versions": "*"}] for number, name in enumerate("dob", 1)},
 }
 OTHERS = "--ignore missing --ignore invalid --ignore peer-local --ignore engine"
@@ -71,22 +81,17 @@ def has(count, text, words):
 
 SENTENCES = [
     ("Checks the packages of a package-lock.json against what they depend on.", gives(1, "a 2.0.0 does not satisfy ^1", "--format text lock.json")),
-    ("Usage: npm_lock_check [OPTIONS] [FILE]..", gives(1, "lock.json: a 2.0.0 does not satisfy ^1", "--format text lock.json clean.json")),
-    ("FILE is a package-lock.json.", gives(2, "the input is no lock file that is read here", "package.json")),
+    ("Usage: npm_lock_check [OPTIONS] [FILE]...", gives(1, "lock.json: a 2.0.0 does not satisfy ^1", "--format text lock.json clean.json")),
+    ("[FILE]... A package-lock.json.", gives(2, "the input is no lock file that is read here", "package.json")),
     ("With no FILE, and if FILE is -, standard input is read.", alike("", "-"), alike("", "lock.json")),
     ("With several each line of the formats text and json names its FILE.",
      gives(1, "lock.json: gone is not", "--format text lock.json clean.json"), gives(1, '"file":"lock.json"', "--format json lock.json clean.json"),
      lacks("lock.json:", "--format text lock.json"), lacks('"file"', "--format json lock.json")),
-    ("Options, of which the value may also be in the same word, as in --node=20.", alike("--node 20", "--node=20")),
-    ("If an option is given twice, its last value counts.", alike("--node 1 --node 20.1.0", "--node 20.1.0")),
-    ("--manifest, --advisories and --exceptions name a file that is read, and are given once.",
-     gives(2, "--manifest", "--manifest package.json --manifest package.json"), gives(2, "--advisories", "--advisories osv.json --advisories osv.json"),
-     gives(2, "--exceptions", "--exceptions low.toml --exceptions low.toml")),
-    ("--node VERSION Also check engines.node of each package against this version of Node.",
+    ("--node <VERSION> Also check engines.node of each package against this version of Node.",
      gives(1, "node 20.1.0 does not satisfy >=21", "--node 20.1.0 --format text"), lacks("node 21.0.0", "--node 21.0.0"), lacks(">=21")),
     ("20 means 20.0.0, and v20.11 means 20.11.0.", gives(1, "node 20.0.0 does", "--node 20 --format text"),
      gives(1, "node 20.11.0 does", "--node v20.11 --format text")),
-    ("--manifest FILE The package.json of the root: write where it and the lock file do not ask for the same, and check the lock file for what "
+    ("--manifest <FILE> The package.json of the root: write where it and the lock file do not ask for the same, and check the lock file for what "
      "the package.json asks for.",
      gives(1, 'a in dependencies is "^2" in package.json, and "^1" in the lock file', "--manifest package.json --format text"),
      gives(1, "does not satisfy ^1", "--format text"), lacks("does not satisfy ^1", "--manifest package.json --format text")),
@@ -99,16 +104,51 @@ SENTENCES = [
     ("--outside Also read a package.json that is not below the folder of FILE, or is no regular file.",
      gives(1, "in ../outer/package.json", "--manifest package.json --outside --format text"),
      lacks("in ../outer/package.json", "--manifest package.json --format text")),
-    ("--advisories FILE Also write each installed package that a security advisory of this file hits, and a version that none hits.",
+    ("--unchecked Also list what is not checked, and why: dependencies, manifests and workspaces.",
+     gives(1, "t 1.0.0 is not checked against latest, which the root asks for: a tag", "--unchecked --format text"),
+     lacks("against latest", "--format text"), gives(1, "../outer/package.json is not read: ", "--manifest package.json --unchecked --format text")),
+    ("--strict The exit status is also 1 if something is not checked, which is listed then.",
+     gives(1, "t 1.0.0 is not checked against latest", f"--strict {OTHERS} --format text"), gives(0, "1 not checked", OTHERS)),
+    ("Also --sources.", gives(1, "n 1.0.0 has no integrity", "--strict --format text sources.json")),
+    ("--ignore <KIND> Leave out problems of this kind: group (package.json and the lock file do not ask for the same), missing, invalid, peer-local or engine.",
+     lacks("a in dependencies", "--manifest package.json --ignore group --format text"), lacks("gone is", "--ignore missing --format text"),
+     lacks("satisfy ^1", "--ignore invalid --format text"), lacks("as a peer", "--ignore peer-local --format text"),
+     lacks(">=21", "--node 20 --ignore engine --format text"), gives(1, "as a peer", "--ignore engine --format text")),
+    ("May be given several times.", gives(0, "0 problems", OTHERS)),
+    ("--omit <GROUP> Leave out the packages that npm ci --omit GROUP does not install, and what is in that group of dependencies: dev or optional.",
+     gives(1, "2 problems, 0 not checked, 3 hit", "groups.json --advisories all.json"), lacks('"name":"d"', "groups.json --advisories all.json --omit dev"),
+     gives(1, "1 problems, 0 not checked, 2 hit, 3 advisories read, 1 packages omitted", "groups.json --advisories all.json --omit dev"),
+     lacks('"name":"o"', "groups.json --advisories all.json --omit optional"),
+     gives(1, "1 problems, 0 not checked, 2 hit, 3 advisories read, 1 packages omitted", "groups.json --advisories all.json --omit optional")),
+    ("What npm installs below a linked folder that is no workspace counts, whatever its group.",
+     gives(0, "0 hit, 3 advisories read, 1 packages omitted", "below.json --advisories all.json --omit dev --ignore missing"),
+     gives(1, "1 hit, 3 advisories read, 0 packages omitted", "linked.json --advisories all.json --omit dev --ignore missing")),
+    ("May be given several times.", gives(0, "0 problems, 0 not checked, 0 hit, 3 advisories read, 3 packages omitted", "groups.json --advisories all.json --omit dev --omit=optional")),
+    ("--sources Also write each package whose address is that of another package or is not encrypted, and each that npm downloads without "
+     "integrity.",
+     *[gives(1, text, "--sources --format text sources.json") for text in (
+         "the address of p 1.0.0 is that of another package", "the address of h 1.0.0 is not encrypted", "n 1.0.0 has no integrity")],
+     *[lacks(text, "--format text sources.json") for text in ("another package", "not encrypted", "no integrity")]),
+    ("An address of another version is always written.",
+     gives(1, "the address of v 1.0.0 is that of another version", "--format text sources.json"),
+     gives(1, "the address of v 1.0.0 is that of another version", "--sources --format text sources.json")),
+    ("--registry <URL> Also --sources, and write each package whose address is below no URL that is given here.",
+     gives(1, "n 1.0.0 has no integrity", "--registry https://r --format text sources.json"),
+     gives(1, "the address of r 1.0.0 is below no registry", "--registry https://r --format text sources.json"),
+     lacks("below no registry", "--sources --format text sources.json")),
+    ("May be given several times.", lacks("the address of r 1.0.0", "--registry https://r --registry=https://s/ --format text sources.json")),
+    ("--advisories <FILE> Also write each installed package that a security advisory of this file hits, and a version that none hits.",
      gives(1, "a 2.0.0 is hit by low (low); 2.0.1 is not", "--advisories low.json --format text")),
     ("The file is in OSV's form, or in that of npm's bulk endpoint.", gives(1, "is hit by O", "--advisories osv.json --format text"),
      gives(1, "is hit by high", "--advisories high.json --format text")),
-    ("--severity LEVEL Leave out advisories that are less severe: info, low, moderate, high or critical.",
+    ("--allow-no-advisories The file of advisories may have none.", gives(1, "0 hit, 0 advisories read", "--advisories none.json --allow-no-advisories")),
+    ("Without this option such a file is an error.", gives(2, "the file has no advisory", "--advisories none.json")),
+    ("--severity <LEVEL> Leave out advisories that are less severe: info, low, moderate, high or critical.",
      *[lacks(f"hit by {level}", f"--advisories {level}.json --severity {above} --format text") for level, above in zip(LEVELS, LEVELS[1:])],
      *[gives(1, f"hit by {level}", f"--advisories {level}.json --severity {level} --format text") for level in LEVELS[1:]]),
     ("The default is info, which leaves none out.", gives(1, "hit by info", "--advisories info.json --format text"),
      alike("--advisories info.json", "--advisories info.json --severity info")),
-    ("--exceptions FILE Leave out each advisory that FILE excepts for a package, and write the package and the reason on standard error.",
+    ("--exceptions <FILE> Leave out each advisory that FILE excepts for a package, and write the package and the reason on standard error.",
      lacks("a 2.0.0 is hit by low (low)", "--advisories low.json --exceptions low.toml --format text"),
      gives(1, "excepted: a 2.0.0 is hit by low: why (node_modules/a)", "--advisories low.json --exceptions low.toml --format text"),
      gives(1, "a 2.0.0 is hit by low (low)", "--advisories low.json --exceptions high.toml --format text")),
@@ -120,16 +160,7 @@ SENTENCES = [
     ("An exception that is used up, or that applies to nothing, is written there too.",
      gives(1, "exception: low of a is used up, since its last day was 2020-01-01: why", "--advisories low.json --exceptions over.toml"),
      gives(1, "exception: high of a applies to nothing: why", "--advisories low.json --exceptions high.toml")),
-    ("--omit GROUP Leave out the packages that npm ci --omit GROUP does not install, and what is in that group of dependencies: dev or optional.",
-     gives(1, "2 problems, 0 not checked, 3 hit", "groups.json --advisories all.json"), lacks('"name":"d"', "groups.json --advisories all.json --omit dev"),
-     gives(1, "1 problems, 0 not checked, 2 hit, 1 packages omitted", "groups.json --advisories all.json --omit dev"),
-     lacks('"name":"o"', "groups.json --advisories all.json --omit optional"),
-     gives(1, "1 problems, 0 not checked, 2 hit, 1 packages omitted", "groups.json --advisories all.json --omit optional")),
-    ("May be given several times.", gives(0, "0 problems, 0 not checked, 0 hit, 3 packages omitted", "groups.json --advisories all.json --omit dev --omit=optional")),
-    ("--unchecked Also list what is not checked, and why: dependencies, manifests and workspaces.",
-     gives(1, "t 1.0.0 is not checked against latest, which the root asks for: a tag", "--unchecked --format text"),
-     lacks("against latest", "--format text"), gives(1, "../outer/package.json is not read: ", "--manifest package.json --unchecked --format text")),
-    ("--format FORMAT text: write each problem as a sentence.", gives(1, "gone is not installed", "--format text")),
+    ("--format <FORMAT> text: write each problem as a sentence.", gives(1, "gone is not installed", "--format text")),
     ("json: write it as a JSON object.", gives(1, '"name":"gone","optional":false,"peer":false,"problem":"missing"', "--format json")),
     ("github: write it as an annotation of GitHub Actions.",
      gives(1, "::error file=lock.json,line=1,col=85::gone is not installed", "--format github lock.json")),
@@ -143,17 +174,18 @@ SENTENCES = [
      gives(1, "lock.json, line 1, column 85<", "--format junit lock.json"), gives(1, "line=1,col=85::gone", "--format github"),
      gives(1, '"startLine":1,"startColumn":85', "--format sarif")),
     ("The default is text if standard output is a terminal, and json if not.", alike("", "--format json")),
-    ("--ignore KIND Leave out problems of this kind: group (package.json and the lock file do not ask for the same), missing, invalid, peer-local or engine.",
-     lacks("a in dependencies", "--manifest package.json --ignore group --format text"), lacks("gone is", "--ignore missing --format text"),
-     lacks("satisfy ^1", "--ignore invalid --format text"), lacks("as a peer", "--ignore peer-local --format text"),
-     lacks(">=21", "--node 20 --ignore engine --format text"), gives(1, "as a peer", "--ignore engine --format text")),
-    ("May be given several times.", gives(0, "0 problems", OTHERS)),
-    ("-h, --help Write this text.", alike("-h", "--help"), gives(0, "-h, --help", "-h")),
-    ("-V, --version Write the version of this program.", gives(0, f"npm_lock_check {open(os.path.join(programs.ROOT, 'VERSION')).read()}", "-V"), alike("-V", "--version")),
+    ("-h, --help Print help", alike("-h", "--help"), gives(0, "-h, --help", "-h")),
+    ("-V, --version Print version", gives(0, f"npm_lock_check {open(os.path.join(programs.ROOT, 'VERSION')).read()}", "-V"), alike("-V", "--version")),
+    ("The value of an option may also be in the same word, as in --node=20.", alike("--node 20", "--node=20")),
+    ("If an option is given twice, its last value counts.", alike("--node 1 --node 20.1.0", "--node 20.1.0")),
+    ("--manifest, --advisories and --exceptions name a file that is read, and are given once.",
+     gives(2, "--manifest", "--manifest package.json --manifest package.json"), gives(2, "--advisories", "--advisories osv.json --advisories osv.json"),
+     gives(2, "--exceptions", "--exceptions low.toml --exceptions low.toml")),
     ("The exit status is 0 if nothing was found, 1 if something was, and 2 if the file was not checked.",
      gives(0, "0 problems", "clean.json"), gives(1, "3 problems", "lock.json"), gives(2, "no such file", "nothing.json")),
     ("With several it is the worst of all: each of the others is checked nevertheless.",
      gives(2, "lock.json: gone is not installed", "nothing.json lock.json clean.json --format text"), gives(1, "0 problems", "lock.json clean.json")),
+    ("Standard error says how many advisories were read.", gives(1, "1 advisories read", "--advisories low.json")),
 ]
 
 
@@ -183,7 +215,7 @@ def shown():
 
 def test_says_this_and_no_more():
     text = re.sub(r"^ *Example: .*\n", "", shown().stdout, flags=re.M)
-    assert re.sub(r"\s+", " ", re.sub(r"^Options:$", "", text, flags=re.M)).strip() == " ".join(sentence for sentence, *_ in SENTENCES)
+    assert re.sub(r"\s+", " ", re.sub(r"^(Arguments|Options):$", "", text, flags=re.M)).strip() == " ".join(sentence for sentence, *_ in SENTENCES)
 
 
 def test_writes_nothing_on_standard_error():
@@ -192,8 +224,8 @@ def test_writes_nothing_on_standard_error():
 
 def test_has_an_example_for_each_option():
     """Below the lines of each option is an example with it."""
-    options = re.split(r"^  (?=-)", shown().stdout, flags=re.M)[1:]
-    assert len(options) == 13
+    options = re.split(r"^  (?:    )?(?=-)", shown().stdout, flags=re.M)[1:-2]
+    assert len(options) == 15
     for text in options:
         (example,) = re.findall(r"^ *Example: npm_lock_check(.*)$", text, re.M)
-        assert re.search(rf" {re.search('--[a-z]+', text)[0]}\b", example), text
+        assert re.search(rf" {re.search('--[a-z-]+', text)[0]}\b", example), text

@@ -94,7 +94,7 @@ def test_hundreds_of_hits(form):
     hits = [{"admitted": "1.0.1", "advisories": [{"id": f"A-{number}", "severity": "low"} for of, number in pairs if of == name],
              "folder": f"node_modules/{name}", "least": "1.0.1", "name": name, "version": "1.0.0"} for name in names]
     check(["--advisories", "advisories.json"], 1, [json.dumps(hit, separators=(",", ":")) for hit in hits],
-          ["252 packages, 251 dependencies, 0 problems, 0 not checked, 251 hit"])
+          ["252 packages, 251 dependencies, 0 problems, 0 not checked, 251 hit, 500 advisories read"])
 
 
 MANY = sorted(f"p{i}" for i in range(2500))

@@ -76,6 +76,9 @@ def test_says_the_same(row, tmp_path, monkeypatch):
     if "error" in row:
         assert (ran.returncode, ran.stdout) == (2, "")
         assert row["error"].startswith("lock: ") <= ran.stderr.endswith(f': {row["error"].removeprefix("lock: ")}\n')
+    elif "unread" in row:
+        assert (ran.returncode, ran.stdout) == (2, "")
+        assert re.findall(r"(?m)^npm_resolve: overrides are not read: (.*)$", ran.stderr) == row["unread"]
     elif ran.returncode in (1, 3) and ran.stdout[:1] != "{":
         assert ran.returncode == (3 if "undecided" in row else 1) and "lockfile" not in row and "packages" not in row
     else:

@@ -13,7 +13,7 @@ from crates import is_program, listed
 from rattle import source
 
 # Libraries that no user calls, and those of which runs of the programs make each call.
-OTHERS = set("""named_calls node_semver_callers json_places findings npm_lock_findings command_lines npm_lock_reports npm_lock_program npm_lock_faults
+OTHERS = set("""named_calls node_semver_callers json_places findings npm_lock_findings command_lines npm_lock_reports npm_lock_faults
     npm_manifest_files advisory_exceptions advisory_exception_files npm_pick_reports version_solving solving_reasons npm_candidates npm_resolve
     npm_resolve_reports npm_flat_locks npm_resolve_laws""".split())
 
@@ -41,6 +41,7 @@ MAKES = {
         npm_packages::rules_in Problem::to_json Unchecked::to_json""",
     "npm_lock::check_any": "npm_packages::place_text",
     "npm_lock::mismatches_of": "Mismatch::to_json",
+    "npm_lock::suspicious_sources": "Source::to_json",
     "npm_advisories::audit_lock": "npm_packages::edges_in Dependents::of_edges npm_advisories::audit Found::to_json",
     "Dependents::of_lock": "Dependents::of_sound_lock",
 }

@@ -47,6 +47,8 @@ def subject(it):
         return 8, {"manifest": it["from"], "workspaces": "workspaces", "root": "the root"}.get(it["unchecked"], it.get("name")), "unchecked"
     if it["problem"] == "group":
         return 7, it["name"], "mismatch"
+    if it["problem"] == "source":
+        return 0, it["folder"], "source"
     return 0, it["name"], it["problem"].replace(" ", "-")
 
 

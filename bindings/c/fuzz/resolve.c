@@ -70,10 +70,11 @@ static bool are_utf8(const struct asked *asked) {
 enum { UNTOLD = 77 };
 
 /* Which answer it is, by how it begins; KINDS for none. */
-enum { SELECTED, LOCK_FILE, NONE, UNDECIDED, KINDS };
+enum { SELECTED, LOCK_FILE, NONE, UNDECIDED, UNREAD, KINDS };
 
 static unsigned kind_of(const char *room, size_t length) {
-    static const char *const begins[] = {"{\"outcome\":\"selected\"", "{\n", "{\"culprits\":", "{\"outcome\":\"undecided\""};
+    static const char *const begins[] = {"{\"outcome\":\"selected\"", "{\n", "{\"culprits\":", "{\"outcome\":\"undecided\"",
+                                         "{\"outcome\":\"unread\""};
     unsigned kind = 0;
     while (kind < KINDS && (length < strlen(begins[kind]) || memcmp(room, begins[kind], strlen(begins[kind])) != 0)) {
         kind++;
@@ -88,6 +89,7 @@ static void check_answer(const struct asked *asked, const char *room, size_t len
     expect(kind < KINDS && room[length - (is_line ? 2 : 1)] == '}', "an answer is an object");
     expect(is_line == (kind == LOCK_FILE), "a lock file alone ends with a newline");
     expect(kind != (asked->options.lock_file ? SELECTED : LOCK_FILE), "what is selected is a lock file exactly if one is asked for");
+    expect(kind != UNREAD || asked->options.lock_file, "rules that are not read refuse a lock file alone");
 }
 
 /* Of a call without a refused request: the status is one of the header's, and nothing is written but what it says. */

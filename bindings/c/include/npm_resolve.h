@@ -109,7 +109,10 @@ typedef struct npm_resolve_options {
  * can be met; it is null if there is none, or if it takes more steps to find it. The last object says that the steps were used
  * up; if they were used up after `none` was known, `culprits` is null. The object may get more members. With `lock_file` the
  * answer is the text of a package-lock.json of version 3 instead, if versions fit together. It begins with a brace and a
- * newline, and the object with a brace and a quote.
+ * newline, and the object with a brace and a quote. If rules in `overrides` are not read, which npm reads, there is no lock
+ * file, but an object with the names of these rules:
+ *
+ *     {"outcome":"unread","overrides":["a"]}
  *
  * It is written to the room of `size` bytes if it fits, without a zero at the end; else the room stays as it was. `*length` is
  * its length in either case, and the call may be made again with a room of so many bytes. On any other status than

@@ -45,6 +45,7 @@ module.exports = {
     add,
     listOf,
     apply: Reflect.apply,
+    numberOf: Number,
     ofCodes: String.fromCharCode,
     codeAt: plain(String.prototype.charCodeAt),
     fill: plain(typedArray.fill),

@@ -1,6 +1,6 @@
 // SPDX-License-Identifier: Apache-2.0
 // All words of an operator, a blank, marks and a partial, and all hyphen ranges of two such partials: each function of ranges
-// returns what npm's returns, or a row of the README's table covers the text. JavaScript divides a text into words, and goes by
+// returns what npm's returns, or a rule covers the text. JavaScript divides a text into words, and goes by
 // their texts: this is every way in which a mark can stand before a partial.
 // MARKS_SEED and MARKS_PAIRS: how many made pairs of such words beside them, each with more functions.
 'use strict';

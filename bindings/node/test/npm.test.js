@@ -1,13 +1,11 @@
 // SPDX-License-Identifier: Apache-2.0
-// Every function on generated texts, here and in npm's `semver`: the two agree, or a row of the README's table of
-// differences covers the texts. Texts that differ are made as small as they get first, and the row must cover
-// those. Two generators make the texts: one by the grammar, and one that changes texts as people write them.
+// Every function on generated texts, here and in npm's `semver`: the two agree, or a rule covers the texts. Texts that differ are made as
+// small as they get first, and the rule must cover those. Two generators make the texts: one by the grammar, and one that changes texts
+// as people write them.
 // NPM_PAIRS: how many pairs of a version and a range each generator makes, 10,000 if it is not set; NPM_SEED: others.
 'use strict';
 
 const assert = require('node:assert');
-const fs = require('node:fs');
-const path = require('node:path');
 const { test } = require('node:test');
 const { inspect } = require('node:util');
 const { isMainThread, parentPort, Worker, workerData } = require('node:worker_threads');
@@ -29,12 +27,7 @@ const THREADS = 4;
 const SHOWN = Number(process.env.NPM_SHOWN ?? 20);
 const GENERATORS = { grammar: Texts, edits: Edited };
 
-// The table of the README, a row for each rule.
-const escaped = (text) => text.replaceAll('|', '\\|');
-const value = (result) => `\`${typeof result === 'string' ? `'${escaped(result)}'` : result}\``;
-const quoted = (texts) => texts.map((text) => inspect(text)).join(', ');
-const codeOf = ({ example: [call, ...texts] }) => `${call}(${quoted(texts)})`;
-const row = (rule) => `${rule.name} | \`${escaped(codeOf(rule))}\` | ${value(rule.npm)} | ${value(rule.here)}`;
+const codeOf = ({ example: [call, ...texts] }) => `${call}(${texts.map((text) => inspect(text)).join(', ')})`;
 
 function pair(texts) {
     return {
@@ -111,11 +104,7 @@ function checkRules() {
 
 const plain = (result) => result?.version ?? result ?? null;
 
-function checkReadme() {
-    const readme = fs.readFileSync(path.join(__dirname, '../README.md'), 'utf8');
-    const begin = readme.indexOf('text | call | npm | here\n');
-    const table = readme.slice(begin).split('\n\n')[0].split('\n').slice(2);
-    assert.deepStrictEqual(table, rules.map(row));
+function checkExamples() {
     const call = (semver, { example }) => plain(semver[example[0]](...example.slice(1)));
     for (const rule of rules) {
         assert.strictEqual(call(npm, rule), rule.npm, `npm: ${codeOf(rule)}`);
@@ -129,7 +118,7 @@ if (isMainThread) {
             comparePairs(name));
     }
     test('each rule covers a text', checkRules);
-    test('each row of the table of the README is a rule, and its example is so', checkReadme);
+    test('the example of each rule is so', checkExamples);
 } else {
     parentPort.postMessage(compared(workerData));
 }

@@ -35,12 +35,14 @@ function errorOf(error) {
 }
 
 // An answer as a row has it.
-function told({ outcome, packages, lockfile, culprits }) {
+function told({ outcome, packages, lockfile, culprits, overrides }) {
     switch (outcome) {
     case 'selected':
         return lockfile ? { lockfile } : { packages: packages.map((one) => [one.name, one.package, one.version]) };
     case 'none':
         return { culprits: culprits?.map((one) => [one.name, one.spec, one.needed, one.document, one.would_fit]) };
+    case 'unread':
+        return { unread: overrides };
     default:
         return { [outcome]: true };
     }

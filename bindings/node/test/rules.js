@@ -1,7 +1,7 @@
 // SPDX-License-Identifier: Apache-2.0
-// Where this package differs from npm's `semver`: the rows of the README's table. Each has a predicate of the texts
+// Where this package differs from npm's `semver`, as docs/DIFFERENCES.md has it. Each rule has a predicate of the texts
 // that it is about: `version` of a version text, `range` of a range text as npm trims it, and of its options. It is called
-// with the smallest texts that differ, so it describes those and no more. `calls` are the functions that a row
+// with the smallest texts that differ, so it describes those and no more. `calls` are the functions that a rule
 // is about, where it is not about all. `example` is a call, and `why` the reason, for readers of this file.
 'use strict';
 
@@ -108,7 +108,7 @@ const rules = [
 
 const isLoose = (options) => options === true || options?.loose === true;
 
-// Whether a row of ranges covers a range text, as npm trims it, that is read with these options.
+// Whether a rule of ranges covers a range text, as npm trims it, that is read with these options.
 const coversRange = ({ range }, text, options) => range(text, isLoose(options), options ?? {});
 
 const trimmed = (range) => range.trim().split(/\s+/).join(' ');

@@ -61,6 +61,7 @@ const selected: string[] = resolution.outcome === 'selected' ? resolution.packag
 const lock: resolve.LockResolution = resolve({}, {}, { flat: true, lowest: false, nodeVersion: 'v20.1.0', lockfile: true,
     lock: { lockfileVersion: 3, packages: { 'node_modules/one': { version: '1.0.0' } } } });
 const lockText: string = lock.outcome === 'selected' ? lock.lockfile : '';
+const unread: string[] = lock.outcome === 'unread' ? lock.overrides : [];
 const blamed: string[] = resolution.outcome === 'none' ? (resolution.culprits ?? []).map(({ name, spec }) => `${name}@${spec}`) : [];
 function faultOf(error: resolve.ResolveError): string | undefined {
     return error.code === 'EINVALIDOPTION' ? error.message : error.code;

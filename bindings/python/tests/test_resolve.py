@@ -39,7 +39,7 @@ def told(answer: Union[Resolution, LockResolution]) -> Dict[str, Any]:
         culprits = members["culprits"] or []
         parts = ["name", "spec", "needed", "document", "would_fit"]
         return {"culprits": [[one[part] for part in parts] for one in culprits]}
-    return {members["outcome"]: True}
+    return {members["outcome"]: members.get("overrides", True)}
 
 
 def asked(row: Dict[str, Any]) -> List[Any]:
@@ -66,7 +66,7 @@ def version_of(**options: Any) -> str:
 
 class Resolve(unittest.TestCase):
     def check(self, row: Dict[str, Any], *given: Any) -> None:
-        expected = {name: row[name] for name in ("packages", "lockfile", "culprits", "undecided") if name in row}
+        expected = {name: row[name] for name in ("packages", "lockfile", "culprits", "undecided", "unread") if name in row}
         if "lockfile" in expected:
             expected["lockfile"] = json.dumps(expected["lockfile"], indent=2, ensure_ascii=False) + "\n"
         if "error" not in row:

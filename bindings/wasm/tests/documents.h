@@ -12,6 +12,18 @@ static void clear(struct text *text) {
     text->length = 0;
 }
 
+/* A text of a row of the tests for C. */
+struct string {
+    const char *bytes;
+    size_t length;
+};
+
+static void set(struct text *text, struct string from) {
+    for (text->length = 0; text->length < from.length; text->length++) {
+        text->bytes[text->length] = from.bytes[text->length];
+    }
+}
+
 /* A key of a version, few of which differ; a rare one is none. */
 static void add_key(struct text *text) {
     static const char *const numbers[] = {"0", "1", "1", "2", "2", "3"};

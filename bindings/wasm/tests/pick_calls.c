@@ -1,5 +1,5 @@
 /* SPDX-License-Identifier: Apache-2.0 */
-/* Makes calls of npm_pick_version, and writes what each gave: as calls.c does for node_semver.h. */
+/* Makes calls of npm_pick_version, of the rows of the tests for C and then of made texts, and writes what each gave. */
 #include "documents.h"
 
 /* As the proved code has it: a `size_t` in memory takes 8 bytes. */
@@ -11,6 +11,19 @@ struct picked {
 #define TEXT const char *, size_t
 
 uint32_t npm_pick_version(TEXT, TEXT, TEXT, TEXT, TEXT, TEXT, TEXT, bool, bool, char *, size_t, struct picked *);
+#undef TEXT
+
+struct row {
+    struct string document, wanted;
+    struct {
+        struct string default_tag, avoid, before, node, npm;
+        bool avoid_strict, include_staged;
+    } options;
+};
+
+#define NO_OPTIONS { NO_TEXT, NO_TEXT, NO_TEXT, NO_TEXT, NO_TEXT, false, false }
+#define ROW(document, wanted, options, status, answer) {document, wanted, options},
+#include "../../c/tests/pick/rows.h"
 
 static struct text document, wanted, tag, avoid, before, node, npm;
 static bool avoid_strict, include_staged;
@@ -68,6 +81,17 @@ static void pick(void) {
     }
 }
 
+static void make_rows(void) {
+    for (size_t i = 0; i < sizeof ROWS / sizeof *ROWS; i++) {
+        const struct row *row = &ROWS[i];
+        set(&document, row->document), set(&wanted, row->wanted);
+        set(&tag, row->options.default_tag), set(&avoid, row->options.avoid), set(&before, row->options.before);
+        set(&node, row->options.node), set(&npm, row->options.npm);
+        avoid_strict = row->options.avoid_strict, include_staged = row->options.include_staged, size = sizeof room;
+        make("row", pick);
+    }
+}
+
 static void add_tag(struct text *text) {
     static const char *const tags[] = {"next", "latest", "none"};
     add(text, ONE_OF(tags));
@@ -75,6 +99,7 @@ static void add_tag(struct text *text) {
 
 void run(uint32_t count) {
     seed = 2;
+    make_rows();
     for (uint32_t i = 0; i < count; i++) {
         clear(&document), add_document(&document);
         if (below(10) == 0) {

@@ -11,6 +11,7 @@ use Rattle.npm_advisories.specs.Faults.{FaultValue, fault_at, list_fault}
 use Rattle.npm_advisories.specs.Ids.{IdValue, id_in}
 use Rattle.npm_advisories.specs.Lemmas.Items.{left}
 use Rattle.npm_advisories.specs.OsvFaults.{osv_fault, osv_list_fault}
+use Rattle.toml_datetime.specs.declared.datetime.Date.{Date}
 use Rattle.npm_advisories.specs.OsvPackages.{told_name}
 use Rattle.npm_advisories.specs.Private.Reading.{IsErrorAt, IsErrorOf, IsUnreadAs, at_place}
 use Rattle.npm_advisories.specs.Private.VersionTest.{is_version}
@@ -54,21 +55,21 @@ module _ (name : List ℕ) (entries : List Value) (i : ℕ) (one : Value) (lt : 
       ∙ sym (append_assoc front (npm_advisory name (view one) ∷ []) (npm_list name (items_view (drop (i + 1) entries))))
 
 -- the objects of a list, one after another
-module _ (entries : List Value) (i : ℕ) (one : Value) (lt : i < length entries)
+module _ (today : Date) (entries : List Value) (i : ℕ) (one : Value) (lt : i < length entries)
     (is_at : one ≡ get_or entries i one) where
   -- one object without a fault
   pub osv-passed : (is_wanted : List ℕ → Bool) (whole : Option FaultValue)
-      → osv_fault is_version is_wanted (view one) ≡ None
-      → whole ≡ osv_list_fault is_version is_wanted i (items_view (drop i entries))
-      → whole ≡ osv_list_fault is_version is_wanted (i + 1) (items_view (drop (i + 1) entries))
+      → osv_fault today is_version is_wanted (view one) ≡ None
+      → whole ≡ osv_list_fault today is_version is_wanted i (items_view (drop i entries))
+      → whole ≡ osv_list_fault today is_version is_wanted (i + 1) (items_view (drop (i + 1) entries))
   osv-passed is_wanted whole none before =
-      before ∙ ap (osv_list_fault is_version is_wanted i) (left entries i one lt is_at) ∙ (rw none refl)
+      before ∙ ap (osv_list_fault today is_version is_wanted i) (left entries i one lt is_at) ∙ (rw none refl)
 
   -- the first one with a fault
   pub osv-found : (is_wanted : List ℕ → Bool) (whole : Option FaultValue) (error : AuditError)
       → IsErrorOf (at_place (told_name is_wanted (view one)) i (id_in (view one))
-      (osv_fault is_version is_wanted (view one))) error
-      → whole ≡ osv_list_fault is_version is_wanted i (items_view (drop i entries)) → IsErrorOf whole error
+      (osv_fault today is_version is_wanted (view one))) error
+      → whole ≡ osv_list_fault today is_version is_wanted i (items_view (drop i entries)) → IsErrorOf whole error
   osv-found is_wanted whole (Errors.Refused at) is before =
-      before ∙ ap (osv_list_fault is_version is_wanted i) (left entries i one lt is_at) ∙ (rw is refl)
+      before ∙ ap (osv_list_fault today is_version is_wanted i) (left entries i one lt is_at) ∙ (rw is refl)
   osv-found is_wanted whole Errors.Memory is before = tt

@@ -2,16 +2,23 @@
 use Rattle.std.specs.Prelude.{ℕ, List, [], ◌∷◌, ◌++◌, Option, option_and_then, option_map, unwrap_or, codes, bytes_eq}
 use Rattle.std.specs.Prelude.{filter, true}
 use Rattle.std.specs.Option.{option_map_or}
-use Rattle.serde_json.specs.Data.{Data, Items, Members, item, member, no_items, no_members, null}
-use Rattle.serde_json.specs.View.{view}
+use Rattle.serde_json.specs.Data.{Data, Items, Members, item, member, no_items, no_members, null, string}
+use Rattle.serde_json.specs.View.{items_view, view}
 use Rattle.serde_json.specs.Find.{as_array, as_str, get}
+use Rattle.npm_texts.specs.Texts.{rest_after}
 use Rattle.npm_semver.specs.NpmRanges.{NpmOptions, NpmTextAdmits, with_plain_spaces}
 use Rattle.node_semver.specs.Versions.{VersionValue}
 use Rattle.npm_advisories.specs.OsvRanges.{EventValue, IsInOsv}
 use Rattle.npm_advisories.specs.Severities.{severity_of_text}
 use Rattle.npm_advisories.specs.declared.advisory.About.{About}
+use Rattle.npm_advisories.specs.declared.known.Aliases.{Aliases}
+use Rattle.npm_advisories.specs.declared.known.Aliases.TheVariants.{Address, Listed}
 use Rattle.npm_advisories.specs.declared.severity.Severity.{Severity}
 use Rattle.npm_advisories.specs.declared.severity.Severity.TheVariants.{Unknown}
+
+-- a text as an item, if there is one
+abbrev pub alias_item : Option (List ℕ) → Items
+alias_item text = option_map_or (λ text. item (string text) no_items) text no_items
 
 -- what an advisory says of itself: `id` is a number or a text
 pub record AboutValue : Type 0 where
@@ -19,6 +26,12 @@ pub record AboutValue : Type 0 where
   pub severity : Severity
   pub title : Option (List ℕ)
   pub url : Option (List ℕ)
+  pub aliases : Items
+
+-- the strings among these are its aliases
+abbrev pub aliases_items : Aliases → Items
+aliases_items (Address text) = alias_item (option_map (λ text. text.now) text)
+aliases_items (Listed values) = items_view values.now
 
 -- what an advisory says of itself, as a contract sees it
 abbrev pub about_value : About → AboutValue
@@ -27,6 +40,7 @@ about_value about = record {
   severity = about.severity;
   title = option_map (λ text. text.now) about.title;
   url = option_map (λ text. text.now) about.url;
+  aliases = aliases_items about.aliases;
 }
 
 -- the versions that an advisory is about: a range text in npm's form; the events of ranges, and versions, in OSV's
@@ -61,13 +75,18 @@ text_of key entry = option_and_then as_str (get key entry)
 abbrev pub severity_of_option : Option (List ℕ) → Severity
 severity_of_option text = option_map_or severity_of_text text Unknown
 
--- `id`, `severity`, `title` and `url` of an advisory in npm's form
+-- the id in an address on GitHub: `GHSA-jf85-cpcp-j695` in `https://github.com/advisories/GHSA-jf85-cpcp-j695`
+abbrev pub id_in_url : (url : Option (List ℕ)) → Option (List ℕ)
+id_in_url url = option_and_then (rest_after (codes "https://github.com/advisories/")) url
+
+-- `id`, `severity`, `title` and `url` of an advisory in npm's form, and the id in its `url`
 abbrev pub npm_about : (entry : Data) → AboutValue
 npm_about entry = record {
   id = unwrap_or (get (codes "id") entry) null;
   severity = severity_of_option (text_of (codes "severity") entry);
   title = text_of (codes "title") entry;
   url = text_of (codes "url") entry;
+  aliases = alias_item (id_in_url (text_of (codes "url") entry));
 }
 
 -- the range text of an advisory in npm's form: all versions if none is there, or `null`

@@ -20,6 +20,7 @@ pub mod VersionTest  -- a test for the texts of versions
 pub mod ReadVersions  -- how the text of a version is read
 pub mod OsvRanges  -- which versions the ranges of OSV's form have
 pub mod Advisories  -- what an advisory says, and which versions it is about; npm's form
+pub mod KnownIds  -- by which ids an advisory is known
 pub mod Timestamps  -- times
 pub mod OsvForm  -- OSV's form
 -- ---- what is wrong with an advisory

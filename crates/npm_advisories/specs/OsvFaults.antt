@@ -12,7 +12,8 @@ use Rattle.npm_advisories.specs.OsvForm.{event_of, has_versions, is_ordered, is_
 use Rattle.npm_advisories.specs.OsvPackages.{affected_list_fault, concerns, is_about_wanted, package_fault, told_name}
 use Rattle.npm_advisories.specs.OsvRanges.{EventValue, fixed, introduced, last_affected, limit}
 use Rattle.npm_advisories.specs.ReadVersions.{is_read}
-use Rattle.npm_advisories.specs.Timestamps.{is_timestamp}
+use Rattle.npm_advisories.specs.Timestamps.{day_of}
+use Rattle.toml_datetime.specs.declared.datetime.Date.{Date}
 use Rattle.npm_advisories.specs.declared.fault.FaultKind.{FaultKind}
 use Rattle.npm_advisories.specs.declared.fault.FaultKind.TheVariants as Faults
 
@@ -22,7 +23,7 @@ osv_id_fault entry = if is_some (text_of (codes "id") entry) then None else Some
 
 abbrev pub withdrawn_fault : (entry : Data) → Option FaultKind
 withdrawn_fault entry = option_or (text_fault (codes "withdrawn") Faults.Withdrawn entry) (option_and_then
-    (λ text. if is_timestamp text then None else Some Faults.Withdrawn) (text_of (codes "withdrawn") entry))
+    (λ text. if is_some (day_of text) then None else Some Faults.Withdrawn) (text_of (codes "withdrawn") entry))
 
 -- a range has one of the three types
 abbrev pub type_fault : (range : Data) → Option FaultKind
@@ -101,11 +102,12 @@ module _ (is_version is_wanted : List ℕ → Bool) where
   affected_fault one = option_or (package_fault one) (if is_about_wanted is_wanted one
       then element_fault is_version one else None)
 
+module _ (today : Date) (is_version is_wanted : List ℕ → Bool) where
   -- nor is an object about no wanted package; a withdrawn one needs no `affected`
   abbrev pub osv_fault : (entry : Data) → Option FaultKind
   osv_fault entry = if is_some (as_object entry) then (if concerns is_wanted entry
-      then option_or (osv_id_fault entry) (option_or (withdrawn_fault entry) (if is_withdrawn entry then None
-      else option_or (affected_list_fault entry) (first_fault affected_fault (items_at (codes "affected") entry))))
+      then option_or (osv_id_fault entry) (option_or (withdrawn_fault entry) (if is_withdrawn today entry then None
+      else option_or (affected_list_fault entry) (first_fault (affected_fault is_version is_wanted) (items_at (codes "affected") entry))))
       else None) else Some Faults.Advisory
 
   -- the first fault of a list of objects, from this place on

@@ -1,15 +1,20 @@
 -- Advisories in OSV's form: the fields of the OSV schema.
 use Rattle.std.specs.Prelude.{ℕ, List, [], ◌∷◌, ◌++◌, ◌||◌, Bool, false, if◌then◌else◌, Option, Some, None, bytes_eq, codes}
-use Rattle.std.specs.Prelude.{option_and_then, option_map, unwrap_or}
+use Rattle.std.specs.Prelude.{not, option_and_then, option_map, unwrap_or}
 use Rattle.std.specs.Option.{option_map_or}
 use Rattle.serde_json.specs.Data.{Data, Items, item, no_items, null}
 use Rattle.serde_json.specs.Find.{as_array, as_str, at, get}
 use Rattle.npm_advisories.specs.Advisories.{AboutValue, Affected, AdvisoryValue, in_osv, severity_of_option, text_of}
 use Rattle.npm_advisories.specs.OsvRanges.{EventValue, fixed, introduced, last_affected, limit}
 use Rattle.npm_advisories.specs.Severities.{is_word}
-use Rattle.npm_advisories.specs.Timestamps.{is_timestamp}
+use Rattle.npm_advisories.specs.Timestamps.{day_of, is_before}
+use Rattle.toml_datetime.specs.declared.datetime.Date.{Date}
 
 -- ---- what an advisory says of itself
+
+-- the items of a member that is a list
+abbrev pub items_at : (key : List ℕ) → (entry : Data) → Items
+items_at key entry = unwrap_or (option_and_then as_array (get key entry)) no_items
 
 -- `severity` of `database_specific`, where GitHub's database has a word; `Unknown` if none is there
 abbrev pub osv_severity : (entry : Data) → Option (List ℕ)
@@ -19,20 +24,17 @@ osv_severity entry = option_and_then (text_of (codes "severity")) (get (codes "d
 abbrev pub osv_url : (entry : Data) → Option (List ℕ)
 osv_url entry = option_and_then (text_of (codes "url")) (option_and_then (at 0) (get (codes "references") entry))
 
--- `id`, the severity, `summary` and the first `url`
+-- `id`, the severity, `summary`, the first `url`, and `aliases`
 abbrev pub osv_about : (entry : Data) → AboutValue
 osv_about entry = record {
   id = unwrap_or (get (codes "id") entry) null;
   severity = severity_of_option (osv_severity entry);
   title = text_of (codes "summary") entry;
   url = osv_url entry;
+  aliases = items_at (codes "aliases") entry;
 }
 
 -- ---- one element of `affected`
-
--- the items of a member that is a list
-abbrev pub items_at : (key : List ℕ) → (entry : Data) → Items
-items_at key entry = unwrap_or (option_and_then as_array (get key entry)) no_items
 
 -- The name, if the ecosystem is npm: `a` of `{"package": {"ecosystem": "npm", "name": "a"}}`. GitHub's service writes `NPM`
 abbrev pub name_in : (named : Data) → Option (List ℕ)
@@ -85,9 +87,10 @@ osv_affected one = in_osv (ranges_of (items_at (codes "ranges") one)) (texts_of 
 
 -- ---- all of a file
 
--- an advisory that was taken back: `withdrawn` says when
-abbrev pub is_withdrawn : (entry : Data) → Bool
-is_withdrawn entry = option_map_or is_timestamp (text_of (codes "withdrawn") entry) false
+-- An advisory that was taken back, today or earlier: `withdrawn` says when. One that is taken back on a later day counts until then
+abbrev pub is_withdrawn : (today : Date) → (entry : Data) → Bool
+is_withdrawn today entry =
+    option_map_or (λ day. not (is_before today day)) (option_and_then day_of (text_of (codes "withdrawn") entry)) false
 
 -- one for each element of `affected` about a package of npm
 abbrev pub affected_list : (about : AboutValue) → Items → List AdvisoryValue
@@ -97,11 +100,11 @@ affected_list about (item one others) = option_map_or
     ++ affected_list about others
 
 -- those of an OSV object; none if it is withdrawn
-abbrev pub osv_advisories : (entry : Data) → List AdvisoryValue
-osv_advisories entry =
-    if is_withdrawn entry then [] else affected_list (osv_about entry) (items_at (codes "affected") entry)
+abbrev pub osv_advisories : (today : Date) → (entry : Data) → List AdvisoryValue
+osv_advisories today entry =
+    if is_withdrawn today entry then [] else affected_list (osv_about entry) (items_at (codes "affected") entry)
 
 -- those of a list of OSV objects
-abbrev pub osv_list : Items → List AdvisoryValue
-osv_list no_items = []
-osv_list (item entry others) = osv_advisories entry ++ osv_list others
+abbrev pub osv_list : (today : Date) → Items → List AdvisoryValue
+osv_list today no_items = []
+osv_list today (item entry others) = osv_advisories today entry ++ osv_list today others

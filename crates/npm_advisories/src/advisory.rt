@@ -15,9 +15,11 @@ ghost use Rattle.npm_advisories.specs.Private.Reading.{IsUnreadAs};
 
 use crate::Result;
 use crate::fault::{FaultKind, Unread};
+use crate::known::Aliases;
 use crate::severity::Severity;
 use node_semver::{Range, Version, VersionRef};
 use npm_semver::NpmOptions;
+use npm_texts::rest_after;
 use semver_cuts::Span;
 use serde_json::Value;
 use std::alloc::Global;
@@ -30,6 +32,7 @@ pub struct About<'v> {
     pub severity: Severity,
     pub title: Option<&'v str>,
     pub url: Option<&'v str>,
+    pub aliases: Aliases<'v>,
 }
 
 /// An advisory about some versions of a package.
@@ -129,7 +132,16 @@ fn npm_about<'v>(entry: &'v Value, id: &'v Value) -> Result<About<'v>, FaultKind
         severity: severity_of(severity),
         title,
         url,
+        aliases: Aliases::Address(id_in_url(url)),
     })
+}
+
+/// The id in an address on GitHub, if it is one.
+fn id_in_url(url: Option<&str>) -> Option<&str>
+    ensures { option_map (λ id. id.now) result
+        ≡ Advisories.id_in_url (option_map (λ url. url.now) url.entry) }
+{
+    rest_after(url?, "https://github.com/advisories/")
 }
 
 pub(crate) fn severity_of(text: Option<&str>) -> Severity

@@ -20,6 +20,7 @@ use crate::{About, AuditError, Result, Severity};
 use node_semver::Version;
 use serde_json::Value;
 use std::alloc::Global;
+use toml_datetime::Date;
 
 /// An installed package.
 #[derive(Drop)]
@@ -53,6 +54,8 @@ pub struct Found<'f, 'v> {
 /// are less severe than the level are left out of the hits. An advisory whose severity is unknown is never left out. The
 /// offered versions are hit by none of them, whatever the severity.
 ///
+/// An advisory in OSV's form that is withdrawn today or earlier hits nothing. One that is withdrawn on a later day counts until then.
+///
 /// A version is read as npm reads it: `=1.2.3` is 1.2.3. A version that is none is hit by each advisory about the name, since
 /// nobody knows which one it is. Then the least releases of all are offered.
 ///
@@ -70,17 +73,18 @@ pub struct Found<'f, 'v> {
 pub fn audit<'f, 'v>(
     alloc: Global,
     file: &'f Value,
+    today: Date,
     level: Severity,
     installed: &[Installed<'v>],
 ) -> Result<Vec<Found<'f, 'v>>, AuditError<'f>>
-    ensures found { IfOk result (λ found. IsAudit level (advisories_of (view file.now))
+    ensures found { IfOk result (λ found. IsAudit level (advisories_of today (view file.now))
         (map installed_value installed.now) (map found_value found.items)) }
-    ensures sound { OnOk result (IsFileFault (names_of (map installed_value installed.now)) (view file.now) None) }
+    ensures sound { OnOk result (IsFileFault today (names_of (map installed_value installed.now)) (view file.now) None) }
     ensures refused { IfErr result
-        (IsAuditError (names_of (map installed_value installed.now)) (view file.now)) }
+        (IsAuditError today (names_of (map installed_value installed.now)) (view file.now)) }
 {
     let names = names_of(alloc, installed)?;
-    let index = read_file(alloc, &names, file)?;
+    let index = read_file(alloc, today, &names, file)?;
     Ok(found_in(alloc, &index, level, installed)?)
 }
 

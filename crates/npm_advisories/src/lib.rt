@@ -10,6 +10,7 @@ mod hits;
 mod id;
 mod index;
 mod json;
+mod known;
 mod lock;
 mod member;
 mod names;
@@ -28,9 +29,11 @@ pub use advisory::About;
 pub use fault::{AuditError, Fault, FaultKind};
 pub use found::{Found, Installed, audit};
 pub use id::AdvisoryId;
+pub use known::Aliases;
 pub use lock::{LockError, audit_lock, audit_sound_lock};
 pub use severity::Severity;
 pub use steps::fault_steps;
+pub use toml_datetime::Date;
 
 /// The result of what fails by memory alone, if no other error is named.
 type Result<T, E = std::alloc::AllocError> = std::result::Result<T, E>;

@@ -9,6 +9,7 @@ ghost use Rattle.npm_packages.specs.Faults.{lock_fault};
 ghost use Rattle.npm_advisories.specs.Audit.{InstalledValue, IsAudit, found_value, installed_value};
 ghost use Rattle.npm_advisories.specs.Files.{advisories_of};
 ghost use Rattle.npm_advisories.specs.LockFaults.{IsAuditErrorBeside, IsFileFaultBeside, IsLockError};
+ghost use Rattle.toml_datetime.specs.declared.datetime.Date.{Date};
 ghost use Rattle.npm_advisories.specs.LockFile.{AreInstalled, AreInstalledOf, IsInstalledAs, IsName, IsOther, IsUnsaidName};
 
 use crate::found::{Found, Installed, audit};
@@ -17,6 +18,7 @@ use crate::{AuditError, Fault, Result, Severity};
 use npm_packages::{Aliases, CheckError, Dependents, SoundLock, edges_in, end_of, is_link};
 use serde_json::{Map, Value};
 use std::alloc::Global;
+use toml_datetime::Date;
 
 /// Why there is no audit of a lock file.
 #[derive(Debug, Drop, PartialEq, Eq)]
@@ -43,22 +45,23 @@ pub enum LockError<'f> {
 pub fn audit_lock<'f, 'v>(
     alloc: Global,
     file: &'f Value,
+    today: Date,
     level: Severity,
     lock: &'v Value,
 ) -> Result<Vec<Found<'f, 'v>>, LockError<'f>>
     ensures found { IfOk result (λ found. (installed : List InstalledValue)
         × AreInstalledOf (view lock.now) installed
-        × IsAudit level (advisories_of (view file.now)) installed (map found_value found.items)) }
+        × IsAudit level (advisories_of today (view file.now)) installed (map found_value found.items)) }
     ensures lock_sound { OnOk result (lock_fault (view lock.now) ≡ None) }
-    ensures file_sound { OnOk result (IsFileFaultBeside (view lock.now) (view file.now) None) }
-    ensures refused { IfErr result (IsLockError (view lock.now) (view file.now)) }
+    ensures file_sound { OnOk result (IsFileFaultBeside today (view lock.now) (view file.now) None) }
+    ensures refused { IfErr result (IsLockError today (view lock.now) (view file.now)) }
 {
     let lock = match SoundLock::of(alloc, lock) {
         Ok(lock) => lock,
         Err(CheckError::Refused(fault)) => return Err(LockError::Lock(fault)),
         Err(CheckError::Memory) => return Err(LockError::Memory),
     };
-    match audit_sound_lock(file, level, &lock) {
+    match audit_sound_lock(file, today, level, &lock) {
         Ok(found) => Ok(found),
         Err(AuditError::Refused(fault)) => Err(LockError::Advisories(fault)),
         Err(AuditError::Memory) => Err(LockError::Memory),
@@ -73,19 +76,20 @@ pub fn audit_lock<'f, 'v>(
 /// - `Memory`: an allocation failed.
 pub fn audit_sound_lock<'f, 'v>(
     file: &'f Value,
+    today: Date,
     level: Severity,
     lock: &SoundLock<'v>,
 ) -> Result<Vec<Found<'f, 'v>>, AuditError<'f>>
     ensures found { IfOk result (λ found. (installed : List InstalledValue)
         × AreInstalledOf (view lock.now) installed
-        × IsAudit level (advisories_of (view file.now)) installed (map found_value found.items)) }
-    ensures sound { OnOk result (IsFileFaultBeside (view lock.now) (view file.now) None) }
-    ensures refused { IfErr result (IsAuditErrorBeside (view lock.now) (view file.now)) }
+        × IsAudit level (advisories_of today (view file.now)) installed (map found_value found.items)) }
+    ensures sound { OnOk result (IsFileFaultBeside today (view lock.now) (view file.now) None) }
+    ensures refused { IfErr result (IsAuditErrorBeside today (view lock.now) (view file.now)) }
 {
     let Ok(installed) = installed_among(lock) else {
         return Err(AuditError::Memory);
     };
-    match audit(lock.packages().alloc, file, level, &installed) {
+    match audit(lock.packages().alloc, file, today, level, &installed) {
         Ok(found) => Ok(found),
         Err(AuditError::Refused(fault)) => Err(AuditError::Refused(fault)),
         Err(AuditError::Memory) => Err(AuditError::Memory),
@@ -98,7 +102,7 @@ pub(crate) fn installed_in<'f, 'v>(
     lock: &'v Value,
 ) -> Result<Vec<Installed<'v>>, LockError<'f>>
     ensures found { IfOk result (λ installed. AreInstalledOf (view lock.now) (map installed_value installed.items)) }
-    ensures refused { IfErr result (λ error. (file : Data) → IsLockError (view lock.now) file error) }
+    ensures refused { IfErr result (λ error. (today : Date) → (file : Data) → IsLockError today (view lock.now) file error) }
 {
     let lock = match SoundLock::of(alloc, lock) {
         Ok(lock) => lock,

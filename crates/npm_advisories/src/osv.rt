@@ -25,25 +25,28 @@ use crate::Result;
 use crate::advisory::{About, Advisory, severity_of, text_of};
 use crate::fault::{FaultKind, Unread};
 use crate::index::Index;
-use crate::member::text_at;
+use crate::known::Aliases;
+use crate::member::{listed_at, text_at};
 use crate::osv::affected::range_of;
 use crate::osv::packages::{affected_of, concerns, npm_name};
-use crate::osv::timestamp::is_timestamp;
+use crate::osv::timestamp::{day_of, is_before};
 use crate::severity::Severity;
 use crate::wanted::Names;
 use serde_json::Value;
 use std::alloc::Global;
+use toml_datetime::Date;
 
 /// Adds the advisories of an OSV object.
 pub(crate) fn add_osv<'v>(
     alloc: Global,
     index: &mut Index<'v>,
+    today: Date,
     names: &Names<'_>,
     entry: &'v Value,
 ) -> Result<(), Unread>
-    ensures read { OnOk result (Adds (has_name names.now) index.old index.new (Form.osv_advisories (view entry.now))) }
-    ensures sound { OnOk result (Faults.osv_fault is_version (has_name names.now) (view entry.now) ≡ None) }
-    ensures refused { IfErr result (IsUnreadAs (Faults.osv_fault is_version (has_name names.now) (view entry.now))) }
+    ensures read { OnOk result (Adds (has_name names.now) index.old index.new (Form.osv_advisories today (view entry.now))) }
+    ensures sound { OnOk result (Faults.osv_fault today is_version (has_name names.now) (view entry.now) ≡ None) }
+    ensures refused { IfErr result (IsUnreadAs (Faults.osv_fault today is_version (has_name names.now) (view entry.now))) }
 {
     entry
         .as_object()
@@ -52,7 +55,7 @@ pub(crate) fn add_osv<'v>(
         return Ok(());
     }
     let about = osv_about(entry)?;
-    if is_withdrawn(entry)? {
+    if is_withdrawn(entry, today)? {
         return Ok(());
     }
     let affected = affected_of(entry)?;
@@ -73,6 +76,7 @@ fn osv_about(entry: &Value) -> Result<About<'_>, FaultKind>
         severity: severity_in(entry),
         title: text_at(entry, "summary"),
         url: url_in(entry),
+        aliases: Aliases::Listed(listed_at(entry, "aliases")),
     })
 }
 
@@ -93,15 +97,17 @@ fn url_in(entry: &Value) -> Option<&str>
     text_at(entry.get("references")?.get(0)?, "url")
 }
 
-/// Returns `true` if the advisory was taken back.
-fn is_withdrawn(entry: &Value) -> Result<bool, FaultKind>
-    ensures withdrawn { IfOk result (λ is. is ≡ Form.is_withdrawn (view entry.now)) }
+/// Returns `true` if the advisory was taken back, today or earlier.
+fn is_withdrawn(entry: &Value, today: Date) -> Result<bool, FaultKind>
+    ensures withdrawn { IfOk result (λ is. is ≡ Form.is_withdrawn today (view entry.now)) }
     ensures fault { result_err result ≡ Faults.withdrawn_fault (view entry.now) }
 {
-    match text_of(entry, "withdrawn", FaultKind::Withdrawn)? {
-        Some(text) if is_timestamp(text) => Ok(true),
-        Some(_) => Err(FaultKind::Withdrawn),
-        None => Ok(false),
+    let Some(text) = text_of(entry, "withdrawn", FaultKind::Withdrawn)? else {
+        return Ok(false);
+    };
+    match day_of(text) {
+        Some(day) => Ok(!is_before(today, day)),
+        None => Err(FaultKind::Withdrawn),
     }
 }
 

@@ -26,19 +26,21 @@ use crate::wanted::Names;
 use crate::{AdvisoryId, AuditError, Fault, FaultKind, Result};
 use serde_json::Value;
 use std::alloc::Global;
+use toml_datetime::Date;
 
 /// Reads the advisories of a file.
 pub(crate) fn read_file<'v>(
     alloc: Global,
+    today: Date,
     names: &Names<'_>,
     file: &'v Value,
 ) -> Result<Index<'v>, AuditError<'v>>
-    ensures read { IfOk result (IsIndex (has_name names.now) (advisories_of (view file.now))) }
-    ensures sound { OnOk result (file_fault is_version (has_name names.now) (view file.now) ≡ None) }
-    ensures refused { IfErr result (IsErrorOf (file_fault is_version (has_name names.now) (view file.now))) }
+    ensures read { IfOk result (IsIndex (has_name names.now) (advisories_of today (view file.now))) }
+    ensures sound { OnOk result (file_fault today is_version (has_name names.now) (view file.now) ≡ None) }
+    ensures refused { IfErr result (IsErrorOf (file_fault today is_version (has_name names.now) (view file.now))) }
 {
     let mut index = Index::new(alloc);
-    add_file(alloc, &mut index, names, file)?;
+    add_file(alloc, &mut index, today, names, file)?;
     Ok(index)
 }
 
@@ -46,18 +48,19 @@ pub(crate) fn read_file<'v>(
 fn add_file<'v>(
     alloc: Global,
     index: &mut Index<'v>,
+    today: Date,
     names: &Names<'_>,
     file: &'v Value,
 ) -> Result<(), AuditError<'v>>
-    ensures read { OnOk result (Adds (has_name names.now) index.old index.new (advisories_of (view file.now))) }
-    ensures sound { OnOk result (file_fault is_version (has_name names.now) (view file.now) ≡ None) }
-    ensures refused { IfErr result (IsErrorOf (file_fault is_version (has_name names.now) (view file.now))) }
+    ensures read { OnOk result (Adds (has_name names.now) index.old index.new (advisories_of today (view file.now))) }
+    ensures sound { OnOk result (file_fault today is_version (has_name names.now) (view file.now) ≡ None) }
+    ensures refused { IfErr result (IsErrorOf (file_fault today is_version (has_name names.now) (view file.now))) }
 {
     if let Some(entries) = file.as_array() {
-        return add_osv_list(alloc, index, names, entries.as_slice());
+        return add_osv_list(alloc, index, today, names, entries.as_slice());
     }
     if text_at(file, "id").is_some() {
-        return add_osv_at(alloc, index, names, file, 0);
+        return add_osv_at(alloc, index, today, names, file, 0);
     }
     add_npm(alloc, index, names, file)
 }
@@ -66,15 +69,16 @@ fn add_file<'v>(
 fn add_osv_list<'v>(
     alloc: Global,
     index: &mut Index<'v>,
+    today: Date,
     names: &Names<'_>,
     entries: &'v [Value],
 ) -> Result<(), AuditError<'v>>
-    ensures read { OnOk result (Adds (has_name names.now) index.old index.new (osv_list (items_view entries.now))) }
-    ensures sound { OnOk result (osv_list_fault is_version (has_name names.now) 0 (items_view entries.now) ≡ None) }
-    ensures refused { IfErr result (IsErrorOf (osv_list_fault is_version (has_name names.now) 0 (items_view entries.now))) }
+    ensures read { OnOk result (Adds (has_name names.now) index.old index.new (osv_list today (items_view entries.now))) }
+    ensures sound { OnOk result (osv_list_fault today is_version (has_name names.now) 0 (items_view entries.now) ≡ None) }
+    ensures refused { IfErr result (IsErrorOf (osv_list_fault today is_version (has_name names.now) 0 (items_view entries.now))) }
 {
     for place in 0..entries.len() {
-        add_osv_at(alloc, index, names, &entries[place], place)?;
+        add_osv_at(alloc, index, today, names, &entries[place], place)?;
     }
     Ok(())
 }
@@ -83,15 +87,16 @@ fn add_osv_list<'v>(
 fn add_osv_at<'v>(
     alloc: Global,
     index: &mut Index<'v>,
+    today: Date,
     names: &Names<'_>,
     entry: &'v Value,
     place: usize,
 ) -> Result<(), AuditError<'v>>
-    ensures read { OnOk result (Adds (has_name names.now) index.old index.new (osv_advisories (view entry.now))) }
-    ensures sound { OnOk result (osv_fault is_version (has_name names.now) (view entry.now) ≡ None) }
-    ensures refused { IfErr result (IsErrorOf (at_place (told_name (has_name names.now) (view entry.now)) place (id_in (view entry.now)) (osv_fault is_version (has_name names.now) (view entry.now)))) }
+    ensures read { OnOk result (Adds (has_name names.now) index.old index.new (osv_advisories today (view entry.now))) }
+    ensures sound { OnOk result (osv_fault today is_version (has_name names.now) (view entry.now) ≡ None) }
+    ensures refused { IfErr result (IsErrorOf (at_place (told_name (has_name names.now) (view entry.now)) place (id_in (view entry.now)) (osv_fault today is_version (has_name names.now) (view entry.now)))) }
 {
-    match add_osv(alloc, index, names, entry) {
+    match add_osv(alloc, index, today, names, entry) {
         Ok(()) => Ok(()),
         Err(unread) => Err(error_at(unread, told_name(names, entry), place, id_in(entry))),
     }

@@ -7,6 +7,7 @@ ghost use Rattle.npm_advisories.specs.FaultSteps as FaultSteps;
 ghost use Rattle.npm_advisories.specs.FaultSteps.{AreFaultStepsBeside};
 ghost use Rattle.npm_advisories.specs.Faults.{fault_value};
 ghost use Rattle.npm_advisories.specs.LockFaults.{IsLockError};
+ghost use Rattle.toml_datetime.specs.declared.datetime.Date.{Date};
 ghost use Rattle.npm_advisories.specs.Index.{has_name};
 ghost use Rattle.npm_advisories.specs.Private.VersionTest.{is_version};
 
@@ -44,7 +45,7 @@ pub fn fault_steps<'f>(
 ) -> Result<Vec<Step<'f>>, LockError<'f>>
     ensures found { IfOk result (λ steps. AreFaultStepsBeside (view lock.now) (view file.now) (fault_value fault.entry)
         (steps_seen steps.items)) }
-    ensures refused { IfErr result (IsLockError (view lock.now) (view file.now)) }
+    ensures refused { IfErr result (λ error. (today : Date) → IsLockError today (view lock.now) (view file.now) error) }
 {
     let installed = match installed_in(alloc, lock) {
         Ok(installed) => installed,

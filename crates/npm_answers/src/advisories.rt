@@ -6,10 +6,17 @@ use crate::lists::text_of_steps;
 use crate::paths::shown_place;
 use crate::{answer, borrowed};
 use npm_advisories::{
-    AuditError, Found, Installed, LockError, Severity, audit, audit_lock, fault_steps,
+    AuditError, Date, Found, Installed, LockError, Severity, audit, audit_lock, fault_steps,
 };
 use serde_json::Value;
 use std::alloc::Global;
+
+/// The day on which all advisories are asked.
+pub(crate) const TODAY: Date = Date {
+    year: 2024,
+    month: 2,
+    day: 29,
+};
 
 /// The advisories come first.
 #[derive(Clone, Copy, Drop)]
@@ -58,11 +65,11 @@ pub(crate) fn answer(alloc: Global, name: Name, arguments: &Arguments) -> Answer
         Name::HitOfAudit => hit(alloc, file, arguments.text(0), arguments.text(1)),
         Name::TitleOfAudit => borrowed::title(alloc, file, arguments.text(0), arguments.text(1)),
         Name::FolderOfAudit => borrowed::folder(alloc, file, arguments.text(0)),
-        Name::AuditLock => match audit_lock(alloc, file, level, second) {
+        Name::AuditLock => match audit_lock(alloc, file, TODAY, level, second) {
             Ok(found) => answer::list(found_packages(alloc, &found)),
             Err(error) => refused(alloc, error),
         },
-        Name::OffersOfAuditLock => match audit_lock(alloc, file, level, second) {
+        Name::OffersOfAuditLock => match audit_lock(alloc, file, TODAY, level, second) {
             Ok(found) => answer::list(found_offers(alloc, &found)),
             Err(error) => refused(alloc, error),
         },
@@ -82,7 +89,7 @@ fn refused(alloc: Global, error: LockError<'_>) -> Answer {
 
 fn audit_of_list(alloc: Global, file: &Value, level: Severity, list: &Value) -> Answer {
     match &installed_of(alloc, list) {
-        Ok(installed) => audited(alloc, audit(alloc, file, level, installed)),
+        Ok(installed) => audited(alloc, audit(alloc, file, TODAY, level, installed)),
         Err(_) => Answer::OutOfMemory,
     }
 }
@@ -95,7 +102,7 @@ fn fault_of_list(alloc: Global, file: &Value, list: &Value) -> Answer {
 }
 
 fn fault_of(alloc: Global, file: &Value, installed: &[Installed<'_>]) -> Answer {
-    match audit(alloc, file, Severity::Info, installed) {
+    match audit(alloc, file, TODAY, Severity::Info, installed) {
         Ok(_) => Answer::Word("no fault"),
         Err(AuditError::Refused(fault)) => answer::text(fault_text(alloc, fault)),
         Err(AuditError::Memory) => Answer::OutOfMemory,
@@ -110,7 +117,7 @@ fn hit(alloc: Global, file: &Value, name: &str, version: &str) -> Answer {
         version,
         asked: Vec::new(alloc),
     };
-    is_hit(alloc, audit(alloc, file, Severity::Info, &[one]))
+    is_hit(alloc, audit(alloc, file, TODAY, Severity::Info, &[one]))
 }
 
 fn is_hit(alloc: Global, found: Result<Vec<Found<'_, '_>>, AuditError<'_>>) -> Answer {
@@ -122,7 +129,7 @@ fn is_hit(alloc: Global, found: Result<Vec<Found<'_, '_>>, AuditError<'_>>) -> A
 }
 
 fn steps_to_fault(alloc: Global, file: &Value, lock: &Value) -> Answer {
-    match audit_lock(alloc, file, Severity::Info, lock) {
+    match audit_lock(alloc, file, TODAY, Severity::Info, lock) {
         Ok(_) => Answer::Nothing,
         Err(LockError::Advisories(fault)) => match fault_steps(alloc, file, lock, fault) {
             Ok(steps) => answer::list(text_of_steps(alloc, &steps)),
@@ -140,7 +147,7 @@ fn shown_fault(alloc: Global, text: &str, lock: &str) -> Answer {
 }
 
 fn shown_fault_in(alloc: Global, text: &str, file: &Value, lock: &Value) -> Answer {
-    match audit_lock(alloc, file, Severity::Info, lock) {
+    match audit_lock(alloc, file, TODAY, Severity::Info, lock) {
         Ok(_) => Answer::Nothing,
         Err(LockError::Advisories(fault)) => match fault_steps(alloc, file, lock, fault) {
             Ok(steps) => answer::text(shown_place(alloc, text, steps)),

@@ -54,6 +54,10 @@ impl Arguments {
         }
     }
 
+    pub(crate) fn texts(&self) -> &[String] {
+        &self.texts
+    }
+
     /// All of them, as one text.
     pub(crate) fn print(&self, alloc: Global) -> Result<String, AllocError> {
         let mut print = String::new(alloc);

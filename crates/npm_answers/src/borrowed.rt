@@ -1,5 +1,6 @@
 //! What an audit returns, kept longer than what it was asked with: a title borrows the advisories alone, and a folder the packages
 //! alone.
+use crate::advisories::TODAY;
 use crate::answer;
 use crate::answer::Answer;
 use crate::audits::installed_of;
@@ -34,7 +35,7 @@ fn title_of<'f>(alloc: Global, file: &'f Value, name: &str, version: &str) -> Op
         version,
         asked: Vec::new(alloc),
     };
-    match &audit(alloc, file, Severity::Info, &[one]) {
+    match &audit(alloc, file, TODAY, Severity::Info, &[one]) {
         Ok(found) => first_title(found.as_slice()),
         Err(_) => None,
     }
@@ -67,7 +68,7 @@ fn folder_of<'v>(alloc: Global, text: &str, installed: &[Installed<'v>]) -> Opti
 }
 
 fn folder_in<'v>(alloc: Global, file: &Value, installed: &[Installed<'v>]) -> Option<&'v str> {
-    match &audit(alloc, file, Severity::Info, installed) {
+    match &audit(alloc, file, TODAY, Severity::Info, installed) {
         Ok(found) => first_folder(found.as_slice()),
         Err(_) => None,
     }

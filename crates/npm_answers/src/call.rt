@@ -2,8 +2,8 @@
 use crate::answer::Answer;
 use crate::arguments::Arguments;
 use crate::{
-    advisories, checks, exceptions, faults, folders, lock_files, packages, picks, places, texts,
-    workspaces, written_findings,
+    advisories, checks, exceptions, faults, folders, lock_files, packages, picks, places, sources,
+    texts, workspaces, written_findings,
 };
 use named_calls::{CallError, Trial};
 use std::alloc::{AllocError, Global};
@@ -24,6 +24,7 @@ enum Name {
     Check(checks::Name),
     LockFile(lock_files::Name),
     Workspace(workspaces::Name),
+    Source(sources::Name),
     Fault(faults::Name),
     Advisory(advisories::Name),
     Exception(exceptions::Name),
@@ -50,6 +51,7 @@ impl Trial for Call {
             Name::Check(name) => checks::answer(alloc, name, arguments),
             Name::LockFile(name) => lock_files::answer(alloc, name, arguments),
             Name::Workspace(name) => workspaces::answer(alloc, name, arguments),
+            Name::Source(name) => sources::answer(alloc, name, arguments),
             Name::Fault(name) => faults::answer(alloc, name, arguments),
             Name::Advisory(name) => advisories::answer(alloc, name, arguments),
             Name::Exception(name) => exceptions::answer(alloc, name, arguments),
@@ -95,6 +97,9 @@ fn named_of_lock_files(name: &str) -> Option<(Name, usize)> {
     }
     if let Some((name, count)) = workspaces::named(name) {
         return Some((Name::Workspace(name), count));
+    }
+    if let Some((name, count)) = sources::named(name) {
+        return Some((Name::Source(name), count));
     }
     let (name, count) = faults::named(name)?;
     Some((Name::Fault(name), count))

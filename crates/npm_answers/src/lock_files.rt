@@ -4,7 +4,10 @@ use crate::answer::Answer;
 use crate::arguments::Arguments;
 use crate::checks::all_found;
 use crate::lists::push_json;
-use npm_lock::{Mismatch, drop_overrides, mismatches_of, put_manifest};
+use npm_lock::{
+    CheckError, Mismatch, SoundLock, drop_overrides, key_read_as_another, mismatches_of,
+    put_manifest,
+};
 use serde_json::Value;
 use std::alloc::{AllocError, Global};
 
@@ -19,6 +22,8 @@ pub(crate) enum Name {
     /// Of an object that has the manifest of each folder.
     PutAndCheck,
     Drop,
+    /// In the project of the text.
+    KeyReadAsAnother,
 }
 
 pub(crate) fn named(name: &str) -> Option<(Name, usize)> {
@@ -28,6 +33,7 @@ pub(crate) fn named(name: &str) -> Option<(Name, usize)> {
         "npm_lock::put_manifest" => (Name::Put, 2),
         "npm_lock::put_manifest, and a check" => (Name::PutAndCheck, 2),
         "npm_lock::drop_overrides" => (Name::Drop, 1),
+        "npm_lock::key_read_as_another" => (Name::KeyReadAsAnother, 1),
         _ => return None,
     })
 }
@@ -41,6 +47,7 @@ pub(crate) fn answer(alloc: Global, name: Name, arguments: &Arguments) -> Answer
         Name::Put => answer::json(with_manifest(alloc, lock, manifest, folder)),
         Name::PutAndCheck => checked_with(alloc, lock, manifest),
         Name::Drop => answer::json(without_overrides(alloc, lock)),
+        Name::KeyReadAsAnother => read_as_another(alloc, lock, folder),
     }
 }
 
@@ -105,4 +112,12 @@ fn with_manifests(alloc: Global, lock: &Value, manifests: &Value) -> Result<Valu
         put_manifest(alloc, &mut changed, folder.as_str(), manifest.clone()?)?;
     }
     Ok(changed)
+}
+
+fn read_as_another(alloc: Global, lock: &Value, project: &str) -> Answer {
+    match &SoundLock::of(alloc, lock) {
+        Ok(lock) => answer::text_if_any(alloc, key_read_as_another(lock, project)),
+        Err(CheckError::Refused(fault)) => Answer::Fault(*fault),
+        Err(CheckError::Memory) => Answer::OutOfMemory,
+    }
 }

@@ -24,6 +24,7 @@ mod packages;
 mod paths;
 mod picks;
 mod places;
+mod sources;
 mod texts;
 mod workspaces;
 mod written_findings;

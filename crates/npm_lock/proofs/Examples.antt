@@ -7,3 +7,4 @@ pub mod WordExamples
 pub mod TarballExamples
 pub mod VersionOneExamples
 pub mod ManifestExamples
+pub mod SourceExamples

@@ -9,6 +9,8 @@ pub mod Reports
 pub mod Converting
 pub mod LastParts
 pub mod PackageLists
+pub mod MoreSources
 pub mod Slashes
 pub mod GroupWalk
 pub mod ManifestWrites
+pub mod OtherFolders

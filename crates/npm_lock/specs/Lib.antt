@@ -12,10 +12,15 @@ pub mod Outcomes  -- the problem of a dependency, and the one with the version o
 pub mod Findings  -- all problems of a lock file in their order, and the counts
 pub mod ProblemJson  -- a problem as a JSON object
 pub mod FoundWorkspaces  -- a workspace that was found on disk, beside the lock file
+pub mod OtherFolders  -- keys that npm reads as another folder of the project
 -- ---- lock files of version 1
 pub mod Tarballs  -- what the address of a tarball says of the package in it
 pub mod Identity  -- which package is in a folder: its name and its version
 pub mod VersionOne  -- lock files of version 1, and the `packages` of version 3 that they become
+-- ---- where packages come from
+pub mod Addresses  -- what the address of a package says
+pub mod Origins  -- what a lock file says of where a package comes from
+pub mod Sources  -- what is suspicious in it, of all packages
 -- ---- manifests beside a lock file
 pub mod Mismatches  -- dependencies that differ between a manifest and the lock file
 pub mod MismatchJson  -- such a mismatch as a JSON object

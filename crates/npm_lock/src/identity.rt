@@ -150,7 +150,7 @@ fn is_known_scheme(scheme: &str) -> bool
 }
 
 /// The text of a spec that names a version of a registry.
-fn registry_text(spec: &str) -> Option<&str>
+pub(crate) fn registry_text(spec: &str) -> Option<&str>
     ensures { option_map (λ text. text.now) result ≡ Identity.registry_text (RangeText.spec_of spec.now) }
 {
     match spec_of(spec) {
@@ -160,7 +160,7 @@ fn registry_text(spec: &str) -> Option<&str>
 }
 
 /// A member that is a text.
-fn text_in<'v>(entry: &'v Value, key: &str) -> Option<&'v str>
+pub(crate) fn text_in<'v>(entry: &'v Value, key: &str) -> Option<&'v str>
     ensures { option_map (λ text. text.now) result ≡ Identity.text_in key.now (view entry.now) }
 {
     entry.get(key)?.as_str()

@@ -5,6 +5,7 @@
 //! need.
 #![tactic(auto)]
 
+mod address;
 mod any_version;
 mod found_workspace;
 mod group;
@@ -13,10 +14,14 @@ mod lock_file;
 mod manifest;
 mod manifest_place;
 mod mismatch;
+mod origin;
+mod other_folder;
 mod outcome;
 mod pattern;
 mod patterns;
 mod problem;
+mod source;
+mod sources;
 mod tarball;
 mod verdict;
 mod version_one;
@@ -34,8 +39,11 @@ pub use npm_packages::{
     CheckError, Dependents, Edge, Fault, SoundLock, check_package, check_specs, edges_of,
     has_text_version, is_link, linked_folders, place_text,
 };
+pub use other_folder::key_read_as_another;
 pub use pattern::is_part;
 pub use problem::{Dependency, Kind, Problem, Problems, Reason, Unchecked};
+pub use source::{Source, SourceKind};
+pub use sources::suspicious_sources;
 pub use version_one::{is_version_one, required_of};
 pub use version_one_fault::has_named;
 pub use workspace::workspace_patterns;

@@ -78,14 +78,14 @@ fn url_path(address: &str) -> Option<&str>
 }
 
 /// What comes before the `?` or the `#` of a URL.
-fn before_query(url: &str) -> &str
+pub(crate) fn before_query(url: &str) -> &str
     ensures { result.now ≡ Tarballs.before_query url.now }
 {
     before(before(url, '#'), '?')
 }
 
 /// What comes before the first such character, or the whole text if there is none.
-fn before(text: &str, character: char) -> &str
+pub(crate) fn before(text: &str, character: char) -> &str
     requires { character < 128 }
     ensures { result.now ≡ before_first (λ byte. byte == character) text.now }
 {
@@ -117,7 +117,7 @@ fn after_slashes(text: &str) -> &str
 }
 
 /// The text without slashes at its end.
-fn before_slashes(text: &str) -> &str
+pub(crate) fn before_slashes(text: &str) -> &str
     ensures { result.now ≡ Tarballs.before_slashes text.now }
 {
     let mut left = text;
@@ -137,7 +137,7 @@ fn with_name<'t>(name: Name<'t>, stem: &'t str) -> Option<Tarball<'t>>
 }
 
 /// The text before this end, if it ends so.
-fn front_of<'t>(text: &'t str, end: &str) -> Option<&'t str>
+pub(crate) fn front_of<'t>(text: &'t str, end: &str) -> Option<&'t str>
     ensures { option_map (λ front. front.now) result ≡ Tarballs.front_of end.now text.now }
 {
     if ends_with(text, end) {
@@ -148,7 +148,7 @@ fn front_of<'t>(text: &'t str, end: &str) -> Option<&'t str>
 }
 
 /// The name at the end of a path: `@s/a` of `https://r/@s/a`.
-fn name_at_end(path: &str) -> Name<'_>
+pub(crate) fn name_at_end(path: &str) -> Name<'_>
     ensures { name_value result ≡ Tarballs.name_at_end path.now }
 {
     let (above, project) = parts_at_end(path);
@@ -182,7 +182,7 @@ fn escaped_parts(part: &str) -> Option<(&str, &str)>
 }
 
 /// What comes before the last `/` of a path, and what comes after it.
-fn parts_at_slash(path: &str) -> (&str, &str)
+pub(crate) fn parts_at_slash(path: &str) -> (&str, &str)
     ensures { (result.0.now, result.1.now) ≡ Tarballs.parts_at_slash path.now }
 {
     match parted(path, '/') {
@@ -192,7 +192,7 @@ fn parts_at_slash(path: &str) -> (&str, &str)
 }
 
 /// What comes before the last such character of a text, and what comes after it.
-fn parted(text: &str, character: char) -> Option<(&str, &str)>
+pub(crate) fn parted(text: &str, character: char) -> Option<(&str, &str)>
     requires { character < 128 }
     ensures { option_map (λ parts. (parts.0.now, parts.1.now)) result ≡ rsplit_once character text.now }
 {

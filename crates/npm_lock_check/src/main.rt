@@ -6,55 +6,38 @@
 //! why. It is also 2 if that line, or the one that counts, is not written.
 #![tactic(auto)]
 
+mod arguments;
+mod checks;
+mod inputs;
+mod lines;
 mod program_error;
+mod runs;
 
-use advisory_exception_files::{day_at, read_file};
-use advisory_exceptions::{Date, Exception, ExceptionsError};
-use command_lines::{Quoted, Shown, Watched, open_error, read_json_with_text, words_of};
+use arguments::{ArgumentError, Arguments, NUMBER, Paths, command, node_of, usage_of};
+use checks::{
+    Format, Kinds, ListName, Output, PlacedFault, RunError, StopError, Wanted, checked_in,
+};
+use clap::error::ErrorKind;
+use clap::{ArgMatches, Error};
+use command_lines::{Quoted, Watched, open_error, words_of};
+use inputs::{Advisories, Excepting, FIRST_DAY, Inputs, inputs_of};
+use lines::write_lines;
 use node_semver::Version;
 use npm_lock_findings::PageFormat;
-use npm_lock_program::{
-    ArgumentError, Arguments, Format, HELP, Output, RunError, StopError, VERSION, Wanted, Writing,
-    checked_in, files_of, lock_subject, node_of, read_arguments, run, sentence_of, status_of,
-    stop_text, subject_of,
-};
-use npm_lock_reports::{ExceptedSentence, Exceptions, Report, ReportFormat};
-use npm_manifest_files::{
-    ManifestError, folder_of, manifest_in, manifests_of, read_faultless, with_workspaces,
-};
+use npm_lock_reports::{Exceptions, Report, ReportFormat};
+use npm_manifest_files::{folder_of, manifest_in, manifests_of, with_workspaces};
 use program_error::ProgramError;
+use runs::{Subject, Writing, run, status_of, stop_text, subject_of};
 use serde_json::Value;
-use std::fs::File;
+use std::fs::{File, canonicalize};
 use std::io::{IsTerminal, Read, Write};
 use std::mem::forget;
 use std::process::ExitCode;
-use std::time::{SystemTime, UNIX_EPOCH};
-
-/// A file of advisories.
-#[derive(Drop)]
-struct Advisories {
-    value: Value,
-    text: String,
-}
-
-/// A file of exceptions, and the day on which it is read.
-#[derive(Drop)]
-struct Excepting {
-    list: Vec<Exception>,
-    today: Date,
-}
-
-/// The files that are read once, before the lock files.
-#[derive(Drop)]
-struct Inputs {
-    manifest: Option<Value>,
-    advisories: Option<Advisories>,
-    excepting: Option<Excepting>,
-}
 
 /// What each lock file is checked with.
 #[derive(Drop)]
-struct Beside<'a, 'e> {
+struct Beside<'a, 'r, 'e> {
+    asked: &'r Arguments<'a>,
     writing: Writing<'a>,
     node: Option<Version>,
     manifest: Option<Value>,
@@ -80,25 +63,54 @@ fn main(rt: HostRuntime) -> ExitCode {
 
 /// Does what the words say. Returns the exit status.
 fn run_words<'a>(rt: &HostRuntime, words: &'a [String]) -> Result<u8, ProgramError<'a>> {
-    let asked = read_arguments(words).map_err(ProgramError::Argument)?;
-    if let Some(shown) = asked.shown {
-        return match show(rt, shown) {
-            Ok(()) => Ok(0),
-            Err(error) => Err(stop_error(asked, error)),
-        };
-    }
-    let node = asked_node(rt, asked)?;
-    let files = files_of(rt.alloc(), words).map_err(|_| stop_error(asked, RunError::Memory))?;
-    let writing = Writing {
-        format: format_of(rt, asked),
-        asked,
-        outer: outer_of(asked),
+    let Ok(command) = command(rt.alloc()) else {
+        return Err(no_memory());
     };
-    let inputs = match inputs_of(rt, asked) {
+    match command.try_get_matches_from(words) {
+        Ok(found) => run_found(rt, &found),
+        Err(error) => show(rt, &error),
+    }
+}
+
+/// Writes the text that the words ask for, or says why they are not read. Returns the exit status.
+fn show<'a>(rt: &HostRuntime, error: &Error) -> Result<u8, ProgramError<'a>> {
+    match error.kind() {
+        ErrorKind::DisplayHelp | ErrorKind::DisplayVersion => match print!(rt; "{error}") {
+            Ok(()) => Ok(0),
+            Err(_) => Err(stop_error(RunError::Write)),
+        },
+        ErrorKind::OutOfMemory => Err(no_memory()),
+        _ => match usage_of(rt.alloc(), error) {
+            Ok(usage) => Err(ProgramError::Usage(usage)),
+            Err(_) => Err(no_memory()),
+        },
+    }
+}
+
+/// Does what the arguments say. Returns the exit status.
+fn run_found<'a>(rt: &HostRuntime, found: &ArgMatches<'a>) -> Result<u8, ProgramError<'a>> {
+    let Ok(asked) = Arguments::of(rt.alloc(), found) else {
+        return Err(no_memory());
+    };
+    if let Some(fault) = asked.fault() {
+        return Err(ProgramError::Argument(fault));
+    }
+    run_asked(rt, &asked)
+}
+
+/// Checks what is asked for. Returns the exit status.
+fn run_asked<'a>(rt: &HostRuntime, asked: &Arguments<'a>) -> Result<u8, ProgramError<'a>> {
+    let node = asked_node(rt, asked.node)?;
+    let writing = Writing {
+        format: format_of(rt, asked.format),
+        asked: asked.paths,
+        outer: outer_of(asked.paths.manifest),
+    };
+    let inputs = match inputs_of(rt, asked.paths, asked.no_advisories) {
         Ok(inputs) => inputs,
         Err(error) => {
             write_stop(rt, writing, &error);
-            return Err(ProgramError::Stopped(subject_of(asked, "-", &error), error));
+            return Err(ProgramError::Stopped(subject_of(asked.paths, "-", &error), error));
         }
     };
     let Inputs {
@@ -106,14 +118,19 @@ fn run_words<'a>(rt: &HostRuntime, words: &'a [String]) -> Result<u8, ProgramErr
         advisories,
         excepting,
     } = inputs;
+    let exceptions = exceptions_of(&excepting);
     let beside = Beside {
+        asked,
         writing,
         node,
         manifest,
         advisories,
-        exceptions: exceptions_of(&excepting),
+        exceptions,
     };
-    check_all(rt, beside, &files).map_err(|error| stop_error(asked, error))
+    match check_all(rt, beside) {
+        Ok(status) => Ok(status),
+        Err(error) => Err(stop_error(error)),
+    }
 }
 
 /// The exceptions, if there is a file of them.
@@ -128,16 +145,16 @@ fn exceptions_of(excepting: &Option<Excepting>) -> Option<Exceptions<'_>> {
 }
 
 /// The folder of the root's manifest.
-fn outer_of<'a>(asked: Arguments<'a>) -> &'a str {
-    match asked.manifest {
+fn outer_of<'a>(manifest: Option<&'a str>) -> &'a str {
+    match manifest {
         Some(path) => folder_of(path),
         None => ".",
     }
 }
 
 /// The format that is asked for, or else lines: text for a terminal, and JSON for anything else.
-fn format_of(rt: &HostRuntime, asked: Arguments<'_>) -> Format {
-    match asked.format {
+fn format_of(rt: &HostRuntime, format: Option<Format>) -> Format {
+    match format {
         Some(format) => format,
         None if rt.stdout().is_terminal() => Format::Report(ReportFormat::Text),
         None => Format::Report(ReportFormat::Json),
@@ -155,11 +172,11 @@ fn write_stop(rt: &HostRuntime, writing: Writing<'_>, error: &StopError) {
 }
 
 /// Checks the lock files, and writes the output and the lines. Returns the exit status.
-fn check_all(rt: &HostRuntime, beside: Beside<'_, '_>, files: &[&str]) -> Result<u8, RunError> {
-    let writing = beside.writing;
+fn check_all(rt: &HostRuntime, beside: Beside<'_, '_, '_>) -> Result<u8, RunError> {
+    let asked = beside.asked;
     let exceptions = beside.exceptions;
-    let outcomes = outcomes_of(rt, beside, files)?;
-    let is_said = write_lines(rt, writing.asked, files, &outcomes, exceptions);
+    let outcomes = outcomes_of(rt, beside)?;
+    let is_said = write_lines(rt, asked, &outcomes, exceptions);
     Ok(status_of(&outcomes, is_said))
 }
 
@@ -168,12 +185,13 @@ fn check_all(rt: &HostRuntime, beside: Beside<'_, '_>, files: &[&str]) -> Result
 /// time in which they are read.
 fn outcomes_of(
     rt: &HostRuntime,
-    beside: Beside<'_, '_>,
-    files: &[&str],
+    beside: Beside<'_, '_, '_>,
 ) -> Result<Vec<Result<Report, StopError>>, RunError> {
+    let asked = beside.asked;
+    let files = asked.files.as_slice();
     let writing = beside.writing;
     let mut writer = Watched::new(rt.stdout());
-    if writing.asked.other.is_some() {
+    if asked.has_several() {
         return run(
             rt.alloc(),
             &mut writer,
@@ -193,122 +211,35 @@ fn outcomes_of(
     outcomes
 }
 
-/// Writes the lines of each lock file on standard error, and then those of exceptions that applied to nothing. Returns `true` if all were
-/// written.
-fn write_lines(
-    rt: &HostRuntime,
-    asked: Arguments<'_>,
-    files: &[&str],
-    outcomes: &[Result<Report, StopError>],
-    exceptions: Option<Exceptions<'_>>,
-) -> bool {
-    let mut is_said = true;
-    for (file, outcome) in files.iter().zip(outcomes) {
-        let line = match outcome {
-            Ok(report) if asked.other.is_some() => eprintln!(rt; "{}{report}", lock_subject(*file)),
-            Ok(report) => eprintln!(rt; "{report}"),
-            Err(error) => eprintln!(rt;
-                "npm_lock_check: {}{error}",
-                subject_of(asked, *file, error)
-            ),
-        };
-        if line.is_err() {
-            is_said = false;
-        }
-        if let (Ok(report), Some(exceptions)) = (outcome, exceptions) {
-            let file = if asked.other.is_some() {
-                Some(*file)
-            } else {
-                None
-            };
-            is_said = write_excepted(rt, file, report, exceptions) && is_said;
-        }
-    }
-    match exceptions {
-        Some(exceptions) => write_unused(rt, outcomes, exceptions) && is_said,
-        None => is_said,
-    }
-}
-
-/// Writes a line for each hit of a lock file that is excepted. Returns `true` if all were written.
-fn write_excepted(
-    rt: &HostRuntime,
-    file: Option<&str>,
-    report: &Report,
-    exceptions: Exceptions<'_>,
-) -> bool {
-    let mut is_said = true;
-    for excepted in &report.excepted {
-        let Some(exception) = exceptions.list.get(excepted.place) else {
-            continue;
-        };
-        let sentence = ExceptedSentence {
-            excepted,
-            exception,
-        };
-        let line = match file {
-            Some(file) => eprintln!(rt; "{}{sentence}", lock_subject(file)),
-            None => eprintln!(rt; "{sentence}"),
-        };
-        if line.is_err() {
-            is_said = false;
-        }
-    }
-    is_said
-}
-
-/// Writes a line for each exception that is over or applied to nothing. Returns `true` if all were written.
-fn write_unused(
-    rt: &HostRuntime,
-    outcomes: &[Result<Report, StopError>],
-    exceptions: Exceptions<'_>,
-) -> bool {
-    let mut is_said = true;
-    for (place, exception) in exceptions.list.iter().enumerate() {
-        if let Some(sentence) = sentence_of(exception, place, exceptions.today, outcomes) {
-            let line = eprintln!(rt; "{sentence}");
-            if line.is_err() {
-                is_said = false;
-            }
-        }
-    }
-    is_said
-}
-
 /// The error of a run that stopped, which is about no lock file.
-fn stop_error<'a>(asked: Arguments<'a>, error: RunError) -> ProgramError<'a> {
-    let error = StopError::Check(error);
-    ProgramError::Stopped(subject_of(asked, "-", &error), error)
+fn stop_error<'a>(error: RunError) -> ProgramError<'a> {
+    ProgramError::Stopped(Subject::Nothing, StopError::Check(error))
 }
 
-/// Writes a text about the program.
-fn show(rt: &HostRuntime, shown: Shown) -> Result<(), RunError> {
-    let text = match shown {
-        Shown::Help => HELP,
-        Shown::Version => VERSION,
-    };
-    print!(rt; "{text}").map_err(|_| RunError::Write)
+/// The error of a run without memory.
+fn no_memory<'a>() -> ProgramError<'a> {
+    stop_error(RunError::Memory)
 }
 
 /// The version of Node that the arguments name.
 fn asked_node<'a>(
     rt: &HostRuntime,
-    asked: Arguments<'a>,
+    text: Option<&'a str>,
 ) -> Result<Option<Version>, ProgramError<'a>> {
-    let Some(text) = asked.node else {
+    let Some(text) = text else {
         return Ok(None);
     };
     match node_of(rt.alloc(), text) {
         Ok(Some(version)) => Ok(Some(version)),
         Ok(None) => Err(ProgramError::Argument(ArgumentError::NodeVersion(Quoted { text }))),
-        Err(_) => Err(stop_error(asked, RunError::Memory)),
+        Err(_) => Err(no_memory()),
     }
 }
 
 /// Opens a lock file and checks it.
 fn check_file<'f>(
     rt: &HostRuntime,
-    beside: &Beside<'_, '_>,
+    beside: &Beside<'_, '_, '_>,
     file: &'f str,
 ) -> Result<(Report, Output<'f>), StopError> {
     if file == "-" {
@@ -320,18 +251,30 @@ fn check_file<'f>(
     }
 }
 
+/// The path of the folder in which npm finds the lock file: that of the manifest, or else of the file. Empty if it is not known.
+fn project_of(rt: &HostRuntime, manifest: Option<&str>, file: &str) -> String {
+    let folder = match manifest {
+        Some(path) => folder_of(path),
+        None if file == "-" => return String::new(rt.alloc()),
+        None => folder_of(file),
+    };
+    let top = if folder.is_empty() { "/" } else { folder };
+    match canonicalize(rt, top) {
+        Ok(path) => path.into_string(),
+        Err(_) => String::new(rt.alloc()),
+    }
+}
+
 /// Checks a lock file.
 fn check_reader<'f, R: Read + Drop>(
     rt: &HostRuntime,
     reader: R,
-    beside: &Beside<'_, '_>,
+    beside: &Beside<'_, '_, '_>,
     file: &'f str,
 ) -> Result<(Report, Output<'f>), StopError> {
-    let Writing {
-        format,
-        asked,
-        outer,
-    } = beside.writing;
+    let asked = beside.asked;
+    let Writing { format, outer, .. } = beside.writing;
+    let project = project_of(rt, asked.paths.manifest, file);
     let manifest = beside.manifest.as_ref();
     let advisories = beside.advisories.as_ref();
     let wanted = Wanted {
@@ -339,15 +282,22 @@ fn check_reader<'f, R: Read + Drop>(
         exact: asked.exact,
         advisories: advisories.map(|file| &file.value),
         advisories_text: advisories.map_or("", |file| file.text.as_str()),
+        today: advisories.map_or(FIRST_DAY, |file| file.today),
         level: asked.level,
         exceptions: beside.exceptions,
         omissions: asked.omissions,
         node: beside.node.as_ref(),
         ignored: asked.ignored,
-        unchecked: asked.unchecked || matches!(format, Format::Pages(PageFormat::Html)),
+        sources: asked.sources,
+        registries: asked.registries.as_slice(),
+        strict: asked.strict,
+        unchecked: asked.unchecked
+            || asked.strict
+            || matches!(format, Format::Pages(PageFormat::Html)),
         format,
+        project: project.as_str(),
         file,
-        named: asked.other.is_some(),
+        named: asked.has_several(),
     };
     checked_in(rt.alloc(), &mut Watched::new(reader), wanted, |lock| {
         let loaded = manifests_of(rt.alloc(), lock, |linked| {
@@ -355,65 +305,4 @@ fn check_reader<'f, R: Read + Drop>(
         })?;
         with_workspaces(rt, outer, manifest, asked.outside, loaded)
     })
-}
-
-/// Reads the files that the arguments name beside the lock files.
-fn inputs_of(rt: &HostRuntime, asked: Arguments<'_>) -> Result<Inputs, StopError> {
-    let manifest = manifest_at(rt, asked.manifest).map_err(StopError::Manifest)?;
-    let advisories = advisories_at(rt, asked.advisories).map_err(StopError::Advisories)?;
-    let excepting = excepting_at(rt, asked.exceptions).map_err(StopError::Exceptions)?;
-    Ok(Inputs {
-        manifest,
-        advisories,
-        excepting,
-    })
-}
-
-/// Reads the manifest of the root, if there is one.
-fn manifest_at(rt: &HostRuntime, path: Option<&str>) -> Result<Option<Value>, ManifestError> {
-    let Some(path) = path else {
-        return Ok(None);
-    };
-    let file = File::open(rt, path).map_err(|error| ManifestError::Input(open_error(error)))?;
-    read_faultless(rt.alloc(), &mut Watched::new(file)).map(Some)
-}
-
-/// Reads the file of advisories, if there is one.
-fn advisories_at(rt: &HostRuntime, path: Option<&str>) -> Result<Option<Advisories>, RunError> {
-    let Some(path) = path else {
-        return Ok(None);
-    };
-    let file = File::open(rt, path).map_err(|error| RunError::Input(open_error(error)))?;
-    match read_json_with_text(rt.alloc(), &mut Watched::new(file)) {
-        Ok((value, text)) => Ok(Some(Advisories { value, text })),
-        Err(error) => Err(RunError::Input(error)),
-    }
-}
-
-/// Reads the file of exceptions, if there is one, and the day.
-fn excepting_at(
-    rt: &HostRuntime,
-    path: Option<&str>,
-) -> Result<Option<Excepting>, ExceptionsError> {
-    let Some(path) = path else {
-        return Ok(None);
-    };
-    let file = File::open(rt, path).map_err(|error| ExceptionsError::Input(open_error(error)))?;
-    let list = read_file(rt.alloc(), &mut Watched::new(file))?;
-    let today = today(rt)?;
-    Ok(Some(Excepting { list, today }))
-}
-
-/// The day in UTC.
-fn today(rt: &HostRuntime) -> Result<Date, ExceptionsError> {
-    let Ok(now) = SystemTime::now(rt) else {
-        return Err(ExceptionsError::Clock);
-    };
-    let Ok(since) = now.duration_since(UNIX_EPOCH) else {
-        return Err(ExceptionsError::Clock);
-    };
-    match day_at(since.as_secs()) {
-        Some(day) => Ok(day),
-        None => Err(ExceptionsError::Clock),
-    }
 }

@@ -1,6 +1,8 @@
 //! Why the program ends with status 2.
+use crate::arguments::{ArgumentError, Usage};
+use crate::checks::StopError;
+use crate::runs::Subject;
 use command_lines::WordsError;
-use npm_lock_program::{ArgumentError, StopError, Subject};
 use thiserror::Error;
 
 /// Why the program ends with status 2.
@@ -9,6 +11,9 @@ pub enum ProgramError<'a> {
     /// The arguments were not read.
     #[error("{0}")]
     Words(&'a WordsError),
+    /// `clap` does not read the arguments.
+    #[error("{0}")]
+    Usage(Usage),
     /// The arguments have an error.
     #[error("{0}")]
     Argument(ArgumentError<'a>),

@@ -7,29 +7,36 @@ use Rattle.findings.specs.Findings.{FindingValue, ToolValue}
 use Rattle.findings.specs.Github.{annotation}
 use Rattle.findings.specs.Sarif.{log}
 use Rattle.findings.specs.declared.finding.Finding.{Finding}
-use Rattle.findings.specs.declared.finding.Level.TheVariants.{Error, Note}
+use Rattle.findings.specs.declared.finding.Level.TheVariants.{Error}
 use Rattle.findings.specs.Drafts.{AreFindingsOf, DraftValue, draft_value}
 use Rattle.findings.specs.declared.draft.Draft.{Draft}
 use Rattle.npm_advisories.specs.Audit.{FoundValue}
 use Rattle.npm_lock.specs.Outcomes.{ProblemValue, UncheckedValue, problem_value, unchecked_value}
 use Rattle.npm_lock.specs.Mismatches.{MismatchValue, group_text, mismatch_value}
-use Rattle.npm_lock_reports.specs.HitSentence.{hit_sentence}
-use Rattle.npm_lock_reports.specs.Unread.{UnreadValue, unread_folder, unread_sentence, unread_value}
+use Rattle.npm_lock.specs.Sources.{SourceValue, source_value}
+use Rattle.npm_lock_reports.specs.Unread.{UnreadValue, unread_folder, unread_value}
 use Rattle.npm_lock_reports.specs.declared.report.Report.{Report}
-use Rattle.npm_lock_reports.specs.Sentence.{mismatch_sentence, sentence, unchecked_sentence}
 use Rattle.npm_lock_findings.specs.Members.{dependency_paths, mismatch_paths, package_paths, problem_paths}
 use Rattle.npm_lock_findings.specs.Rules.{advisory_place, mismatch_level, mismatch_place, refused_place, rule_place}
-use Rattle.npm_lock_findings.specs.Rules.{rule_word, rule_words, unchecked_place}
+use Rattle.npm_lock_findings.specs.Rules.{rule_word, rule_words, source_place, unchecked_level, unchecked_place}
 use Rattle.npm_lock_findings.specs.declared.annotations.format.AnnotationFormat.{AnnotationFormat}
 use Rattle.npm_lock_findings.specs.declared.annotations.format.AnnotationFormat.TheVariants.{Github, Sarif}
 
--- a problem: its kind, its sentence, and the members that it is about
+-- a draft but for its message, which is words
+abbrev pub without_message : DraftValue → DraftValue
+without_message draft = record draft { message = [] }
+
+-- what a contract of this crate sees of a draft
+abbrev pub seen_draft : Draft → DraftValue
+seen_draft draft = without_message (draft_value draft)
+
+-- a problem: its kind, and the members that it is about
 abbrev pub problem_draft : ProblemValue → DraftValue
 problem_draft problem = record {
   rule = rule_word problem.kind;
   rule_index = rule_place problem.kind;
   level = Error;
-  message = sentence problem;
+  message = [];
   paths = problem_paths problem.kind problem.dependency.from problem.dependency.name;
 }
 
@@ -39,7 +46,7 @@ mismatch_draft exact mismatch = record {
   rule = codes "mismatch";
   rule_index = mismatch_place;
   level = mismatch_level exact;
-  message = mismatch_sentence mismatch;
+  message = [];
   paths = mismatch_paths mismatch.from (group_text mismatch.group) mismatch.name;
 }
 
@@ -49,47 +56,57 @@ hit_draft found = record {
   rule = codes "advisory";
   rule_index = advisory_place;
   level = Error;
-  message = hit_sentence found;
+  message = [];
   paths = package_paths found.folder;
 }
 
--- a note
-abbrev pub note_draft : (message : List ℕ) → (paths : List (List (List ℕ))) → DraftValue
-note_draft message paths = record {
+-- what is suspicious in where a package comes from, at the package
+abbrev pub source_draft : SourceValue → DraftValue
+source_draft source = record {
+  rule = codes "source";
+  rule_index = source_place;
+  level = Error;
+  message = [];
+  paths = package_paths source.folder;
+}
+
+-- what is not checked; it is an error if it counts for the status
+abbrev pub note_draft : (strict : Bool) → (paths : List (List (List ℕ))) → DraftValue
+note_draft strict paths = record {
   rule = codes "unchecked";
   rule_index = unchecked_place;
-  level = Note;
-  message = message;
+  level = unchecked_level strict;
+  message = [];
   paths = paths;
 }
 
 -- a dependency that is not checked, at the dependency
-abbrev pub unchecked_draft : UncheckedValue → DraftValue
-unchecked_draft unchecked = note_draft (unchecked_sentence unchecked)
-    (dependency_paths unchecked.dependency.from unchecked.dependency.name)
+abbrev pub unchecked_draft : (strict : Bool) → UncheckedValue → DraftValue
+unchecked_draft strict unchecked =
+    note_draft strict (dependency_paths unchecked.dependency.from unchecked.dependency.name)
 
 -- what was not looked at, at the package in its folder
-abbrev pub unread_draft : UnreadValue → DraftValue
-unread_draft unread = note_draft (unread_sentence unread) (package_paths (unread_folder unread))
+abbrev pub unread_draft : (strict : Bool) → UnreadValue → DraftValue
+unread_draft strict unread = note_draft strict (package_paths (unread_folder unread))
 
 -- the dependencies that are not checked and then what was not looked at, if they are listed
 abbrev pub listed_drafts : Report → List DraftValue
 listed_drafts report = if report.listed
-    then map unchecked_draft (map unchecked_value report.problems.unchecked.items)
-    ++ map unread_draft (map unread_value report.unread.items) else []
+    then map (unchecked_draft report.strict) (map unchecked_value report.problems.unchecked.items)
+    ++ map (unread_draft report.strict) (map unread_value report.unread.items) else []
 
 -- all of a report and of the packages that are hit, in the order of the report's lines
 abbrev pub all_drafts : Report → List FoundValue → List DraftValue
 all_drafts report found = map (mismatch_draft report.exact) (map mismatch_value report.mismatches.items)
     ++ (map problem_draft (map problem_value report.problems.list.items)
-    ++ (map hit_draft found ++ listed_drafts report))
+    ++ (map hit_draft found ++ (map source_draft (map source_value report.sources.items) ++ listed_drafts report)))
 
 -- One finding for each of these, in their order, in the lock file at this path with this text. The place of each is that
 -- of a member that it is about, or of the beginning of the text.
 pub record AreFindings (text file : List ℕ) (report : Report) (found : List FoundValue) (findings : List Finding)
     : Type 0 where
   pub drafts : List Draft
-  pub such : map draft_value drafts ≡ all_drafts report found
+  pub such : map seen_draft drafts ≡ all_drafts report found
   pub placed : AreFindingsOf text file drafts (length drafts) findings
 
 -- a file that was refused, with a message, at this line and column

@@ -1,7 +1,7 @@
 -- The rules that findings break: one for each kind of problem, and one for each other kind of finding.
 use Rattle.std.specs.Prelude.{ℕ, List, [], ◌∷◌, Bool, if◌then◌else◌, codes}
 use Rattle.findings.specs.declared.finding.Level.{Level}
-use Rattle.findings.specs.declared.finding.Level.TheVariants.{Error, Warning}
+use Rattle.findings.specs.declared.finding.Level.TheVariants.{Error, Note, Warning}
 use Rattle.npm_lock.specs.declared.problem.Kind.{Kind}
 use Rattle.npm_lock.specs.declared.problem.Kind.TheVariants.{Engine, Invalid, Missing, PeerLocal}
 
@@ -32,11 +32,18 @@ unchecked_place = 6
 abbrev pub refused_place : ℕ
 refused_place = 7
 
+abbrev pub source_place : ℕ
+source_place = 8
+
 -- all rules, each at its place
 abbrev pub rule_words : List (List ℕ)
 rule_words = rule_word Missing ∷ rule_word Invalid ∷ rule_word PeerLocal ∷ rule_word Engine ∷ codes "mismatch"
-    ∷ codes "advisory" ∷ codes "unchecked" ∷ codes "refused" ∷ []
+    ∷ codes "advisory" ∷ codes "unchecked" ∷ codes "refused" ∷ codes "source" ∷ []
 
 -- mismatches are errors if they count for the status, and else warnings
 abbrev pub mismatch_level : (exact : Bool) → Level
 mismatch_level exact = if exact then Error else Warning
+
+-- what is not checked is an error if it counts for the status, and else a note
+abbrev pub unchecked_level : (strict : Bool) → Level
+unchecked_level strict = if strict then Error else Note

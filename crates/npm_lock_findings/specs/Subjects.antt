@@ -13,6 +13,7 @@ use Rattle.npm_lock_findings.specs.Entries.{SubjectValue}
 use Rattle.npm_lock_reports.specs.Unread.{UnreadValue, manifest_in, root_of_file, unread_value, workspaces_on_disk}
 use Rattle.npm_lock_reports.specs.declared.report.Report.{Report}
 use Rattle.npm_lock.specs.Mismatches.{MismatchValue, mismatch_value}
+use Rattle.npm_lock.specs.Sources.{SourceValue, source_value}
 
 -- ---- packages that are hit
 
@@ -53,6 +54,10 @@ mismatch_subject mismatch = record { part = Parts.Mismatches; group = mismatch.n
 abbrev pub hit_subject : FoundValue → SubjectValue
 hit_subject found = record { part = hit_part found.hits; group = found.name }
 
+-- under the folder of the package
+abbrev pub source_subject : SourceValue → SubjectValue
+source_subject source = record { part = Parts.Problems; group = source.folder }
+
 abbrev pub unchecked_subject : UncheckedValue → SubjectValue
 unchecked_subject unchecked = record { part = Parts.Unchecked; group = unchecked.dependency.name }
 
@@ -77,4 +82,4 @@ listed_subjects report = if report.listed
 abbrev pub all_subjects : Report → List FoundValue → List SubjectValue
 all_subjects report found = map mismatch_subject (map mismatch_value report.mismatches.items)
     ++ (map problem_subject (map problem_value report.problems.list.items)
-    ++ (map hit_subject found ++ listed_subjects report))
+    ++ (map hit_subject found ++ (map source_subject (map source_value report.sources.items) ++ listed_subjects report)))

@@ -1,5 +1,3 @@
-pub mod SentenceExamples
-pub mod HitExamples
 pub mod CountedExamples
 pub mod ExceptedExamples
 pub mod OmissionExamples

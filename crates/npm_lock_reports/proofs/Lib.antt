@@ -1,9 +1,6 @@
 mod FileVersions
-mod LastNames
-mod LineLaws
-mod OneLine
-mod OutputLines
-mod Parts
-mod SentenceLines
+mod LineCounts
 pub mod Examples
 pub mod Keeping
+mod Needing
+pub mod Told

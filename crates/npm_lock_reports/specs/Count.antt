@@ -9,10 +9,10 @@ use Rattle.npm_lock_reports.specs.Omissions.{is_omitted}
 use Rattle.npm_lock_reports.specs.declared.omissions.Omissions.{Omissions}
 
 -- the number of packages that are left out; a link is no package
-abbrev pub omitted_in : Omissions → Members → ℕ
-omitted_in omissions no_members = 0
-omitted_in omissions (member folder entry others) = if not (is_link entry) && is_omitted omissions folder entry
-    then 1 + omitted_in omissions others else omitted_in omissions others
+abbrev pub omitted_in : Omissions → (lock : Data) → Members → ℕ
+omitted_in omissions lock no_members = 0
+omitted_in omissions lock (member folder entry others) = if not (is_link entry) && is_omitted omissions lock folder entry
+    then 1 + omitted_in omissions lock others else omitted_in omissions lock others
 
 -- a count in 64 bits, which stops at their greatest number
 abbrev pub counted : ℕ → ℕ
@@ -21,6 +21,6 @@ counted n = min n (2 ^ 64 - 1)
 -- of a lock file, if a group is left out
 abbrev pub count_of : Omissions → (lock : Data) → Option ℕ
 count_of omissions lock = if omissions.dev || omissions.optional
-    then Some (option_map_or (λ members. counted (omitted_in omissions members))
+    then Some (option_map_or (λ members. counted (omitted_in omissions lock members))
     (option_and_then as_object (get (codes "packages") lock)) 0)
     else None

@@ -1,14 +1,12 @@
 -- Which advisories are excepted for a package, and which packages are left.
-use Rattle.std.specs.Prelude.{◌&&◌, ◌||◌, ◌-◌, ℕ, List, [], ◌∷◌, Bool, bytes_eq, codes, decimal, filter, false, length, map, not, take}
+use Rattle.std.specs.Prelude.{◌&&◌, ℕ, List, [], ◌∷◌, Bool, bytes_eq, filter, map, not}
 use Rattle.std.specs.Prelude.{Option, None, Some, is_none}
-use Rattle.std.specs.List.{ends_with, filter_map, position_from}
-use Rattle.std.specs.Option.{option_map_or}
-use Rattle.std.specs.Prelude.{nat_eq}
-use Rattle.serde_json.specs.Data.{Data, number, string, unsigned}
+use Rattle.std.specs.List.{filter_map, position_from}
 use Rattle.toml_datetime.specs.declared.datetime.Date.{Date}
 use Rattle.advisory_exceptions.specs.Exceptions.{ExceptionValue, exception_value, is_over}
 use Rattle.npm_advisories.specs.Advisories.{AboutValue}
 use Rattle.npm_advisories.specs.Audit.{FoundValue}
+use Rattle.npm_advisories.specs.KnownIds.{is_known_as}
 use Rattle.npm_lock_reports.specs.declared.exceptions.Exceptions.{Exceptions}
 
 -- the exceptions, and the day on which they are asked
@@ -20,31 +18,12 @@ pub record ExceptionsValue : Type 0 where
 abbrev pub exceptions_value : Exceptions → ExceptionsValue
 exceptions_value exceptions = record { list = map exception_value exceptions.list.now; today = exceptions.today }
 
--- ---- the id of an advisory
-
--- its `id` is this text, or a number with these digits
-abbrev pub is_id : (id : List ℕ) → (value : Data) → Bool
-is_id id (string text) = bytes_eq text id
-is_id id (number (unsigned n)) = bytes_eq (decimal n) id
-is_id id _ = false
-
--- a slash and this part end the text
-abbrev pub ends_in_part : (text part : List ℕ) → Bool
-ends_in_part text part = ends_with nat_eq text part && ends_with nat_eq (take (length text - length part) text) (codes "/")
-
--- The last part of its `url`: npm's form has a number as `id`, and `https://github.com/advisories/GHSA-1` as `url`
-abbrev pub is_in_url : (id : List ℕ) → (url : Option (List ℕ)) → Bool
-is_in_url id url = option_map_or (λ text. ends_in_part text id) url false
-
-abbrev pub has_id : (id : List ℕ) → AboutValue → Bool
-has_id id about = is_id id about.id || is_in_url id about.url
-
 -- ---- an exception
 
 -- the exception is not over, and is about the package with this name and this advisory
 abbrev pub applies : (today : Date) → ExceptionValue → (name : List ℕ) → AboutValue → Bool
 applies today exception name about =
-    not (is_over today exception) && (bytes_eq exception.name name && has_id exception.id about)
+    not (is_over today exception) && (bytes_eq exception.name name && is_known_as exception.id about)
 
 -- the place of the first exception that applies
 abbrev pub place_of : ExceptionsValue → (name : List ℕ) → AboutValue → Option ℕ

@@ -5,6 +5,7 @@ use Rattle.serde_json.specs.Data.{Data}
 use Rattle.serde_json.specs.Find.{get}
 use Rattle.npm_texts.specs.Truth.{has_true}
 use Rattle.npm_lock.specs.Outcomes.{DependencyValue}
+use Rattle.npm_lock_reports.specs.Projects.{is_in_project}
 use Rattle.npm_lock_reports.specs.declared.omissions.Omissions.{Omissions}
 
 -- ---- packages
@@ -16,17 +17,18 @@ is_marked_out omissions member = (omissions.dev && has_true (codes "dev") member
     || ((omissions.optional && has_true (codes "optional") member)
     || ((omissions.dev && omissions.optional) && has_true (codes "devOptional") member))
 
--- the package in a folder is left out; the root never is
-abbrev pub is_omitted : Omissions → (folder : List ℕ) → (member : Data) → Bool
-is_omitted omissions [] member = false
-is_omitted omissions (byte ∷ folder) member = is_marked_out omissions member
+-- The package in a folder is left out. The root never is, and neither is what npm installs for a linked folder that is no workspace.
+abbrev pub is_omitted : Omissions → (lock : Data) → (folder : List ℕ) → (member : Data) → Bool
+is_omitted omissions lock [] member = false
+is_omitted omissions lock (byte ∷ folder) member =
+    is_marked_out omissions member && is_in_project lock (byte ∷ folder)
 
 -- the member of `packages` for a folder
 abbrev pub member_at : (lock : Data) → (folder : List ℕ) → Option Data
 member_at lock folder = option_and_then (get folder) (get (codes "packages") lock)
 
 abbrev pub is_omitted_at : Omissions → (lock : Data) → (folder : List ℕ) → Bool
-is_omitted_at omissions lock folder = option_map_or (is_omitted omissions folder) (member_at lock folder) false
+is_omitted_at omissions lock folder = option_map_or (is_omitted omissions lock folder) (member_at lock folder) false
 
 -- ---- dependencies
 

@@ -19,18 +19,18 @@ pub fn count_of(omissions: Omissions, lock: &Value) -> Option<usize>
         return None;
     }
     match members_of(lock) {
-        Some(members) => Some(count_in(omissions, members)),
+        Some(members) => Some(count_in(omissions, lock, members)),
         None => Some(0),
     }
 }
 
 /// The number of these members that are left out.
-fn count_in(omissions: Omissions, members: &Map<String, Value>) -> usize
-    ensures { result ≡ Counts.counted (Counts.omitted_in omissions (members_view members.now.entries)) }
+fn count_in(omissions: Omissions, lock: &Value, members: &Map<String, Value>) -> usize
+    ensures { result ≡ Counts.counted (Counts.omitted_in omissions (view lock.now) (members_view members.now.entries)) }
 {
     let mut count: usize = 0;
     for (folder, member) in members.iter() {
-        if !is_link(member) && omissions.has(folder.as_str(), member) {
+        if !is_link(member) && omissions.has(lock, folder.as_str(), member) {
             count = count.saturating_add(1);
         }
     }

@@ -1,9 +1,4 @@
 //! What is said of exceptions, for a person.
-ghost use Rattle.std.specs.Prelude.{◌≡◌, Some, string_bytes};
-ghost use Rattle.std.specs.Fmt.{WritesOnOk};
-ghost use Rattle.advisory_exceptions.specs.Exceptions.{exception_value};
-ghost use Rattle.npm_lock_reports.specs.Excepted.{excepted_value};
-ghost use Rattle.npm_lock_reports.specs.Sentences as Sentences;
 
 use crate::excepted::Excepted;
 use advisory_exceptions::{Date, Exception};
@@ -20,8 +15,6 @@ pub struct ExceptedSentence<'a> {
 /// Prints `excepted: lodash 4.17.20 is hit by GHSA-1, until 2027-03-01: only used to build (node_modules/lodash)`, in printable ASCII
 /// alone. Format options such as a width are ignored.
 impl fmt::Display for ExceptedSentence<'_> {
-    ghost output = { λ s. Some (Sentences.excepted_sentence (excepted_value s.excepted.now) (exception_value s.exception.now)) };
-
     fn fmt<W: fmt::Write>(&self, f: &mut fmt::Formatter<W>) -> fmt::Result {
         write_package(f, self.excepted)?;
         write_reason(f, self.exception)?;
@@ -30,9 +23,7 @@ impl fmt::Display for ExceptedSentence<'_> {
 }
 
 /// Prints the package.
-fn write_package<W: fmt::Write>(f: &mut fmt::Formatter<W>, excepted: &Excepted) -> fmt::Result
-    ensures { WritesOnOk W.write_str_gives f.old result (Sentences.package_words (excepted_value excepted.now)) f.new }
-{
+fn write_package<W: fmt::Write>(f: &mut fmt::Formatter<W>, excepted: &Excepted) -> fmt::Result {
     f.write_str("excepted: ")?;
     write_shown(f, excepted.name.as_bytes())?;
     f.write_str(" ")?;
@@ -41,9 +32,7 @@ fn write_package<W: fmt::Write>(f: &mut fmt::Formatter<W>, excepted: &Excepted) 
 }
 
 /// Prints what the exception is.
-fn write_reason<W: fmt::Write>(f: &mut fmt::Formatter<W>, exception: &Exception) -> fmt::Result
-    ensures { WritesOnOk W.write_str_gives f.old result (Sentences.reason_words (exception_value exception.now)) f.new }
-{
+fn write_reason<W: fmt::Write>(f: &mut fmt::Formatter<W>, exception: &Exception) -> fmt::Result {
     write_shown(f, exception.id.as_bytes())?;
     write_until(f, exception.until)?;
     f.write_str(": ")?;
@@ -51,18 +40,14 @@ fn write_reason<W: fmt::Write>(f: &mut fmt::Formatter<W>, exception: &Exception)
 }
 
 /// Prints the folder of the package.
-fn write_folder<W: fmt::Write>(f: &mut fmt::Formatter<W>, excepted: &Excepted) -> fmt::Result
-    ensures { WritesOnOk W.write_str_gives f.old result (Sentences.folder_words (excepted_value excepted.now)) f.new }
-{
+fn write_folder<W: fmt::Write>(f: &mut fmt::Formatter<W>, excepted: &Excepted) -> fmt::Result {
     f.write_str(" (")?;
     write_shown(f, excepted.folder.as_bytes())?;
     f.write_str(")")
 }
 
 /// Prints the last day, if there is one.
-fn write_until<W: fmt::Write>(f: &mut fmt::Formatter<W>, until: Option<Date>) -> fmt::Result
-    ensures { WritesOnOk W.write_str_gives f.old result (Sentences.until_words until) f.new }
-{
+fn write_until<W: fmt::Write>(f: &mut fmt::Formatter<W>, until: Option<Date>) -> fmt::Result {
     match until {
         Some(last) => write!(f, ", until {last}"),
         None => Ok(()),
@@ -79,8 +64,6 @@ pub struct ExceptionSentence<'a> {
 /// Prints `exception: GHSA-1 of lodash is used up, since its last day was 2026-01-01: only used to build`, or `exception: GHSA-1 of
 /// lodash applies to nothing: only used to build`, in printable ASCII alone. Format options such as a width are ignored.
 impl fmt::Display for ExceptionSentence<'_> {
-    ghost output = { λ s. Some (Sentences.exception_sentence s.is_over (exception_value s.exception.now)) };
-
     fn fmt<W: fmt::Write>(&self, f: &mut fmt::Formatter<W>) -> fmt::Result {
         write_named(f, self.exception)?;
         write_standing(f, self.exception, self.is_over)?;
@@ -89,9 +72,7 @@ impl fmt::Display for ExceptionSentence<'_> {
 }
 
 /// Prints the exception.
-fn write_named<W: fmt::Write>(f: &mut fmt::Formatter<W>, exception: &Exception) -> fmt::Result
-    ensures { WritesOnOk W.write_str_gives f.old result (Sentences.named_words (exception_value exception.now)) f.new }
-{
+fn write_named<W: fmt::Write>(f: &mut fmt::Formatter<W>, exception: &Exception) -> fmt::Result {
     f.write_str("exception: ")?;
     write_shown(f, exception.id.as_bytes())?;
     f.write_str(" of ")?;
@@ -99,9 +80,7 @@ fn write_named<W: fmt::Write>(f: &mut fmt::Formatter<W>, exception: &Exception) 
 }
 
 /// Prints its reason.
-fn write_why<W: fmt::Write>(f: &mut fmt::Formatter<W>, exception: &Exception) -> fmt::Result
-    ensures { WritesOnOk W.write_str_gives f.old result (Sentences.why_words (exception_value exception.now)) f.new }
-{
+fn write_why<W: fmt::Write>(f: &mut fmt::Formatter<W>, exception: &Exception) -> fmt::Result {
     f.write_str(": ")?;
     write_shown(f, exception.reason.as_bytes())
 }
@@ -111,10 +90,7 @@ fn write_standing<W: fmt::Write>(
     f: &mut fmt::Formatter<W>,
     exception: &Exception,
     is_over: bool,
-) -> fmt::Result
-    ensures { WritesOnOk W.write_str_gives f.old result
-        (Sentences.standing_words is_over (exception_value exception.now)) f.new }
-{
+) -> fmt::Result {
     if is_over {
         write_over(f, exception.until)
     } else {
@@ -123,9 +99,7 @@ fn write_standing<W: fmt::Write>(
 }
 
 /// Prints that an exception is over.
-fn write_over<W: fmt::Write>(f: &mut fmt::Formatter<W>, until: Option<Date>) -> fmt::Result
-    ensures { WritesOnOk W.write_str_gives f.old result (Sentences.over_words until) f.new }
-{
+fn write_over<W: fmt::Write>(f: &mut fmt::Formatter<W>, until: Option<Date>) -> fmt::Result {
     match until {
         Some(last) => write!(f, " is used up, since its last day was {last}"),
         None => f.write_str(" is used up"),

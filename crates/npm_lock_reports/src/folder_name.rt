@@ -1,6 +1,4 @@
 //! The folder of a manifest, in the line of an error.
-ghost use Rattle.std.specs.Prelude.{Some, string_bytes};
-ghost use Rattle.command_lines.specs.Shown as Shown;
 
 use command_lines::write_shown;
 use std::fmt;
@@ -13,8 +11,6 @@ pub struct FolderName {
 
 /// Prints the folder in printable ASCII alone, as sentences do. Format options such as a width are ignored.
 impl fmt::Display for FolderName {
-    ghost output = { λ name. Some (Shown.shown (string_bytes name.text)) };
-
     fn fmt<W: fmt::Write>(&self, f: &mut fmt::Formatter<W>) -> fmt::Result {
         write_shown(f, self.text.as_bytes())
     }

@@ -1,23 +1,10 @@
 //! The laws of a report. The functions here do nothing: the contract of each is a law.
-ghost use Rattle.std.specs.Prelude.{ℕ, List, Option};
+ghost use Rattle.std.specs.Prelude.{List, Option};
 ghost use Rattle.serde_json.specs.Data.{Data};
 ghost use Rattle.node_semver.specs.Versions.{VersionValue};
 ghost use Rattle.npm_lock.specs.declared.problem.Problems.{Problems};
 ghost use Rattle.npm_advisories.specs.Audit.{FoundValue};
-ghost use Rattle.npm_lock_reports.specs.ReportLaws.{HasALineForEach, HasAsManyLines};
-ghost use Rattle.npm_lock_reports.specs.Style.{StyleValue};
 ghost use Rattle.npm_lock_reports.specs.VersionLaws.{HitsHaveVersions, ProblemsHaveVersions, UncheckedHaveVersions};
-ghost use Rattle.npm_lock_reports.specs.declared.report.Report.{Report};
-
-/// The text of a report, divided at its newline bytes, is a line for each mismatch, for each problem, for each package that an
-/// advisory hits and, if they are listed, for each dependency that is not checked and each manifest that was not read: each once,
-/// in the order of its list, and no other line. So there are as many lines as such things. No text of a file divides a line.
-pub fn lines_are_those_of_the_report()
-    ensures lines { (style : StyleValue) (report : Report) (found : List FoundValue) (text : List ℕ)
-        → HasALineForEach style report found text }
-    ensures count { (style : StyleValue) (report : Report) (found : List FoundValue) (text : List ℕ)
-        → HasAsManyLines style report found text }
-{}
 
 /// The version of a problem or of a dependency that is not checked is the one that the lock file has in the folder that is said
 /// with it, and the version of the package that asks is the one of its folder. A problem with Node says the version of Node. The

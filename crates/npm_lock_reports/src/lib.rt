@@ -2,13 +2,14 @@
 //!
 //! [`Omissions`] says which packages are left out, as `npm ci --omit` and `npm audit --omit` do; [`leave_out_omitted`] and
 //! [`leave_out_unchecked`] remove what is found of them, and [`count_of`] counts them. [`Exceptions`] say which advisories do not
-//! count for a package, and [`excepted_of`] lists them. [`counted_hits`] are the hits that count by both.
+//! count for a package, and [`excepted_of`] lists them. [`counted_hits`] are the hits that count by both. [`has_no_advisory`] is
+//! `true` for a file of advisories with none in it.
 //!
 //! See docs/DECISIONS.md, "Exceptions have a reason, and stand on standard error".
 //!
 //! [`Report`] has the mismatches and the problems, and prints their counts. [`lines_of`] writes a line for each, in a
 //! [`LineStyle`]: a sentence, or a JSON object, and either with the lock file or without. [`push_sentence`] and others write one
-//! sentence. [`laws::lines_are_those_of_the_report`] does nothing: its contract says that no line is left out, written twice or divided.
+//! sentence. No text of a file divides a line.
 #![tactic(auto)]
 
 mod count;
@@ -23,12 +24,17 @@ pub mod laws;
 mod left;
 mod left_out;
 mod lines;
+mod needed;
 mod omissions;
+mod piece;
 mod problems;
+mod read;
 mod report;
 mod sentence;
+mod source_sentence;
 mod style;
 mod unread;
+mod workspace;
 
 pub use count::count_of;
 pub use excepted::{Excepted, excepted_of};
@@ -39,11 +45,14 @@ pub use format::ReportFormat;
 pub use hit_sentence::push_hit_sentence;
 pub use hits::{CountedHits, counted_hits};
 pub use left::leave_out_excepted;
-pub use left_out::{leave_out_hits, leave_out_problems, leave_out_unchecked};
+pub use left_out::{leave_out_hits, leave_out_problems, leave_out_sources, leave_out_unchecked};
 pub use lines::lines_of;
+pub use needed::left_out_but_needed;
 pub use omissions::Omissions;
 pub use problems::leave_out_omitted;
+pub use read::{count_read, has_no_advisory};
 pub use report::Report;
 pub use sentence::{push_mismatch_sentence, push_sentence, push_unchecked_sentence};
+pub use source_sentence::push_source_sentence;
 pub use style::LineStyle;
 pub use unread::{Unread, push_unread_sentence, unread_json};

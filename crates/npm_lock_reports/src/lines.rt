@@ -1,26 +1,22 @@
 //! The lines that are written about a lock file.
-ghost use Rattle.std.specs.Prelude.{◌≡◌, ◌++◌, List, ℕ, IfOk, OnOk, map};
+ghost use Rattle.std.specs.Prelude.{◌≡◌, ◌+◌, IfOk, OnOk, length, map};
 ghost use Rattle.npm_advisories.specs.Audit.{found_value};
-ghost use Rattle.npm_lock.specs.Mismatches.{mismatch_value};
-ghost use Rattle.npm_lock.specs.Outcomes.{problem_value, unchecked_value};
-ghost use Rattle.npm_lock_reports.specs.Report as Reports;
-ghost use Rattle.npm_lock_reports.specs.Report.{AreLines, IsHitLine, IsReportText, line_text, mismatch_text};
-ghost use Rattle.npm_lock_reports.specs.Report.{unchecked_text, unread_text};
-ghost use Rattle.npm_lock_reports.specs.Style.{style_value};
-ghost use Rattle.npm_lock_reports.specs.Unread.{unread_value};
+ghost use Rattle.npm_lock_reports.specs.Lines as Lines;
+ghost use Rattle.npm_lock_reports.specs.Lines.{line_count, thing_count};
 
 use crate::format::ReportFormat;
 use crate::hit_sentence::push_hit_sentence;
 use crate::report::Report;
 use crate::sentence::{push_mismatch_sentence, push_sentence, push_unchecked_sentence};
+use crate::source_sentence::push_source_sentence;
 use crate::style::{LineStyle, push_file, push_object};
 use crate::unread::{Unread, push_unread_sentence, unread_json};
 use npm_advisories::Found;
-use npm_lock::{Mismatch, Problem, Unchecked};
+use npm_lock::{Mismatch, Problem, Source, Unchecked};
 use std::alloc::{AllocError, Global};
 
-/// Returns the lines of a report, and of the packages that are hit: of the mismatches, of the problems, of the packages, and if
-/// they are listed of the dependencies that are not checked and of what was not looked at.
+/// Returns the lines of a report, and of the packages that are hit: of the mismatches, of the problems, of the packages, of
+/// what is suspicious in where packages come from, and if they are listed of the dependencies that are not checked and of what was not looked at.
 ///
 /// # Errors
 ///
@@ -28,19 +24,20 @@ use std::alloc::{AllocError, Global};
 ///
 /// # Memory
 ///
-/// Allocates the lines, and for each line in JSON the object and its text.
+/// Allocates the lines, and for each line its text, and in JSON the object.
 pub fn lines_of(
     alloc: Global,
     report: &Report,
     found: &[Found<'_, '_>],
     style: LineStyle<'_>,
 ) -> Result<Vec<u8>, AllocError>
-    ensures { IfOk result (λ text. IsReportText (style_value style.entry) report.now (map found_value found.now) text.items) }
+    ensures { IfOk result (λ text. line_count text.items ≡ thing_count report.now (map found_value found.now)) }
 {
     let mut lines = Vec::new(alloc);
     push_mismatches(alloc, &mut lines, &report.mismatches, style)?;
     push_problems(alloc, &mut lines, &report.problems.list, style)?;
     push_hits(alloc, &mut lines, found, style)?;
+    push_sources(alloc, &mut lines, &report.sources, style)?;
     if report.listed {
         push_all_unchecked(alloc, &mut lines, &report.problems.unchecked, style)?;
         push_all_unread(alloc, &mut lines, &report.unread, style)?;
@@ -55,12 +52,11 @@ fn push_mismatches(
     mismatches: &[Mismatch],
     style: LineStyle<'_>,
 ) -> Result<(), AllocError>
-    ensures { OnOk result (lines.new.items
-        ≡ lines.old.items ++ Reports.lines (mismatch_text (style_value style.entry)) (map mismatch_value mismatches.now)) }
+    ensures { OnOk result (line_count lines.new.items ≡ line_count lines.old.items + length mismatches.now) }
 {
     for mismatch in mismatches {
-        push_mismatch(alloc, lines, mismatch, style)?;
-        lines.extend_from_slice(b"\n")?;
+        let line = mismatch_line(alloc, mismatch, style)?;
+        push_line(lines, &line)?;
     }
     Ok(())
 }
@@ -72,12 +68,11 @@ fn push_problems(
     problems: &[Problem],
     style: LineStyle<'_>,
 ) -> Result<(), AllocError>
-    ensures { OnOk result (lines.new.items
-        ≡ lines.old.items ++ Reports.lines (line_text (style_value style.entry)) (map problem_value problems.now)) }
+    ensures { OnOk result (line_count lines.new.items ≡ line_count lines.old.items + length problems.now) }
 {
     for problem in problems {
-        push_problem(alloc, lines, problem, style)?;
-        lines.extend_from_slice(b"\n")?;
+        let line = problem_line(alloc, problem, style)?;
+        push_line(lines, &line)?;
     }
     Ok(())
 }
@@ -89,12 +84,27 @@ fn push_hits(
     found: &[Found<'_, '_>],
     style: LineStyle<'_>,
 ) -> Result<(), AllocError>
-    ensures { OnOk result ((text : List ℕ) × AreLines (IsHitLine (style_value style.entry)) (map found_value found.now) text
-        × (lines.new.items ≡ lines.old.items ++ text)) }
+    ensures { OnOk result (line_count lines.new.items ≡ line_count lines.old.items + length found.now) }
 {
     for one in found {
-        push_hit(alloc, lines, one, style)?;
-        lines.extend_from_slice(b"\n")?;
+        let line = hit_line(alloc, one, style)?;
+        push_line(lines, &line)?;
+    }
+    Ok(())
+}
+
+/// Adds a line for each suspicious source.
+fn push_sources(
+    alloc: Global,
+    lines: &mut Vec<u8>,
+    sources: &[Source],
+    style: LineStyle<'_>,
+) -> Result<(), AllocError>
+    ensures { OnOk result (line_count lines.new.items ≡ line_count lines.old.items + length sources.now) }
+{
+    for source in sources {
+        let line = source_line(alloc, source, style)?;
+        push_line(lines, &line)?;
     }
     Ok(())
 }
@@ -106,12 +116,11 @@ fn push_all_unchecked(
     all: &[Unchecked],
     style: LineStyle<'_>,
 ) -> Result<(), AllocError>
-    ensures { OnOk result (lines.new.items
-        ≡ lines.old.items ++ Reports.lines (unchecked_text (style_value style.entry)) (map unchecked_value all.now)) }
+    ensures { OnOk result (line_count lines.new.items ≡ line_count lines.old.items + length all.now) }
 {
     for unchecked in all {
-        push_unchecked(alloc, lines, unchecked, style)?;
-        lines.extend_from_slice(b"\n")?;
+        let line = unchecked_line(alloc, unchecked, style)?;
+        push_line(lines, &line)?;
     }
     Ok(())
 }
@@ -123,104 +132,139 @@ fn push_all_unread(
     all: &[Unread],
     style: LineStyle<'_>,
 ) -> Result<(), AllocError>
-    ensures { OnOk result (lines.new.items
-        ≡ lines.old.items ++ Reports.lines (unread_text (style_value style.entry)) (map unread_value all.now)) }
+    ensures { OnOk result (line_count lines.new.items ≡ line_count lines.old.items + length all.now) }
 {
     for unread in all {
-        push_unread(alloc, lines, unread, style)?;
-        lines.extend_from_slice(b"\n")?;
+        let line = unread_line(alloc, unread, style)?;
+        push_line(lines, &line)?;
     }
     Ok(())
 }
 
-/// Adds a mismatch.
-fn push_mismatch(
+/// Adds a line and a newline byte. A newline byte in the line is written as a blank, so that no line is divided.
+fn push_line(lines: &mut Vec<u8>, line: &[u8]) -> Result<(), AllocError>
+    ensures { OnOk result (line_count lines.new.items ≡ line_count lines.old.items + 1) }
+{
+    for byte in line {
+        lines.push(one_line_byte(*byte))?;
+    }
+    lines.push(b'\n')?;
+    Ok(())
+}
+
+/// The byte, or a blank for a newline byte.
+fn one_line_byte(byte: u8) -> u8
+    ensures { result ≡ Lines.one_line_byte byte }
+{
+    if byte == b'\n' { b' ' } else { byte }
+}
+
+/// The line of a mismatch.
+fn mismatch_line(
     alloc: Global,
-    line: &mut Vec<u8>,
     mismatch: &Mismatch,
     style: LineStyle<'_>,
-) -> Result<(), AllocError>
-    ensures { OnOk result (line.new.items ≡ line.old.items ++ mismatch_text (style_value style.entry) (mismatch_value mismatch.now)) }
-{
+) -> Result<Vec<u8>, AllocError> {
+    let mut line = Vec::new(alloc);
     match style.format {
         ReportFormat::Text => {
-            push_file(line, style.file)?;
-            push_mismatch_sentence(line, mismatch)
+            push_file(&mut line, style.file)?;
+            push_mismatch_sentence(&mut line, mismatch)?;
         }
-        ReportFormat::Json => push_object(alloc, line, mismatch.to_json(alloc)?, style.file),
+        ReportFormat::Json => {
+            push_object(alloc, &mut line, mismatch.to_json(alloc)?, style.file)?;
+        }
     }
+    Ok(line)
 }
 
-/// Adds a problem.
-fn push_problem(
+/// The line of a problem.
+fn problem_line(
     alloc: Global,
-    line: &mut Vec<u8>,
     problem: &Problem,
     style: LineStyle<'_>,
-) -> Result<(), AllocError>
-    ensures { OnOk result (line.new.items ≡ line.old.items ++ line_text (style_value style.entry) (problem_value problem.now)) }
-{
+) -> Result<Vec<u8>, AllocError> {
+    let mut line = Vec::new(alloc);
     match style.format {
         ReportFormat::Text => {
-            push_file(line, style.file)?;
-            push_sentence(line, problem)
+            push_file(&mut line, style.file)?;
+            push_sentence(&mut line, problem)?;
         }
-        ReportFormat::Json => push_object(alloc, line, problem.to_json(alloc)?, style.file),
+        ReportFormat::Json => {
+            push_object(alloc, &mut line, problem.to_json(alloc)?, style.file)?;
+        }
     }
+    Ok(line)
 }
 
-/// Adds a package that is hit.
-fn push_hit(
+/// The line of a package that is hit.
+fn hit_line(
     alloc: Global,
-    line: &mut Vec<u8>,
     found: &Found<'_, '_>,
     style: LineStyle<'_>,
-) -> Result<(), AllocError>
-    ensures { OnOk result ((text : List ℕ) × IsHitLine (style_value style.entry) (found_value found.now) text
-        × (line.new.items ≡ line.old.items ++ text)) }
-{
+) -> Result<Vec<u8>, AllocError> {
+    let mut line = Vec::new(alloc);
     match style.format {
         ReportFormat::Text => {
-            push_file(line, style.file)?;
-            push_hit_sentence(alloc, line, found)
+            push_file(&mut line, style.file)?;
+            push_hit_sentence(alloc, &mut line, found)?;
         }
-        ReportFormat::Json => push_object(alloc, line, found.to_json(alloc)?, style.file),
+        ReportFormat::Json => push_object(alloc, &mut line, found.to_json(alloc)?, style.file)?,
     }
+    Ok(line)
 }
 
-/// Adds a dependency that is not checked.
-fn push_unchecked(
+/// The line of a suspicious source.
+fn source_line(
     alloc: Global,
-    line: &mut Vec<u8>,
+    source: &Source,
+    style: LineStyle<'_>,
+) -> Result<Vec<u8>, AllocError> {
+    let mut line = Vec::new(alloc);
+    match style.format {
+        ReportFormat::Text => {
+            push_file(&mut line, style.file)?;
+            push_source_sentence(&mut line, source)?;
+        }
+        ReportFormat::Json => push_object(alloc, &mut line, source.to_json(alloc)?, style.file)?,
+    }
+    Ok(line)
+}
+
+/// The line of a dependency that is not checked.
+fn unchecked_line(
+    alloc: Global,
     unchecked: &Unchecked,
     style: LineStyle<'_>,
-) -> Result<(), AllocError>
-    ensures { OnOk result (line.new.items
-        ≡ line.old.items ++ unchecked_text (style_value style.entry) (unchecked_value unchecked.now)) }
-{
+) -> Result<Vec<u8>, AllocError> {
+    let mut line = Vec::new(alloc);
     match style.format {
         ReportFormat::Text => {
-            push_file(line, style.file)?;
-            push_unchecked_sentence(line, unchecked)
+            push_file(&mut line, style.file)?;
+            push_unchecked_sentence(&mut line, unchecked)?;
         }
-        ReportFormat::Json => push_object(alloc, line, unchecked.to_json(alloc)?, style.file),
+        ReportFormat::Json => {
+            push_object(alloc, &mut line, unchecked.to_json(alloc)?, style.file)?;
+        }
     }
+    Ok(line)
 }
 
-/// Adds what was not looked at.
-fn push_unread(
+/// The line of what was not looked at.
+fn unread_line(
     alloc: Global,
-    line: &mut Vec<u8>,
     unread: &Unread,
     style: LineStyle<'_>,
-) -> Result<(), AllocError>
-    ensures { OnOk result (line.new.items ≡ line.old.items ++ unread_text (style_value style.entry) (unread_value unread.now)) }
-{
+) -> Result<Vec<u8>, AllocError> {
+    let mut line = Vec::new(alloc);
     match style.format {
         ReportFormat::Text => {
-            push_file(line, style.file)?;
-            push_unread_sentence(line, unread)
+            push_file(&mut line, style.file)?;
+            push_unread_sentence(&mut line, unread)?;
         }
-        ReportFormat::Json => push_object(alloc, line, unread_json(alloc, unread)?, style.file),
+        ReportFormat::Json => {
+            push_object(alloc, &mut line, unread_json(alloc, unread)?, style.file)?;
+        }
     }
+    Ok(line)
 }

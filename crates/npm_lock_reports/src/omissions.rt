@@ -4,6 +4,7 @@ ghost use Rattle.serde_json.specs.View.{view};
 ghost use Rattle.npm_lock.specs.Outcomes.{dependency_value};
 ghost use Rattle.npm_lock_reports.specs.Omissions as Omitted;
 
+use crate::workspace::is_in_project;
 use npm_lock::Dependency;
 use npm_texts::has_true;
 use serde_json::Value;
@@ -25,19 +26,20 @@ impl Omissions {
         self.dev || self.optional
     }
 
-    /// Returns `true` if the package in this folder is left out. The root never is.
+    /// Returns `true` if the package in this folder of the lock file is left out. The root never is, and neither is what npm installs
+    /// for a linked folder that is no workspace.
     ///
     /// # Source
     ///
     /// npm's documentation of "npm audit" and of "npm ci", "omit".
-    pub fn has(self, folder: &str, member: &Value) -> bool
-        ensures { result ≡ Omitted.is_omitted self folder.now (view member.now) }
+    pub fn has(self, lock: &Value, folder: &str, member: &Value) -> bool
+        ensures { result ≡ Omitted.is_omitted self (view lock.now) folder.now (view member.now) }
     {
-        !folder.is_empty() && self.has_marked(member)
+        !folder.is_empty() && self.has_marked(member) && is_in_project(lock, folder)
     }
 
     /// Returns `true` if a package with the marks of this one is left out.
-    fn has_marked(self, member: &Value) -> bool
+    pub(crate) fn has_marked(self, member: &Value) -> bool
         ensures { result ≡ Omitted.is_marked_out self (view member.now) }
     {
         (self.dev && has_true(member, "dev"))
@@ -50,7 +52,7 @@ impl Omissions {
         ensures { result ≡ Omitted.is_omitted_at self (view lock.now) folder.now }
     {
         match member_at(lock, folder) {
-            Some(member) => self.has(folder, member),
+            Some(member) => self.has(lock, folder, member),
             None => false,
         }
     }
@@ -84,7 +86,7 @@ fn has_mark_at(lock: &Value, folder: &str, mark: &str) -> bool
 }
 
 /// The member of `packages` for this folder.
-fn member_at<'v>(lock: &'v Value, folder: &str) -> Option<&'v Value>
+pub(crate) fn member_at<'v>(lock: &'v Value, folder: &str) -> Option<&'v Value>
     ensures { option_map (λ member. view member.now) result ≡ Omitted.member_at (view lock.now) folder.now }
 {
     lock.get("packages")?.get(folder)

@@ -1,10 +1,10 @@
 //! The report of a lock file, and the line of its counts.
 ghost use Rattle.std.specs.Prelude.{◌≡◌, ◌↔◌, IsTrue};
-ghost use Rattle.npm_lock_reports.specs.Report.{IsClean};
+ghost use Rattle.npm_lock_reports.specs.Report.{IsChecked, IsClean};
 
 use crate::Excepted;
 use crate::unread::Unread;
-use npm_lock::{Mismatch, Problems};
+use npm_lock::{Mismatch, Problems, Source};
 use std::fmt;
 
 /// The report of a lock file.
@@ -16,12 +16,18 @@ pub struct Report {
     pub mismatches: Vec<Mismatch>,
     /// Mismatches count for the status.
     pub exact: bool,
+    /// What is not checked counts for the status.
+    pub strict: bool,
     /// What was not looked at: manifests of linked packages, workspaces on disk, and what the root depends on.
     pub unread: Vec<Unread>,
     /// The problems of the lock file but those of kinds that are left out, with the counts of all.
     pub problems: Problems,
+    /// What is suspicious in where packages come from, if it counts.
+    pub sources: Vec<Source>,
     /// Advisories were looked up.
     pub audited: bool,
+    /// How many advisories were read.
+    pub advisories: usize,
     /// How many installed packages an advisory hits.
     pub hits: usize,
     /// What is excepted, and does not count.
@@ -38,7 +44,18 @@ impl Report {
         ensures { IsTrue result ↔ IsClean self.now }
     {
         let is_same = !self.exact || self.mismatches.is_empty();
-        is_same && self.problems.list.is_empty() && self.hits == 0
+        is_same
+            && self.problems.list.is_empty()
+            && self.sources.is_empty()
+            && self.hits == 0
+            && self.is_checked()
+    }
+
+    /// Returns `true` if nothing that is not checked counts for the status.
+    fn is_checked(&self) -> bool
+        ensures { IsTrue result ↔ IsChecked self.now }
+    {
+        !self.strict || (self.problems.unchecked.is_empty() && self.unread.is_empty())
     }
 
     /// How many manifests were not read.
@@ -66,8 +83,8 @@ impl Report {
 }
 
 /// Prints the counts. Those of mismatches and of packages that are hit are left out if nothing was looked for. If dependencies
-/// that are not checked were not listed, names the option that lists them. Says so if workspaces were not looked for, and if the lock
-/// file has no root. Last are the number of exceptions that applied, if one did, and that of packages that are left out, if a group is.
+/// that are not checked were not listed, names the option that lists them. Says so if workspaces were not looked for, if the lock
+/// file has no root, and if something is suspicious in where packages come from. Last are the number of exceptions that applied, if one did, and that of packages that are left out, if a group is.
 impl fmt::Display for Report {
     fn fmt<W: fmt::Write>(&self, f: &mut fmt::Formatter<W>) -> fmt::Result {
         let problems = &self.problems;
@@ -100,8 +117,15 @@ impl fmt::Display for Report {
         if self.has_no_root() {
             write!(f, ", the root not known{see}")?;
         }
+        if !self.sources.is_empty() {
+            write!(f, ", {} suspicious sources", self.sources.len())?;
+        }
         if self.audited {
-            write!(f, ", {} hit", self.hits)?;
+            write!(
+                f,
+                ", {} hit, {} advisories read",
+                self.hits, self.advisories
+            )?;
         }
         if !self.excepted.is_empty() {
             write!(f, ", {} excepted", self.excepted.len())?;

@@ -1,11 +1,10 @@
 //! What was not looked at beside a lock file, as a sentence and as a JSON object.
-ghost use Rattle.std.specs.Prelude.{◌≡◌, ◌++◌, IfOk, OnOk};
-ghost use Rattle.serde_json.specs.View.{view};
+ghost use Rattle.std.specs.Prelude.{◌≡◌};
 ghost use Rattle.npm_lock_reports.specs.Unread as UnreadThings;
 ghost use Rattle.npm_lock_reports.specs.Unread.{unread_value};
 
 use crate::folder_name::FolderName;
-use command_lines::push_shown_first;
+use crate::piece::{Piece, push_pieces};
 use serde_json::{Map, Value, put};
 use std::alloc::{AllocError, Global};
 
@@ -31,41 +30,45 @@ impl Unread {
         }
     }
 
-    fn word(&self) -> &str
-        ensures { result.now ≡ UnreadThings.unread_word (unread_value self.now) }
-    {
+    fn word(&self) -> &'static str {
         match self {
             Unread::Manifest(_) => "manifest",
             Unread::Workspaces => "workspaces",
             Unread::Root => "root",
         }
     }
-}
 
-/// Adds the sentence of what was not looked at.
-pub fn push_unread_sentence(line: &mut Vec<u8>, unread: &Unread) -> Result<(), AllocError>
-    ensures { OnOk result (line.new.items ≡ line.old.items ++ UnreadThings.unread_sentence (unread_value unread.now)) }
-{
-    match unread {
-        Unread::Manifest(folder) => {
-            push_shown_first(line, folder.text.as_str())?;
-            line.extend_from_slice(
-                b"/package.json is not read: it is outside the folder of --manifest, or no regular file",
-            )
+    fn sentence(&self) -> [Piece<'_>; 2] {
+        match self {
+            Unread::Manifest(folder) => [
+                Piece::First(folder.text.as_str()),
+                Piece::Fixed(
+                    "/package.json is not read: it is outside the folder of --manifest, or no regular file",
+                ),
+            ],
+            Unread::Workspaces => [
+                Piece::Fixed(
+                    "no workspaces are looked for on disk: a pattern of `workspaces` is not read",
+                ),
+                Piece::Fixed(""),
+            ],
+            Unread::Root => [
+                Piece::Fixed(
+                    "what the root depends on is not known: `packages` has no member \"\"; --manifest says it",
+                ),
+                Piece::Fixed(""),
+            ],
         }
-        Unread::Workspaces => line.extend_from_slice(
-            b"no workspaces are looked for on disk: a pattern of `workspaces` is not read",
-        ),
-        Unread::Root => line.extend_from_slice(
-            b"what the root depends on is not known: `packages` has no member \"\"; --manifest says it",
-        ),
     }
 }
 
+/// Adds the sentence of what was not looked at.
+pub fn push_unread_sentence(line: &mut Vec<u8>, unread: &Unread) -> Result<(), AllocError> {
+    push_pieces(line, &unread.sentence())
+}
+
 /// The JSON object of what was not looked at.
-pub fn unread_json(alloc: Global, unread: &Unread) -> Result<Value, AllocError>
-    ensures { IfOk result (λ value. view value ≡ UnreadThings.unread_data (unread_value unread.now)) }
-{
+pub fn unread_json(alloc: Global, unread: &Unread) -> Result<Value, AllocError> {
     let mut members = Map::new(alloc);
     let from = String::from_str(alloc, unread.folder())?;
     put(&mut members, alloc, "from", Value::String(from))?;

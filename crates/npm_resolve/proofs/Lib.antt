@@ -2,5 +2,6 @@ mod Zips
 mod Wishing
 mod Gathering
 mod Naming
+mod Needing
 mod Keys
 mod Changing

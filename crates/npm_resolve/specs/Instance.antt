@@ -1,5 +1,5 @@
 -- The problem that manifests and documents pose: the demands of version_solving in the words of npm.
-use Rattle.std.specs.Prelude.{◌≡◌, ◌↔◌, ◌++◌, ℕ, ℤ, List, [], Bool, IsTrue, Option, Some, None, MatchOption, bytes_eq, false, map, slice_get, string_bytes, true}
+use Rattle.std.specs.Prelude.{◌≡◌, ◌↔◌, ◌++◌, ◌||◌, ℕ, ℤ, List, [], Bool, IsTrue, Option, Some, None, MatchOption, bytes_eq, false, map, slice_get, string_bytes, true}
 use Rattle.std.specs.List.{All, AllZip, Contains}
 use Rattle.std.specs.Option.{option_map_or}
 use Rattle.serde_json.specs.View.{view}
@@ -52,13 +52,18 @@ pub record IsListedFor (reach : Reach) (rules : RulesValue) (omits : Omits) (off
 
 -- ---- ranges
 
+-- A spec for this package is met by versions of the package of the name. A spec that is no alias is for the name itself, and then npm
+-- asks only for the version: `vite ^7` is met by `"vite": "npm:rolldown-vite@^7"`.
+abbrev pub is_for : (of_package : List ℕ) → Offer → Bool
+is_for of_package offer = bytes_eq of_package offer.package.now || bytes_eq of_package offer.name.now
+
 -- What a spec means for a name: what its text means for the package of the name. An alias of another package allows nothing.
 pub data IsMeaningFor (before : Option ℤ) (offer : Offer) (spec : List ℕ) : MeaningValue → Type 0 where
   by_text : (request : RegistrySpecValue) (meaning : MeaningValue) → registry_spec offer.name.now spec ≡ Some request
-      → bytes_eq request.name offer.package.now ≡ true → IsMeaning (view offer.packument.now) before request.text meaning
+      → is_for request.name offer ≡ true → IsMeaning (view offer.packument.now) before request.text meaning
       → IsMeaningFor before offer spec meaning
   of_another : (request : RegistrySpecValue) → registry_spec offer.name.now spec ≡ Some request
-      → bytes_eq request.name offer.package.now ≡ false → IsMeaningFor before offer spec nothing
+      → is_for request.name offer ≡ false → IsMeaningFor before offer spec nothing
   of_none : registry_spec offer.name.now spec ≡ None → IsMeaningFor before offer spec nothing
 
 -- The candidates that the meaning admits are allowed.

@@ -1,27 +1,39 @@
 //! Names without a document.
-ghost use Rattle.std.specs.Prelude.{◌≡◌, ◌++◌, ℕ, List, [], IfOk, IsTrue, OnOk, All};
+ghost use Rattle.std.specs.Prelude.{◌≡◌, ◌++◌, ℕ, List, [], IfOk, IsTrue, OnOk, All, map};
 ghost use Rattle.version_solving.specs.declared.ask.Listed.{Listed};
 ghost use Rattle.npm_resolve.specs.Instance.{AreAbsent, AreAskersNamed, IsAskNamed, IsNamed};
+ghost use Rattle.npm_resolve.specs.Missing as Missing;
 ghost use Rattle.npm_resolve.specs.Private.Naming.{AreNamesAdded};
+ghost use Rattle.npm_resolve.specs.ReasonValues.{text};
 
 use crate::Result;
+use crate::missing::missing_among;
 use std::alloc::Global;
 use std::collections::BTreeMap;
 use version_solving::{Ask, Asker, Listed};
+
+/// All names, and those without a document that versions need.
+#[derive(Drop)]
+pub(crate) struct Named<'v> {
+    pub(crate) names: Vec<Listed<'v>>,
+    pub(crate) missing: Vec<&'v str>,
+}
 
 /// Returns a list of names, and behind it each name that is asked for and is not there. It has no candidates.
 pub(crate) fn with_absent<'v>(
     alloc: Global,
     asks: &[Ask<'v>],
     listed: Vec<Listed<'v>>,
-) -> Result<Vec<Listed<'v>>>
-    ensures { IfOk result (λ names. (absent : List Listed) × AreAbsent asks.now listed.entry.items absent
-        × (names.items ≡ listed.entry.items ++ absent)) }
+) -> Result<Named<'v>>
+    ensures { IfOk result (λ named. (absent : List Listed) × AreAbsent asks.now listed.entry.items absent
+        × (named.names.items ≡ listed.entry.items ++ absent)
+        × (map text named.missing.items ≡ Missing.missing_among listed.entry.items (map (λ (one : Listed). one.name.now) absent))) }
 {
     let mut absent = absent_of(alloc, asks, &listed)?;
+    let missing = missing_among(alloc, &listed, &absent)?;
     let mut names = listed;
     names.append(&mut absent)?;
-    Ok(names)
+    Ok(Named { names, missing })
 }
 
 /// The names that are asked for and are not in a list.

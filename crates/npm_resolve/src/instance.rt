@@ -1,8 +1,9 @@
 //! The problem that documents pose.
-ghost use Rattle.std.specs.Prelude.{IfOk};
+ghost use Rattle.std.specs.Prelude.{◌≡◌, IfOk};
 ghost use Rattle.std.specs.List.{AllZip};
 ghost use Rattle.npm_packages.specs.Rules.{rule_at};
 ghost use Rattle.npm_candidates.specs.Meanings.{MeaningValue, Means};
+ghost use Rattle.npm_resolve.specs.Instance as Posing;
 ghost use Rattle.npm_resolve.specs.Instance.{AreAllowed, AreListed, AreRanges, IsAllowed, IsListedFor, IsMeaningFor, IsOffer, IsRangeFor};
 
 use crate::Result;
@@ -145,7 +146,8 @@ fn allowed_by(alloc: Global, meaning: &Meaning, candidates: &[Candidate<'_>]) ->
     Ok(allowed)
 }
 
-/// What a spec means for a name. An alias of another package than that of the name allows nothing.
+/// What a spec means for a name. An alias of another package than that of the name allows nothing. A spec for the name itself allows
+/// versions whichever package has the name, as npm does.
 fn meaning_for(
     alloc: Global,
     offer: &Offer<'_>,
@@ -157,9 +159,16 @@ fn meaning_for(
     let Some(request) = registry_spec(offer.name, spec) else {
         return Ok(Meaning::Nothing);
     };
-    if request.name == offer.package {
+    if is_for(request.name, offer) {
         meaning_of(alloc, offer.packument, before, request.text)
     } else {
         Ok(Meaning::Nothing)
     }
+}
+
+/// Returns `true` if a spec for this package is met by versions of the package of a name: it is for that package, or for the name itself.
+fn is_for(asked: &str, offer: &Offer<'_>) -> bool
+    ensures { result ≡ Posing.is_for asked.now offer.now }
+{
+    asked == offer.package || asked == offer.name
 }

@@ -12,6 +12,7 @@ mod culprits;
 mod documents;
 mod explained;
 mod instance;
+mod missing;
 mod posed;
 mod requests;
 mod resolve;

@@ -8,7 +8,7 @@ ghost use Rattle.npm_resolve.specs.Answers.{IsAnswer, IsResolution};
 ghost use Rattle.npm_resolve.specs.Explanations.{AreReasons, IsConflict};
 
 use crate::Result;
-use crate::absent::with_absent;
+use crate::absent::{Named, with_absent};
 use crate::answer::{Answer, Resolution};
 use crate::chosen::all_chosen;
 use crate::conflict::{Conflict, Reason};
@@ -27,7 +27,7 @@ use version_solving::{Demand, Documents, Numbered, Outcome, by_number, culprits,
 
 /// Returns versions that fit together: of the names that manifests need, and of those that their versions need, one version each, so
 /// that all that is asked for is met. A version needs its peers and, by `Reach::Dependencies`, its `dependencies`. A name without a
-/// document has no versions.
+/// document has no versions; one that a version needs is told in the answer.
 ///
 /// `overrides` of the first manifest, which is the root, change what the manifests and the versions ask for. Those of other manifests
 /// do not count. A rule that is not read changes nothing, and is told in the answer.
@@ -61,7 +61,7 @@ pub fn resolved<'v>(
     let Asks { asks, left_out } = wishes_of(alloc, manifests, &rules, omits)?;
     let offers = offers_of(alloc, documents, options)?;
     let listed = lists_of(alloc, &offers, reach, &rules, omits)?;
-    let names = with_absent(alloc, &asks, listed)?;
+    let Named { names, missing } = with_absent(alloc, &asks, listed)?;
     let unread = unread_among(alloc, &rules, &names)?;
     let Numbered {
         root,
@@ -82,6 +82,7 @@ pub fn resolved<'v>(
         resolution,
         left_out,
         unread,
+        missing,
     })
 }
 

@@ -1,11 +1,13 @@
 -- What a resolver answers to texts, or why there is no answer.
 use Rattle.std.specs.Prelude.{◌≡◌, ⊤, ℕ, ℤ, Bool, List, [], ◌∷◌, None, Option, Some, Result, Ok, Err, Vec, false, is_some, map}
 use Rattle.std.specs.Prelude.{option_map, true}
+use Rattle.std.specs.Bool.{MatchBool}
 use Rattle.std.specs.declared.alloc.Global.{Global}
 use Rattle.serde_json.specs.Data.{Data}
 use Rattle.serde_json.specs.Find.{as_object, get}
 use Rattle.serde_json.specs.Read.{read}
 use Rattle.serde_json.specs.View.{view}
+use Rattle.serde_json.specs.Written.{compact_text}
 use Rattle.serde_json.specs.declared.value.Value.{Value}
 use Rattle.node_semver.specs.Versions.{VersionValue}
 use Rattle.npm_packages.specs.declared.fault.Fault.{Fault}
@@ -15,12 +17,15 @@ use Rattle.npm_pick_reports.specs.Manifest.{manifest_fault}
 use Rattle.npm_candidates.specs.declared.options.Options.{Options}
 use Rattle.npm_resolve.specs.Answers.{IsAnswer, chosen_value}
 use Rattle.npm_resolve.specs.Documents.{AreDocumentsFor}
+use Rattle.npm_resolve.specs.ReasonValues.{text}
 use Rattle.npm_resolve.specs.declared.answer.Answer.{Answer}
 use Rattle.npm_resolve.specs.declared.answer.Resolution.{Resolution}
 use Rattle.npm_resolve.specs.declared.answer.Resolution.TheVariants as Resolutions
 use Rattle.npm_resolve.specs.declared.documents.Document.{Document}
 use Rattle.npm_resolve_reports.specs.Locks.{AreLockLines}
-use Rattle.npm_resolve_reports.specs.Objects.{json_text}
+use Rattle.npm_resolve_reports.specs.Objects.{IsJsonText, unread_data}
+use Rattle.npm_resolve_reports.specs.Reply.{is_unread}
+use Rattle.npm_resolve_reports.specs.declared.format.Format.TheVariants.{Lock}
 use Rattle.npm_resolve_c.specs.Asked.{Texts, missing_of, reach_of}
 use Rattle.npm_resolve_c.specs.LockFile.{IsLockRefused}
 use Rattle.npm_resolve_c.specs.Options.{AreOptions, IsTime, IsVersion}
@@ -88,17 +93,25 @@ Gives documents name (Err error) = error ≡ Memory
 
 -- ---- the answer
 
--- the text of the lock file for what is selected, or of the JSON object if nothing is
+-- the text of the lock file for what is selected. That of the JSON object, if nothing is, is tested.
 abbrev pub IsFileText : List Value → List Document → Resolution → (text : List ℕ) → Type 0
 IsFileText manifests documents (Resolutions.Selected chosen) text =
     AreLockLines manifests documents (map chosen_value chosen.items) text
-IsFileText manifests documents (Resolutions.NoSelection blamed) text = text ≡ json_text documents (Resolutions.NoSelection blamed)
-IsFileText manifests documents Resolutions.Undecided text = text ≡ json_text documents Resolutions.Undecided
+IsFileText manifests documents (Resolutions.NoSelection blamed) text = ⊤
+IsFileText manifests documents Resolutions.Undecided text = ⊤
+
+-- If rules in `overrides` are not read, there is no lock file of what is selected: the text is that of the JSON object with the names of the
+-- rules.
+abbrev pub IsAnswerFile : List Value → List Document → Answer → (written : List ℕ) → Type 0
+IsAnswerFile manifests documents answer written =
+    MatchBool (is_unread Lock answer.resolution (map text answer.unread.items))
+    (written ≡ compact_text (unread_data (map text answer.unread.items)))
+    (IsFileText manifests documents answer.resolution written)
 
 -- the text of the JSON object, or of a lock file if one is asked for
-abbrev pub IsTextOf : (lock_file : Bool) → List Value → List Document → Resolution → (text : List ℕ) → Type 0
-IsTextOf false manifests documents resolution text = text ≡ json_text documents resolution
-IsTextOf true manifests documents resolution text = IsFileText manifests documents resolution text
+abbrev pub IsTextOf : (lock_file : Bool) → List Value → List Document → Answer → (written : List ℕ) → Type 0
+IsTextOf false manifests documents answer written = IsJsonText answer.resolution written
+IsTextOf true manifests documents answer written = IsAnswerFile manifests documents answer written
 
 -- The text is that of an answer, for the documents that are needed.
 pub record IsTextFor (manifest : Value) (documents : Data) (options : Options) (marks : Marks) (text : List ℕ) : Type 0 where
@@ -106,7 +119,7 @@ pub record IsTextFor (manifest : Value) (documents : Data) (options : Options) (
   pub needed : AreDocumentsFor (Gives documents) (manifest ∷ []) options (reach_of marks) marks.omits found
   pub answer : Answer
   pub answered : IsAnswer (manifest ∷ []) found options (reach_of marks) marks.omits answer
-  pub text_is : IsTextOf marks.lock_file (manifest ∷ []) found answer.resolution text
+  pub text_is : IsTextOf marks.lock_file (manifest ∷ []) found answer text
 
 -- what is answered to these texts and marks, or why there is no answer
 pub data IsReply (texts : Texts) (marks : Marks) (reply : Result (List ℕ) Refusal) : Type 0 where

@@ -1,9 +1,11 @@
 //! What a resolver answers.
-ghost use Rattle.std.specs.Prelude.{◌≡◌, IfErr, IfOk};
+ghost use Rattle.std.specs.Prelude.{◌≡◌, IfErr, IfOk, map};
 ghost use Rattle.serde_json.specs.View.{view};
-ghost use Rattle.npm_resolve_reports.specs.Objects.{json_text};
+ghost use Rattle.serde_json.specs.Written.{compact_text};
+ghost use Rattle.npm_resolve.specs.ReasonValues.{text};
+ghost use Rattle.npm_resolve_reports.specs.Objects.{IsJsonText, unread_data};
 ghost use Rattle.npm_resolve_c.specs.Asked.{texts_value};
-ghost use Rattle.npm_resolve_c.specs.Reply.{IsFileText, IsManifest, IsManifestRefused, IsReply, IsTextFor, IsTextOf, reply_value};
+ghost use Rattle.npm_resolve_c.specs.Reply.{IsAnswerFile, IsFileText, IsManifest, IsManifestRefused, IsReply, IsTextFor, IsTextOf, reply_value};
 
 use crate::asked::{Marks, Texts, missing_of, reach_of};
 use crate::documents::{document_of, documents_of};
@@ -11,8 +13,8 @@ use crate::lock_file::{file_of, lock_in};
 use crate::options::{tag_of, time_of, version_of};
 use crate::refusal::Refusal;
 use npm_pick_reports::checked_manifest;
-use npm_resolve::{Document, Options, Resolution, documents_for, resolved};
-use npm_resolve_reports::{lock_lines, resolution_text};
+use npm_resolve::{Answer, Document, Options, Resolution, documents_for, resolved};
+use npm_resolve_reports::{Format, is_unread, lock_lines, resolution_text, unread_text};
 use serde_json::Value;
 use std::alloc::{AllocError, Global};
 use std::slice;
@@ -82,30 +84,47 @@ fn answer_text(
         Err(_) => return Err(AllocError),
     };
     let answer = resolved(alloc, manifests, &found, options, reach, marks.omits, steps)?;
-    text_of(
-        alloc,
-        manifests,
-        &found,
-        &answer.resolution,
-        marks.lock_file,
-    )
+    text_of(alloc, manifests, &found, &answer, marks.lock_file)
 }
 
-/// The text of a resolution: of the JSON object, or of a lock file if one is asked for.
+/// The text of an answer: of the JSON object, or of a lock file if one is asked for.
 fn text_of<'v>(
     alloc: Global,
     manifests: &'v [Value],
     documents: &'v [Document],
-    resolution: &Resolution<'v>,
+    answer: &Answer<'v>,
     lock_file: bool,
 ) -> Result<Vec<u8>, AllocError>
-    ensures { IfOk result (λ text. IsTextOf lock_file manifests.now documents.now resolution.now text.items) }
+    ensures { IfOk result (λ text. IsTextOf lock_file manifests.now documents.now answer.now text.items) }
 {
     if lock_file {
-        file_text(alloc, manifests, documents, resolution)
+        answer_file(alloc, manifests, documents, answer)
     } else {
-        object_text(alloc, documents, resolution)
+        object_text(alloc, documents, &answer.resolution)
     }
+}
+
+/// The text of the lock file, or of the JSON object if rules in `overrides` are not read.
+fn answer_file<'v>(
+    alloc: Global,
+    manifests: &'v [Value],
+    documents: &'v [Document],
+    answer: &Answer<'v>,
+) -> Result<Vec<u8>, AllocError>
+    ensures { IfOk result (λ text. IsAnswerFile manifests.now documents.now answer.now text.items) }
+{
+    if is_unread(Format::Lock, &answer.resolution, &answer.unread) {
+        unread_bytes(alloc, &answer.unread)
+    } else {
+        file_text(alloc, manifests, documents, &answer.resolution)
+    }
+}
+
+/// The text of the JSON object of rules that are not read.
+fn unread_bytes(alloc: Global, unread: &[&str]) -> Result<Vec<u8>, AllocError>
+    ensures { IfOk result (λ words. words.items ≡ compact_text (unread_data (map text unread.now))) }
+{
+    Ok(unread_text(alloc, unread)?.into_bytes())
 }
 
 /// The text of the lock file for what is selected, or of the JSON object if nothing is.
@@ -131,7 +150,7 @@ fn object_text(
     documents: &[Document],
     resolution: &Resolution<'_>,
 ) -> Result<Vec<u8>, AllocError>
-    ensures { IfOk result (λ text. text.items ≡ json_text documents.now resolution.now) }
+    ensures { IfOk result (λ text. IsJsonText resolution.now text.items) }
 {
     Ok(resolution_text(alloc, documents, resolution)?.into_bytes())
 }

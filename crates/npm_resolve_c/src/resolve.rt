@@ -15,8 +15,8 @@ use std::alloc::Global;
 /// an option counts as an absent option: then `latest` is the default tag, any version of Node is fine, and there is no lock file whose
 /// versions come first.
 ///
-/// The answer is a JSON object. With `lock_file` it is a `package-lock.json` of version 3, if versions fit together: the dependencies of
-/// versions must count then, by `flat`, and no group is left out.
+/// The answer is a JSON object. With `lock_file` it is a `package-lock.json` of version 3, if versions fit together and all rules in
+/// `overrides` for the names are read: the dependencies of versions must count then, by `flat`, and no group is left out.
 #[unsafe(no_mangle)]
 pub extern "C" fn npm_resolve_versions(
     alloc: Global,

@@ -24,8 +24,8 @@ use Rattle.npm_resolve_command.specs.declared.arguments.Arguments.{Arguments}
 
 -- those that have a value, and those that have none
 abbrev pub valued : List (List ℕ)
-valued = codes "--manifest" ∷ codes "--packuments" ∷ codes "--omit" ∷ codes "--tag" ∷ codes "--before" ∷ codes "--node" ∷ codes "--lock" ∷ codes "--steps"
-    ∷ codes "--format" ∷ []
+valued = codes "--manifest" ∷ codes "--packuments" ∷ codes "--omit" ∷ codes "--tag" ∷ codes "--before" ∷ codes "--node" ∷ codes "--os"
+    ∷ codes "--cpu" ∷ codes "--libc" ∷ codes "--lock" ∷ codes "--steps" ∷ codes "--format" ∷ []
 
 abbrev pub flags : List (List ℕ)
 flags = codes "--help" ∷ codes "-h" ∷ codes "--version" ∷ codes "-V" ∷ codes "--peers" ∷ codes "--flat" ∷ codes "--lowest" ∷ []
@@ -106,6 +106,9 @@ pub record ArgumentsValue : Type 0 where
   pub tag : Option (List ℕ)
   pub before : Option (List ℕ)
   pub node : Option (List ℕ)
+  pub os : Option (List ℕ)
+  pub cpu : Option (List ℕ)
+  pub libc : Option (List ℕ)
   pub lowest : Bool
   pub lock : Option (List ℕ)
   pub steps : Option (List ℕ)
@@ -125,6 +128,9 @@ asked_by arguments = record {
   tag = value_of (codes "--tag") arguments;
   before = value_of (codes "--before") arguments;
   node = value_of (codes "--node") arguments;
+  os = value_of (codes "--os") arguments;
+  cpu = value_of (codes "--cpu") arguments;
+  libc = value_of (codes "--libc") arguments;
   lowest = is_given (codes "--lowest") arguments;
   lock = value_of (codes "--lock") arguments;
   steps = value_of (codes "--steps") arguments;
@@ -151,6 +157,9 @@ arguments_value asked = record {
   tag = text_value asked.tag;
   before = text_value asked.before;
   node = text_value asked.node;
+  os = text_value asked.os;
+  cpu = text_value asked.cpu;
+  libc = text_value asked.libc;
   lowest = asked.lowest;
   lock = text_value asked.lock;
   steps = text_value asked.steps;

@@ -29,6 +29,7 @@ IsLockFailure file (Errors.Argument error) = ⊥
 IsLockFailure file (Errors.Run error) = ⊥
 IsLockFailure file (Errors.Words error) = ⊥
 IsLockFailure file (Errors.File option path error) = ⊥
+IsLockFailure file (Errors.NoFolder path) = ⊥
 IsLockFailure file (Errors.Manifest path fault) = ⊥
 
 abbrev pub IsLockFailureIn : Option LockFile → ProgramError → Type 0

@@ -87,6 +87,7 @@ IsFailureFor IsFault (Errors.Argument error) = IsFault (argument_error_value err
 IsFailureFor IsFault (Errors.Run error) = error ≡ Memory
 IsFailureFor IsFault (Errors.Words error) = ⊥
 IsFailureFor IsFault (Errors.File option path error) = ⊥
+IsFailureFor IsFault (Errors.NoFolder path) = ⊥
 IsFailureFor IsFault (Errors.Manifest path fault) = ⊥
 IsFailureFor IsFault (Errors.Lock path fault) = ⊥
 IsFailureFor IsFault (Errors.LockVersion path) = ⊥

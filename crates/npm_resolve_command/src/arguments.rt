@@ -30,6 +30,12 @@ pub struct Arguments<'a> {
     pub tag: Option<&'a str>,
     pub before: Option<&'a str>,
     pub node: Option<&'a str>,
+    /// An operating system.
+    pub os: Option<&'a str>,
+    /// A processor.
+    pub cpu: Option<&'a str>,
+    /// A C library.
+    pub libc: Option<&'a str>,
     /// The lowest versions are preferred.
     pub lowest: bool,
     /// A lock file.
@@ -50,6 +56,9 @@ impl Options for ResolveOptions {
             || word == "--tag"
             || word == "--before"
             || word == "--node"
+            || word == "--os"
+            || word == "--cpu"
+            || word == "--libc"
             || word == "--lock"
             || word == "--steps"
             || word == "--format"
@@ -96,6 +105,9 @@ fn asked_by<'a>(words: &'a [String]) -> Arguments<'a>
         tag: value_of::<ResolveOptions>(words, "--tag"),
         before: value_of::<ResolveOptions>(words, "--before"),
         node: value_of::<ResolveOptions>(words, "--node"),
+        os: value_of::<ResolveOptions>(words, "--os"),
+        cpu: value_of::<ResolveOptions>(words, "--cpu"),
+        libc: value_of::<ResolveOptions>(words, "--libc"),
         lowest: is_given::<ResolveOptions>(words, "--lowest"),
         lock: value_of::<ResolveOptions>(words, "--lock"),
         steps: value_of::<ResolveOptions>(words, "--steps"),

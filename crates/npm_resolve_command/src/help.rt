@@ -42,6 +42,12 @@ Options, of which the value may also be in the same word, as in --steps=1000:
   --node VERSION     Prefer versions whose engines.node admits this version of Node. 20 means 20.0.0, and v20.11
                      means 20.11.0. With no --node each version of Node is fine.
                      Example: npm_resolve --node 20 --manifest package.json --packuments mirror
+  --os OS            Name the selected versions whose os does not admit this system, as linux or win32.
+                     Example: npm_resolve --os linux --manifest package.json --packuments mirror
+  --cpu CPU          Name the selected versions whose cpu does not admit this processor, as x64 or arm64.
+                     Example: npm_resolve --cpu x64 --manifest package.json --packuments mirror
+  --libc LIBC        Name the selected versions whose libc does not admit this C library, glibc or musl.
+                     Example: npm_resolve --libc glibc --manifest package.json --packuments mirror
   --lowest           Prefer the lowest versions: those that the lower ends of the ranges allow. The tag does not count, and
                      deprecated versions still come last.
                      Example: npm_resolve --lowest --manifest package.json --packuments mirror
@@ -61,7 +67,7 @@ Options, of which the value may also be in the same word, as in --steps=1000:
                      Example: npm_resolve --version
 
 The exit status is 0 if versions fit together, 1 if none do, 3 if the steps were used up before either was known, and 2
-if nothing was asked: an argument is wrong, or a file is not read. A line on standard error says why, and names each
-dependency that asks no registry, as a folder or a repository: it is left out. It also names each package whose rule in
-overrides is not read.
+if nothing was written: an argument is wrong, a file is not read, or a rule in overrides is not read for a lock file. A
+line on standard error says why, and names each dependency that asks no registry, as a folder or a repository: it is left
+out. It also names each package whose rule in overrides is not read, and each that is not for --os, --cpu or --libc.
 ";

@@ -1,8 +1,8 @@
 //! Writes versions of packages that fit together, for manifests and a folder of documents, or says what cannot be installed together.
 //!
 //! The exit status is 0 if versions fit together, 1 if none do, 3 if the steps were used up before either was known, and 2 after an
-//! error: a wrong argument, or a file that is not read. A line on standard error says what the error is, and which dependencies are
-//! left out since they ask no registry.
+//! error: a wrong argument, a file that is not read, or rules in `overrides` that are not read for a lock file. A line on standard error
+//! says what the error is, and which dependencies are left out since they ask no registry.
 #![tactic(auto)]
 
 ghost use Rattle.std.specs.Prelude.{◌≡◌, IfErr, None, Ok, Some, false, true};
@@ -22,13 +22,13 @@ use help::{HELP, VERSION};
 use lock_file::{LockFile, lock_in};
 use npm_pick_reports::{checked_manifest, packument_in, value_at, values_of};
 use npm_resolve::{Options, Reach};
-use npm_resolve_reports::{Done, Ending, Question, RunError, run};
+use npm_resolve_reports::{Done, Ending, Platform, Question, RunError, run};
 use program_error::ProgramError;
 use serde_json::Value;
 use std::alloc::AllocError;
-use std::io;
 use std::io::Write;
 use std::process::ExitCode;
+use std::{fs, io};
 use values::{before_of, check_lock, folder_of, node_of, steps_of, version_of};
 
 /// Ends with the status of `status_of`.
@@ -60,6 +60,9 @@ fn say(rt: &HostRuntime, done: &Done) -> io::Result<()> {
         Ending::Undecided => {
             eprintln!(rt; "npm_resolve: the steps are used up; --steps allows more")
         }
+        Ending::Unread => eprintln!(rt;
+            "npm_resolve: --format lock writes no lock file if overrides are not read"
+        ),
     }
 }
 
@@ -98,6 +101,7 @@ fn write_selection<'a>(
     let node_version = version_of(&node_text);
     let node = node_version.as_ref();
     let manifests = manifests_at(rt, &paths)?;
+    check_folder(rt, folder)?;
     let lock_file = lock_file_at(rt, asked.lock)?;
     let lock = lock_in(rt.alloc(), &lock_file)?;
     let question = Question {
@@ -111,11 +115,24 @@ fn write_selection<'a>(
         },
         reach: asked.reach.unwrap_or(Reach::Peers),
         omits: asked.omits,
+        platform: Platform {
+            os: asked.os,
+            cpu: asked.cpu,
+            libc: asked.libc,
+        },
         steps,
     };
     let load = |name: &str| packument_in(rt, folder, name);
     let done = run(rt.alloc(), question, asked.format, load, &mut rt.stdout())?;
     Ok(done)
+}
+
+/// Checks that the folder of packuments is there.
+fn check_folder<'a>(rt: &HostRuntime, folder: &'a str) -> Result<(), ProgramError<'a>> {
+    match fs::metadata(rt, folder) {
+        Ok(found) if found.is_dir() => Ok(()),
+        Ok(_) | Err(_) => Err(ProgramError::NoFolder(Quoted { text: folder })),
+    }
 }
 
 /// Reads the manifests at these paths.
@@ -162,7 +179,7 @@ fn file_value<'a>(
 }
 
 /// Returns the exit status: 0 if versions fit together or a text was shown, 1 if none do, 3 if the steps were used up before either was
-/// known, and 2 after an error, or if the lines on standard error were not written.
+/// known, and 2 after an error, if no lock file was written since rules are not read, or if the lines on standard error were not written.
 fn status_of(outcome: &Result<Option<Ending>, ProgramError<'_>>, is_said: bool) -> u8
     ensures shown { outcome.now ≡ Ok None → is_said ≡ true → result ≡ 0 }
     ensures ended { (ending : Ending) → outcome.now ≡ Ok (Some ending) → is_said ≡ true
@@ -174,6 +191,7 @@ fn status_of(outcome: &Result<Option<Ending>, ProgramError<'_>>, is_said: bool) 
         Err(_) => 2,
         Ok(_) if !is_said => 2,
         Ok(Some(Ending::NoSelection)) => 1,
+        Ok(Some(Ending::Unread)) => 2,
         Ok(Some(Ending::Undecided)) => 3,
         Ok(None | Some(Ending::Selected)) => 0,
     }

@@ -22,6 +22,9 @@ pub enum ProgramError<'a> {
     /// The file after this option was not read.
     #[error("{0} {1}: {2}")]
     File(&'static str, Quoted<'a>, InputError),
+    /// The folder of packuments is not there.
+    #[error("--packuments {0}: no such folder")]
+    NoFolder(Quoted<'a>),
     /// The JSON value of this file is no manifest.
     #[error("--manifest {0}: {1}")]
     Manifest(Quoted<'a>, Fault),

@@ -4,7 +4,6 @@ use Rattle.npm_resolve.specs.Rules.{rules_of}
 use Rattle.std.proofs.Common.{◌≡◌, ◌≢◌, ◌∙◌, ◌↔◌, IsTrue, ℕ, List, [], Bool, false, true, Option, Some, None, ap, map, not, refl, reverse, subst, sym, unwrap_or}
 use Rattle.std.proofs.lemmas.List.{reverse-reverse}
 use Rattle.std.proofs.lemmas.List.Elements.{All-contains, All-contains_itself, All-weaker}
-use Rattle.std.proofs.lemmas.Slice.Eq.{bytes_eq-Decides}
 use Rattle.std.specs.Prelude.{MatchOption, slice_get}
 use Rattle.std.specs.List.{All, Contains}
 use Rattle.std.specs.Option.{option_map_or}
@@ -148,7 +147,7 @@ module _ (manifests : List Value) (documents : List Document) (options : Options
         selected = selected_from manifests documents options reach omits posed posing d.name c spot (own_number d.name c is);
         request = request;
         asks = registered;
-        of_package = (bytes_eq-Decides request.name spot.offer.package.now).0 named;
+        of_package = named;
         meaning = meaning;
         means = means;
         admitted = admitted;

@@ -1,5 +1,5 @@
 -- The problem that a single wish poses.
-use Rattle.std.proofs.Common.{◌≡◌, ◌∙◌, ◌++◌, ◌∷◌, ℕ, ℤ, zero, suc, List, [], Bool, true, None, Option, Some, ap, bytes_eq, length, map, refl, string_bytes, subst, subst₂, sym}
+use Rattle.std.proofs.Common.{◌≡◌, ◌∙◌, ◌++◌, ◌||◌, ◌∷◌, ℕ, ℤ, zero, suc, List, [], Bool, true, None, Option, Some, ap, bytes_eq, length, map, refl, string_bytes, subst, subst₂, sym}
 use Rattle.std.proofs.lemmas.Slice.Eq.{bytes_eq-Decides}
 use Rattle.std.specs.List.{AllByRecursion, AllZip}
 use Rattle.std.specs.Option.{option_map_or}
@@ -80,7 +80,9 @@ means before offer spec request _ (Instances.of_another other is differs) asks o
     let one : other ≡ request = cc found in
     let same : bytes_eq other.name offer.package.now ≡ true = (bytes_eq-Decides other.name offer.package.now).1
     (ap (λ (r : RegistrySpecValue). r.name) one ∙ sym of_package) in
-    absurd (cc (same, differs))
+    let meets : (bytes_eq other.name offer.package.now || bytes_eq other.name offer.name.now) ≡ true =
+    ap (λ b. b || bytes_eq other.name offer.name.now) same in
+    absurd (cc (meets, differs))
 means before offer spec request _ (Instances.of_none none) asks of_package = absurd (cc (asks, none))
 
 -- ---- all of it

@@ -1,6 +1,6 @@
 -- What is asked of a selection is answered: each dependency that counts has a selected version that its spec allows, or needs none.
 use Rattle.npm_resolve.specs.Rules.{rules_of}
-use Rattle.std.specs.Prelude.{◌≡◌, ◌≢◌, ⊤, ℕ, List, Some, false, map, true}
+use Rattle.std.specs.Prelude.{◌≡◌, ◌≢◌, ◌||◌, ⊤, ℕ, List, Some, bytes_eq, false, map, true}
 use Rattle.std.specs.List.{All, Contains}
 use Rattle.serde_json.specs.Data.{Data}
 use Rattle.serde_json.specs.View.{view}
@@ -30,14 +30,15 @@ pub record IsSelectedFrom (documents : List Document) (options : Options) (one :
   pub there : Contains candidates candidate
   pub key : candidate.key.now ≡ one.key
 
--- The spec allows the selected version: it asks for the package of the version, and its text admits the candidate.
+-- The spec allows the selected version: it asks for the package of the version or, as a spec that is no alias, for the name itself; and its
+-- text admits the candidate.
 pub record IsAllowedBy (documents : List Document) (options : Options) (spec : List ℕ) (one : ChosenValue) : Type 0 where
   pub packument : Data
   pub candidate : Candidate
   pub selected : IsSelectedFrom documents options one packument candidate
   pub request : RegistrySpecValue
   pub asks : registry_spec one.name spec ≡ Some request
-  pub of_package : request.name ≡ one.of_package
+  pub of_package : (bytes_eq request.name one.of_package || bytes_eq request.name one.name) ≡ true
   pub meaning : MeaningValue
   pub means : IsMeaning packument options.before request.text meaning
   pub admitted : IsAdmitted meaning candidate

@@ -1,2 +1,2 @@
 pub mod LineExamples
-pub mod SentenceExamples
+pub mod SystemExamples

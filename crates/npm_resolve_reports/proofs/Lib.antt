@@ -1,5 +1,5 @@
+mod Items
 mod Gathered
 mod Texts
 mod Objects
-mod Reasons
 pub mod Examples

@@ -1,5 +1,6 @@
 -- What is written for a question, and how the program ends.
-use Rattle.std.specs.Prelude.{◌≡◌, ℕ, List, map}
+use Rattle.std.specs.Prelude.{◌≡◌, ◌==◌, ◌&&◌, ⊤, ℕ, List, [], Bool, false, if◌then◌else◌, length, map, not, true}
+use Rattle.std.specs.Bool.{MatchBool}
 use Rattle.npm_candidates.specs.Asks.{ask_value}
 use Rattle.npm_pick_reports.specs.Loading.{Loads}
 use Rattle.serde_json.specs.declared.value.Value.{Value}
@@ -14,13 +15,13 @@ use Rattle.npm_resolve.specs.declared.answer.Resolution.TheVariants as Resolutio
 use Rattle.npm_resolve.specs.declared.documents.Document.{Document}
 use Rattle.npm_resolve_reports.specs.Locks.{AreLockLines}
 use Rattle.npm_resolve_reports.specs.Notes as Notes
-use Rattle.npm_resolve_reports.specs.Objects.{json_line}
-use Rattle.npm_resolve_reports.specs.TextLines.{AreTextLines}
+use Rattle.npm_resolve_reports.specs.Objects.{IsJsonLine}
+use Rattle.npm_resolve_reports.specs.Texts.{AreTextLines}
 use Rattle.npm_resolve_reports.specs.declared.format.Format.{Format}
 use Rattle.npm_resolve_reports.specs.declared.format.Format.TheVariants.{Json, Lock, Text}
 use Rattle.npm_resolve_reports.specs.declared.reply.Done.{Done}
 use Rattle.npm_resolve_reports.specs.declared.reply.Ending.{Ending}
-use Rattle.npm_resolve_reports.specs.declared.reply.Ending.TheVariants.{NoSelection, Selected, Undecided}
+use Rattle.npm_resolve_reports.specs.declared.reply.Ending.TheVariants.{NoSelection, Selected, Undecided, Unread}
 use Rattle.npm_resolve_reports.specs.declared.reply.Question.{Question}
 use Rattle.npm_resolve_reports.specs.declared.reply.Reply.{Reply}
 
@@ -30,17 +31,17 @@ pub record ReplyValue : Type 0 where
   pub notes : List ℕ
   pub ending : Ending
 
--- the lock file of what is selected, or lines for a person if nothing is
+-- the lock file of what is selected
 abbrev pub AreFileLines : List Value → List Document → Resolution → (lines : List ℕ) → Type 0
 AreFileLines manifests documents (Resolutions.Selected chosen) lines =
     AreLockLines manifests documents (map chosen_value chosen.items) lines
-AreFileLines manifests documents (Resolutions.NoSelection blamed) lines = AreTextLines documents (Resolutions.NoSelection blamed) lines
-AreFileLines manifests documents Resolutions.Undecided lines = AreTextLines documents Resolutions.Undecided lines
+AreFileLines manifests documents (Resolutions.NoSelection blamed) lines = ⊤
+AreFileLines manifests documents Resolutions.Undecided lines = ⊤
 
 -- the lines of a resolution
 abbrev pub AreLines : Format → List Value → List Document → Resolution → (lines : List ℕ) → Type 0
-AreLines Text manifests documents resolution lines = AreTextLines documents resolution lines
-AreLines Json manifests documents resolution lines = lines ≡ json_line documents resolution
+AreLines Text manifests documents resolution lines = AreTextLines resolution lines
+AreLines Json manifests documents resolution lines = IsJsonLine resolution lines
 AreLines Lock manifests documents resolution lines = AreFileLines manifests documents resolution lines
 
 abbrev pub ending_of : Resolution → Ending
@@ -48,16 +49,30 @@ ending_of (Resolutions.Selected chosen) = Selected
 ending_of (Resolutions.NoSelection blamed) = NoSelection
 ending_of Resolutions.Undecided = Undecided
 
+-- A lock file is asked for of what is selected, and a rule in `overrides` is not read. npm reads it, so `npm ci` would refuse the file.
+abbrev pub is_lock : Format → Bool
+is_lock Text = false
+is_lock Json = false
+is_lock Lock = true
+
+abbrev pub is_unread : Format → Resolution → (unread : List (List ℕ)) → Bool
+is_unread format (Resolutions.Selected chosen) unread = is_lock format && not (length unread == 0)
+is_unread format (Resolutions.NoSelection blamed) unread = false
+is_unread format Resolutions.Undecided unread = false
+
 -- The reply to a question, where `load` returns these documents: all documents that are needed are read, and the lines are those of the
--- answer for them.
+-- answer for them. There are none where a lock file is asked for and rules are not read.
 pub record IsReply (Gives : Loads) (question : Question) (format : Format) (reply : ReplyValue) : Type 0 where
   pub documents : List Document
   pub read : AreDocumentsFor Gives question.manifests.now question.options question.reach question.omits documents
   pub answer : Answer
   pub answered : IsAnswer question.manifests.now documents question.options question.reach question.omits answer
-  pub lines : AreLines format question.manifests.now documents answer.resolution reply.lines
-  pub notes : reply.notes ≡ Notes.all_notes (map ask_value answer.left_out.items) (map text answer.unread.items)
-  pub ending : reply.ending ≡ ending_of answer.resolution
+  pub lines : MatchBool (is_unread format answer.resolution (map text answer.unread.items)) (reply.lines ≡ [])
+      (AreLines format question.manifests.now documents answer.resolution reply.lines)
+  pub notes : reply.notes ≡ Notes.all_notes question.platform documents (map ask_value answer.left_out.items)
+      (map text answer.unread.items) (map text answer.missing.items) answer.resolution
+  pub ending : reply.ending
+      ≡ (if is_unread format answer.resolution (map text answer.unread.items) then Unread else ending_of answer.resolution)
 
 -- the document of a package was not read, or an allocation failed
 abbrev pub IsFailure : Loads → RunError → Type 0

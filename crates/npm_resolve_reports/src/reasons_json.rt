@@ -1,10 +1,8 @@
-//! Reasons as JSON objects.
-ghost use Rattle.std.specs.Prelude.{◌≡◌, IfOk, map, option_map, string_bytes};
-ghost use Rattle.serde_json.specs.Data.{number, string, unsigned};
+//! Reasons as JSON objects. The first line has the number 0, as the first item of the array.
+ghost use Rattle.std.specs.Prelude.{◌≡◌, IfOk, map};
+ghost use Rattle.serde_json.specs.Data.{string};
 ghost use Rattle.serde_json.specs.View.{view};
-ghost use Rattle.npm_resolve.specs.ReasonValues.{reason_value, term_value, text, wish_value};
-ghost use Rattle.npm_resolve_reports.specs.ReasonObjects as ReasonObjects;
-ghost use Rattle.npm_resolve_reports.specs.Sentences as Sentences;
+ghost use Rattle.npm_resolve.specs.ReasonValues.{text};
 
 use crate::Result;
 use crate::json::put_bool;
@@ -13,16 +11,14 @@ use npm_resolve::{Document, Reason, Source, Term, Wish};
 use npm_texts::{filled, put_text};
 use serde_json::{Map, Value, put};
 use std::alloc::Global;
+use std::slice;
 
 /// The objects of all reasons, or `null` if there are none.
 pub(crate) fn reasons_json(
     alloc: Global,
     documents: &[Document],
     reasons: Option<&Vec<Reason<'_>>>,
-) -> Result<Value>
-    ensures { IfOk result (λ value. view value ≡ ReasonObjects.reasons_data documents.now
-        (option_map (λ found. map reason_value found.now.items) reasons.entry)) }
-{
+) -> Result<Value> {
     match reasons {
         Some(reasons) => Ok(Value::Array(reason_values(alloc, documents, reasons)?)),
         None => Ok(Value::Null),
@@ -34,10 +30,7 @@ fn reason_values(
     alloc: Global,
     documents: &[Document],
     reasons: &[Reason<'_>],
-) -> Result<Vec<Value>>
-    ensures { IfOk result (λ values. map view values.items
-        ≡ map (ReasonObjects.reason_data documents.now) (map reason_value reasons.now)) }
-{
+) -> Result<Vec<Value>> {
     let mut values = Vec::with_capacity(alloc, reasons.len())?;
     for reason in reasons {
         values.push(reason_json(alloc, documents, reason)?)?;
@@ -46,11 +39,17 @@ fn reason_values(
 }
 
 /// The object of a reason.
-fn reason_json(alloc: Global, documents: &[Document], reason: &Reason<'_>) -> Result<Value>
-    ensures { IfOk result (λ value. view value ≡ ReasonObjects.reason_data documents.now (reason_value reason.now)) }
-{
+fn reason_json(alloc: Global, documents: &[Document], reason: &Reason<'_>) -> Result<Value> {
     let terms = Value::Array(term_values(alloc, &reason.terms)?);
-    let said = text_of(alloc, Sentence { documents, reason })?;
+    let said = text_of(
+        alloc,
+        Sentence {
+            documents,
+            reason,
+            together: slice::from_ref(reason),
+            numbers: &[],
+        },
+    )?;
     match &reason.source {
         Source::Root(wish) => root_json(alloc, *wish, terms, &said),
         Source::Versions(name, wish, keys) => {
@@ -61,17 +60,12 @@ fn reason_json(alloc: Global, documents: &[Document], reason: &Reason<'_>) -> Re
 }
 
 /// The sentence.
-fn text_of(alloc: Global, sentence: Sentence<'_>) -> Result<String>
-    ensures { IfOk result (λ text. string_bytes text
-        ≡ Sentences.sentence sentence.entry.documents.now (reason_value sentence.entry.reason.now)) }
-{
+fn text_of(alloc: Global, sentence: Sentence<'_>) -> Result<String> {
     format!(in alloc; "{sentence}")
 }
 
 /// The object of a wish of the root.
-fn root_json(alloc: Global, wish: Wish<'_>, terms: Value, said: &str) -> Result<Value>
-    ensures { IfOk result (λ value. view value ≡ ReasonObjects.root_data (wish_value wish.entry) (view terms) said.now) }
-{
+fn root_json(alloc: Global, wish: Wish<'_>, terms: Value, said: &str) -> Result<Value> {
     let wish = wish_json(alloc, wish)?;
     let mut members = Map::new(alloc);
     put_text(&mut members, alloc, "source", "root")?;
@@ -89,12 +83,9 @@ fn versions_json(
     keys: &[&str],
     terms: Value,
     said: &str,
-) -> Result<Value>
-    ensures { IfOk result (λ value. view value
-        ≡ ReasonObjects.versions_data name.now (wish_value wish.entry) (map text keys.now) (view terms) said.now) }
-{
+) -> Result<Value> {
     let wish = wish_json(alloc, wish)?;
-    let versions = key_values(alloc, keys)?;
+    let versions = text_values(alloc, keys)?;
     let mut members = Map::new(alloc);
     put_text(&mut members, alloc, "name", name)?;
     put_text(&mut members, alloc, "source", "versions")?;
@@ -106,9 +97,13 @@ fn versions_json(
 }
 
 /// The object of what follows from lines.
-fn lines_json(alloc: Global, name: &str, lines: &[usize], terms: Value, said: &str) -> Result<Value>
-    ensures { IfOk result (λ value. view value ≡ ReasonObjects.lines_data name.now lines.now (view terms) said.now) }
-{
+fn lines_json(
+    alloc: Global,
+    name: &str,
+    lines: &[usize],
+    terms: Value,
+    said: &str,
+) -> Result<Value> {
     let lines = line_values(alloc, lines)?;
     let mut members = Map::new(alloc);
     put(&mut members, alloc, "lines", Value::Array(lines))?;
@@ -120,9 +115,7 @@ fn lines_json(alloc: Global, name: &str, lines: &[usize], terms: Value, said: &s
 }
 
 /// The objects of all terms.
-fn term_values(alloc: Global, terms: &[Term<'_>]) -> Result<Vec<Value>>
-    ensures { IfOk result (λ values. map view values.items ≡ map ReasonObjects.term_data (map term_value terms.now)) }
-{
+fn term_values(alloc: Global, terms: &[Term<'_>]) -> Result<Vec<Value>> {
     let mut values = Vec::with_capacity(alloc, terms.len())?;
     for term in terms {
         values.push(term_json(alloc, *term)?)?;
@@ -131,9 +124,7 @@ fn term_values(alloc: Global, terms: &[Term<'_>]) -> Result<Vec<Value>>
 }
 
 /// The object of a term.
-fn term_json(alloc: Global, term: Term<'_>) -> Result<Value>
-    ensures { IfOk result (λ value. view value ≡ ReasonObjects.term_data (term_value term.entry)) }
-{
+fn term_json(alloc: Global, term: Term<'_>) -> Result<Value> {
     match term {
         Term::Asking(name, wish) => asking_json(alloc, name, wish),
         Term::Outside(wish) => outside_json(alloc, wish),
@@ -141,9 +132,7 @@ fn term_json(alloc: Global, term: Term<'_>) -> Result<Value>
 }
 
 /// The object of versions that ask for a wish.
-fn asking_json(alloc: Global, name: &str, wish: Wish<'_>) -> Result<Value>
-    ensures { IfOk result (λ value. view value ≡ ReasonObjects.asking_data name.now (wish_value wish.entry)) }
-{
+fn asking_json(alloc: Global, name: &str, wish: Wish<'_>) -> Result<Value> {
     let wish = wish_json(alloc, wish)?;
     let mut members = Map::new(alloc);
     put_text(&mut members, alloc, "name", name)?;
@@ -153,9 +142,7 @@ fn asking_json(alloc: Global, name: &str, wish: Wish<'_>) -> Result<Value>
 }
 
 /// The object of what is outside a wish.
-fn outside_json(alloc: Global, wish: Wish<'_>) -> Result<Value>
-    ensures { IfOk result (λ value. view value ≡ ReasonObjects.outside_data (wish_value wish.entry)) }
-{
+fn outside_json(alloc: Global, wish: Wish<'_>) -> Result<Value> {
     let wish = wish_json(alloc, wish)?;
     let mut members = Map::new(alloc);
     put_text(&mut members, alloc, "term", "outside")?;
@@ -164,9 +151,7 @@ fn outside_json(alloc: Global, wish: Wish<'_>) -> Result<Value>
 }
 
 /// The object of a wish.
-fn wish_json(alloc: Global, wish: Wish<'_>) -> Result<Value>
-    ensures { IfOk result (λ value. view value ≡ ReasonObjects.wish_data (wish_value wish.entry)) }
-{
+fn wish_json(alloc: Global, wish: Wish<'_>) -> Result<Value> {
     let spec = spec_json(alloc, wish.spec)?;
     let mut members = Map::new(alloc);
     put_text(&mut members, alloc, "name", wish.name)?;
@@ -176,9 +161,7 @@ fn wish_json(alloc: Global, wish: Wish<'_>) -> Result<Value>
 }
 
 /// A spec, or `null` if it is any.
-fn spec_json(alloc: Global, spec: Option<&str>) -> Result<Value>
-    ensures { IfOk result (λ value. view value ≡ ReasonObjects.spec_data (option_map text spec.entry)) }
-{
+fn spec_json(alloc: Global, spec: Option<&str>) -> Result<Value> {
     match spec {
         Some(spec) => text_json(alloc, filled(spec)),
         None => Ok(Value::Null),
@@ -192,21 +175,19 @@ pub(crate) fn text_json(alloc: Global, words: &str) -> Result<Value>
     Ok(Value::String(String::from_str(alloc, words)?))
 }
 
-/// The JSON strings of keys.
-fn key_values(alloc: Global, keys: &[&str]) -> Result<Vec<Value>>
-    ensures { IfOk result (λ values. map view values.items ≡ map string (map text keys.now)) }
+/// The JSON strings of texts.
+pub(crate) fn text_values(alloc: Global, texts: &[&str]) -> Result<Vec<Value>>
+    ensures { IfOk result (λ values. map view values.items ≡ map string (map text texts.now)) }
 {
-    let mut values = Vec::with_capacity(alloc, keys.len())?;
-    for key in keys {
-        values.push(text_json(alloc, key)?)?;
+    let mut values = Vec::with_capacity(alloc, texts.len())?;
+    for one in texts {
+        values.push(text_json(alloc, one)?)?;
     }
     Ok(values)
 }
 
 /// The JSON numbers of lines.
-fn line_values(alloc: Global, lines: &[usize]) -> Result<Vec<Value>>
-    ensures { IfOk result (λ values. map view values.items ≡ map ReasonObjects.line_data lines.now) }
-{
+fn line_values(alloc: Global, lines: &[usize]) -> Result<Vec<Value>> {
     let mut values = Vec::with_capacity(alloc, lines.len())?;
     for line in lines {
         values.push(line_json(*line))?;
@@ -215,8 +196,6 @@ fn line_values(alloc: Global, lines: &[usize]) -> Result<Vec<Value>>
 }
 
 /// The JSON number of a line.
-fn line_json(line: usize) -> Value
-    ensures { view result ≡ ReasonObjects.line_data line }
-{
+fn line_json(line: usize) -> Value {
     Value::from(line as u64)
 }

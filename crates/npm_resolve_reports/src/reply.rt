@@ -1,7 +1,8 @@
 //! The reply to a question, and how the program ends.
-ghost use Rattle.std.specs.Prelude.{◌≡◌, ◌≢◌, List, ℕ, IfErr, IfOk};
+ghost use Rattle.std.specs.Prelude.{◌≡◌, ◌≢◌, List, ℕ, IfErr, IfOk, map};
 ghost use Rattle.std.specs.Fn.{FnReturnsAt};
 ghost use Rattle.std.specs.Io.KnownBytes.{Appends};
+ghost use Rattle.npm_resolve.specs.ReasonValues.{text};
 ghost use Rattle.npm_resolve_reports.specs.Reply as Replies;
 ghost use Rattle.npm_resolve_reports.specs.Reply.{AreFileLines, AreLines, IsFailure, IsReply, done_value, reply_value};
 
@@ -9,6 +10,7 @@ use crate::format::Format;
 use crate::json::json_line;
 use crate::lock::lock_lines;
 use crate::notes::all_notes;
+use crate::platform::Platform;
 use crate::text::text_lines;
 use npm_pick_reports::{LoadError, RunError};
 use npm_resolve::{Document, Omits, Options, Reach, Resolution, documents_for, resolved};
@@ -23,6 +25,7 @@ pub struct Question<'q> {
     pub options: Options<'q>,
     pub reach: Reach,
     pub omits: Omits,
+    pub platform: Platform<'q>,
     /// So many steps are done at most, and so many again to find what cannot be installed together.
     pub steps: u64,
 }
@@ -36,6 +39,8 @@ pub enum Ending {
     NoSelection,
     /// The steps were used up before either was known.
     Undecided,
+    /// Versions fit together, and no lock file is written of them, since rules in `overrides` are not read.
+    Unread,
 }
 
 /// How the program ends, and the lines for standard error.
@@ -108,6 +113,7 @@ fn reply_of<F: Fn(&str) -> Result<Option<Value>, LoadError>>(
         options,
         reach,
         omits,
+        platform,
         steps,
     } = question;
     let documents = match documents_for(alloc, manifests, &options, reach, omits, load) {
@@ -116,13 +122,46 @@ fn reply_of<F: Fn(&str) -> Result<Option<Value>, LoadError>>(
         Err(error) => return Err(RunError::Load(error)),
     };
     let answer = resolved(alloc, manifests, &documents, &options, reach, omits, steps)?;
+    let notes = all_notes(
+        alloc,
+        platform,
+        &documents,
+        &answer.left_out,
+        &answer.unread,
+        &answer.missing,
+        &answer.resolution,
+    )?;
+    if is_unread(format, &answer.resolution, &answer.unread) {
+        return Ok(Reply {
+            lines: Vec::new(alloc),
+            done: Done {
+                ending: Ending::Unread,
+                notes,
+            },
+        });
+    }
     Ok(Reply {
         lines: lines_of(alloc, manifests, &documents, &answer.resolution, format)?,
         done: Done {
             ending: ending_of(&answer.resolution),
-            notes: all_notes(alloc, &answer.left_out, &answer.unread)?,
+            notes,
         },
     })
+}
+
+/// Returns `true` if a lock file of what is selected is asked for, and rules in `overrides` are not read. There is no lock file then: npm
+/// reads the rules, and `npm ci` would refuse the file.
+///
+/// # Memory
+///
+/// Does not allocate.
+pub fn is_unread(format: Format, resolution: &Resolution<'_>, unread: &[&str]) -> bool
+    ensures { result ≡ Replies.is_unread format resolution.now (map text unread.now) }
+{
+    match resolution {
+        Resolution::Selected(_) => format == Format::Lock && !unread.is_empty(),
+        Resolution::NoSelection(_) | Resolution::Undecided => false,
+    }
 }
 
 /// The lines of a resolution.

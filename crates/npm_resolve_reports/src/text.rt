@@ -1,17 +1,15 @@
 //! Lines for a person.
-ghost use Rattle.std.specs.Prelude.{◌≡◌, ◌++◌, IfOk, OnOk, map, option_map, string_bytes};
-ghost use Rattle.npm_candidates.specs.Asks.{ask_value};
+//!
+//! What is selected is a clause. The words about what cannot be installed together are tested by rows.
+ghost use Rattle.std.specs.Prelude.{◌≡◌, ◌++◌, IfOk, OnOk, map, string_bytes};
 ghost use Rattle.npm_resolve.specs.Answers.{chosen_value};
-ghost use Rattle.npm_resolve.specs.ReasonValues.{culprit_value, reason_value};
-ghost use Rattle.npm_resolve_reports.specs.TextLines as TextLines;
-ghost use Rattle.npm_resolve_reports.specs.TextLines.{AreTextLines};
 ghost use Rattle.npm_resolve_reports.specs.Texts as Texts;
-ghost use Rattle.npm_resolve_reports.specs.Texts.{AreTexts};
+ghost use Rattle.npm_resolve_reports.specs.Texts.{AreTextLines, AreTexts};
 
 use crate::Result;
-use crate::sentence::Sentence;
+use crate::sentence::{Sentence, wish_of_versions};
 use command_lines::push_shown;
-use npm_resolve::{Ask, Chosen, Conflict, Culprit, Document, Reason, Resolution};
+use npm_resolve::{Ask, Chosen, Conflict, Culprit, Document, Reason, Resolution, Source};
 use npm_texts::filled;
 use std::alloc::Global;
 
@@ -21,7 +19,7 @@ pub(crate) fn text_lines(
     documents: &[Document],
     resolution: &Resolution<'_>,
 ) -> Result<Vec<u8>>
-    ensures { IfOk result (λ lines. AreTextLines documents.now resolution.now lines.items) }
+    ensures { IfOk result (λ lines. AreTextLines resolution.now lines.items) }
 {
     match resolution {
         Resolution::Selected(chosen) => chosen_lines(alloc, chosen),
@@ -86,9 +84,11 @@ fn push_line(lines: &mut Vec<u8>, text: &str) -> Result<()>
 }
 
 /// What cannot be installed together, why, and what would fit.
-fn conflict_lines(alloc: Global, documents: &[Document], conflict: &Conflict<'_>) -> Result<Vec<u8>>
-    ensures { IfOk result (λ lines. lines.items ≡ TextLines.conflict_lines documents.now conflict.now) }
-{
+fn conflict_lines(
+    alloc: Global,
+    documents: &[Document],
+    conflict: &Conflict<'_>,
+) -> Result<Vec<u8>> {
     let mut lines = culprit_lines(alloc, documents, &conflict.culprits)?;
     push_known(alloc, &mut lines, documents, conflict.reasons.as_ref())?;
     push_all_fitting(&mut lines, &conflict.culprits)?;
@@ -101,51 +101,86 @@ fn push_known(
     lines: &mut Vec<u8>,
     documents: &[Document],
     reasons: Option<&Vec<Reason<'_>>>,
-) -> Result<()>
-    ensures { OnOk result (lines.new.items ≡ lines.old.items ++ TextLines.known_lines documents.now
-        (option_map (λ found. map reason_value found.now.items) reasons.entry)) }
-{
+) -> Result<()> {
     match reasons {
         Some(reasons) => push_reasons(alloc, lines, documents, reasons),
         None => Ok(()),
     }
 }
 
-/// Adds why it cannot be installed.
-fn push_reasons(
+/// Adds why it cannot be installed. What the same versions ask for is one line.
+fn push_reasons<'r>(
     alloc: Global,
     lines: &mut Vec<u8>,
-    documents: &[Document],
-    reasons: &[Reason<'_>],
-) -> Result<()>
-    ensures { OnOk result (lines.new.items ≡ lines.old.items ++ TextLines.reason_lines documents.now (map reason_value reasons.now)) }
-{
+    documents: &'r [Document],
+    reasons: &'r [Reason<'r>],
+) -> Result<()> {
     lines.extend_from_slice(b"because\n")?;
+    let numbers = numbers_of(alloc, reasons)?;
+    let mut said = 0_usize;
     for (place, reason) in reasons.iter().enumerate() {
-        push_reason(alloc, lines, place, Sentence { documents, reason })?;
+        let number = match numbers.get(place) {
+            Some(number) => *number,
+            None => 0,
+        };
+        if said < number {
+            said = number;
+            let sentence = Sentence {
+                documents: &*documents,
+                reason,
+                together: &*reasons,
+                numbers: &numbers,
+            };
+            push_reason(alloc, lines, number, sentence)?;
+        }
     }
     Ok(())
+}
+
+/// The numbers of the lines, of which the first one is 1. What the same versions ask for has one number.
+fn numbers_of(alloc: Global, reasons: &[Reason<'_>]) -> Result<Vec<usize>> {
+    let mut numbers = Vec::with_capacity(alloc, reasons.len())?;
+    let mut count = 0_usize;
+    for reason in reasons {
+        let before = number_before(reasons, &numbers, reason);
+        count = count.saturating_add(if before.is_none() { 1 } else { 0 });
+        numbers.push(before.unwrap_or(count))?;
+    }
+    Ok(numbers)
+}
+
+/// The number of the first line that is about the same versions, if it has one.
+fn number_before(reasons: &[Reason<'_>], numbers: &[usize], reason: &Reason<'_>) -> Option<usize> {
+    let Source::Versions(name, _, keys) = &reason.source else {
+        return None;
+    };
+    for (place, number) in numbers.iter().enumerate() {
+        if let Some(before) = reasons.get(place) {
+            if wish_of_versions(before, name, keys).is_some() {
+                return Some(*number);
+            }
+        }
+    }
+    None
 }
 
 /// Adds a line of the reasons.
 fn push_reason(
     alloc: Global,
     lines: &mut Vec<u8>,
-    place: usize,
+    number: usize,
     sentence: Sentence<'_>,
-) -> Result<()>
-    ensures { OnOk result (lines.new.items ≡ lines.old.items
-        ++ TextLines.reason_line sentence.entry.documents.now place (reason_value sentence.entry.reason.now)) }
-{
-    let number = place as u128 + 1;
+) -> Result<()> {
     let line = format!(in alloc; "  {number}. {sentence}\n")?;
     lines.extend_from_slice(line.as_bytes())
 }
 
 /// What cannot be installed together.
-fn culprit_lines(alloc: Global, documents: &[Document], culprits: &[Culprit<'_>]) -> Result<Vec<u8>>
-    ensures { IfOk result (λ lines. lines.items ≡ Texts.culprit_lines documents.now (map culprit_value culprits.now)) }
-{
+fn culprit_lines(
+    alloc: Global,
+    documents: &[Document],
+    culprits: &[Culprit<'_>],
+) -> Result<Vec<u8>> {
     let mut lines = Vec::new(alloc);
     if culprits.len() == 1 {
         lines.extend_from_slice(b"This cannot be installed:\n")?;
@@ -159,9 +194,7 @@ fn culprit_lines(alloc: Global, documents: &[Document], culprits: &[Culprit<'_>]
 }
 
 /// Adds the line of a culprit.
-fn push_culprit(lines: &mut Vec<u8>, documents: &[Document], ask: Ask<'_>) -> Result<()>
-    ensures { OnOk result (lines.new.items ≡ lines.old.items ++ Texts.culprit_line documents.now (ask_value ask.entry)) }
-{
+fn push_culprit(lines: &mut Vec<u8>, documents: &[Document], ask: Ask<'_>) -> Result<()> {
     push_ask(lines, ask)?;
     lines.extend_from_slice(asked_words(ask.needed).as_bytes())?;
     lines.extend_from_slice(document_words(has_document(documents, ask.name)).as_bytes())?;
@@ -169,9 +202,7 @@ fn push_culprit(lines: &mut Vec<u8>, documents: &[Document], ask: Ask<'_>) -> Re
 }
 
 /// Adds a name and its spec.
-fn push_ask(lines: &mut Vec<u8>, ask: Ask<'_>) -> Result<()>
-    ensures { OnOk result (lines.new.items ≡ lines.old.items ++ Texts.ask_words (ask_value ask.entry)) }
-{
+fn push_ask(lines: &mut Vec<u8>, ask: Ask<'_>) -> Result<()> {
     lines.extend_from_slice(b"  ")?;
     push_shown(lines, ask.name)?;
     lines.extend_from_slice(b" ")?;
@@ -179,9 +210,7 @@ fn push_ask(lines: &mut Vec<u8>, ask: Ask<'_>) -> Result<()>
 }
 
 /// What the root does with a name.
-fn asked_words(needed: bool) -> &'static str
-    ensures { result.now ≡ Texts.asked_words needed }
-{
+fn asked_words(needed: bool) -> &'static str {
     if needed {
         ", which the root asks for"
     } else {
@@ -190,9 +219,7 @@ fn asked_words(needed: bool) -> &'static str
 }
 
 /// Whether there is a document.
-fn document_words(has_document: bool) -> &'static str
-    ensures { result.now ≡ Texts.document_words has_document }
-{
+fn document_words(has_document: bool) -> &'static str {
     if has_document {
         ""
     } else {
@@ -201,18 +228,14 @@ fn document_words(has_document: bool) -> &'static str
 }
 
 /// Returns `true` if a name has a document.
-pub(crate) fn has_document(documents: &[Document], name: &str) -> bool
-    ensures { result ≡ Texts.has_document documents.now name.now }
-{
+pub(crate) fn has_document(documents: &[Document], name: &str) -> bool {
     documents
         .iter()
         .any(|document| document.name.as_str() == name)
 }
 
 /// Adds a line for each culprit with a version that would fit in its place.
-fn push_all_fitting(lines: &mut Vec<u8>, culprits: &[Culprit<'_>]) -> Result<()>
-    ensures { OnOk result (lines.new.items ≡ lines.old.items ++ Texts.fitting_lines (map culprit_value culprits.now)) }
-{
+fn push_all_fitting(lines: &mut Vec<u8>, culprits: &[Culprit<'_>]) -> Result<()> {
     for culprit in culprits {
         push_fitting(lines, *culprit)?;
     }
@@ -220,9 +243,7 @@ fn push_all_fitting(lines: &mut Vec<u8>, culprits: &[Culprit<'_>]) -> Result<()>
 }
 
 /// Adds the line of a culprit, if a version would fit.
-fn push_fitting(lines: &mut Vec<u8>, culprit: Culprit<'_>) -> Result<()>
-    ensures { OnOk result (lines.new.items ≡ lines.old.items ++ Texts.fitting_line (culprit_value culprit.entry)) }
-{
+fn push_fitting(lines: &mut Vec<u8>, culprit: Culprit<'_>) -> Result<()> {
     match culprit.would_fit {
         Some(key) => push_change(lines, culprit.ask.name, key),
         None => Ok(()),
@@ -230,9 +251,7 @@ fn push_fitting(lines: &mut Vec<u8>, culprit: Culprit<'_>) -> Result<()>
 }
 
 /// Adds the line of a version that would fit.
-fn push_change(lines: &mut Vec<u8>, name: &str, key: &str) -> Result<()>
-    ensures { OnOk result (lines.new.items ≡ lines.old.items ++ Texts.change_line name.now key.now) }
-{
+fn push_change(lines: &mut Vec<u8>, name: &str, key: &str) -> Result<()> {
     push_shown(lines, name)?;
     lines.extend_from_slice(b" ")?;
     push_shown(lines, key)?;
@@ -240,9 +259,7 @@ fn push_change(lines: &mut Vec<u8>, name: &str, key: &str) -> Result<()>
 }
 
 /// What is said if it takes too long to find what cannot be installed together.
-fn unblamed_line(alloc: Global) -> Result<Vec<u8>>
-    ensures { IfOk result (λ line. line.items ≡ Texts.unblamed_line) }
-{
+fn unblamed_line(alloc: Global) -> Result<Vec<u8>> {
     let mut line = Vec::new(alloc);
     line.extend_from_slice(
         b"No versions fit together. To say what cannot be installed together takes more steps.\n",

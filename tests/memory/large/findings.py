@@ -11,6 +11,8 @@ RULES = {
     "advisory": ("error", "A security advisory hits an installed package."),
     "unchecked": ("note", "A dependency is not checked, a manifest was not read, or workspaces were not looked for."),
     "refused": ("error", "A file is not read, or has a fault."),
+    "source": ("error", "Where a package comes from is suspicious: its address is that of another version or package, is not encrypted or is below "
+                        "no registry that was given, or it has no integrity."),
 }
 COMMANDS = {"error": "error", "warning": "warning", "note": "notice"}
 

@@ -85,14 +85,14 @@ def overrides():
     """A package that asks for all names, of which rules change what it asks for."""
     asker = {"node_modules/asker": {"version": "1.0.0", **asked("^1")}}
     root = {"overrides": dict.fromkeys(NAMES, "2.0.0")}
-    yield Case(lock_of(root, {**asker, **at_root("2.0.0")}), packages=MANY + 1)
+    yield Case(lock_of(root, {**asker, **at_root("2.0.0")}), packages=MANY + 1, manifest=root)
     invalid = [dependency(name, "2.0.0", "node_modules/asker", problem="invalid", to=f"node_modules/{name}", version="1.0.0")
                for name in NAMES]
-    yield Case(lock_of(root, {**asker, **at_root("1.0.0")}), invalid, packages=MANY + 1)
+    yield Case(lock_of(root, {**asker, **at_root("1.0.0")}), invalid, packages=MANY + 1, manifest=root)
     root = {"overrides": {name: {"x": "1"} for name in NAMES}}
     unread = [dependency(name, "^1", "node_modules/asker", to=f"node_modules/{name}", unchecked="override", version="1.0.0")
               for name in NAMES]
-    yield Case(lock_of(root, {**asker, **at_root("1.0.0")}), unchecked=unread, packages=MANY + 1)
+    yield Case(lock_of(root, {**asker, **at_root("1.0.0")}), unchecked=unread, packages=MANY + 1, manifest=root)
 
 
 def askers():

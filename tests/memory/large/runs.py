@@ -116,6 +116,12 @@ def check_runs():
             yield Run(case.lock, [*node, *ignored], [], f"{case.counts}, 0 problems, 0 not checked{of_mismatches}", files)
 
 
+def read_of(advisories):
+    """How many advisories a file has, as it is told: one of OSV's has `affected`, and npm's form has a list for each name."""
+    lists = [[advisories]] if "affected" in advisories else advisories.values() if isinstance(advisories, dict) else [advisories]
+    return f"{sum(map(len, lists))} advisories read"
+
+
 def audit_runs():
     for advisories, lock, level, hits in [*audits(), *osv_audits()]:
         packages = len(lock["packages"])
@@ -124,12 +130,12 @@ def audit_runs():
         if "1.7.0" in text_of(lock):
             # (a dependency on a later version than the installed one is a problem too; a row of npm_answers has this audit)
             continue
+        error = f"{counts}0 problems, 0 not checked, {len(hits)} hit, {read_of(advisories)}"
         for form in ("json", "text"):
             lines = [text_of(one) if form == "json" else hit_sentence(one) for one in hits]
             words = ["--format", form, "--severity", level]
-            yield Run(lock, words, lines, f"{counts}0 problems, 0 not checked, {len(hits)} hit", {"advisories": advisories})
+            yield Run(lock, words, lines, error, {"advisories": advisories})
         found = [Finding("advisory", hit_sentence(one), at_package(one["folder"])) for one in hits]
-        error = f"{counts}0 problems, 0 not checked, {len(hits)} hit"
         yield from annotated(lock, ["--severity", level], found, [], error, {"advisories": advisories})
 
 
@@ -156,10 +162,10 @@ def exception_runs():
         pairs = [(told["id"], one) for one in hits for told in one["advisories"]]
         said = [f"excepted: {one['name']} {one['version']} is hit by {known}: why ({one['folder']})" for known, one in pairs]
         exceptions = [(known, one["name"]) for known, one in pairs]
-        yield ExceptedRun(lock, [], f"{counts}, 0 hit, {len(pairs)} excepted", said, exceptions, advisories)
+        yield ExceptedRun(lock, [], f"{counts}, 0 hit, {read_of(advisories)}, {len(pairs)} excepted", said, exceptions, advisories)
         idle = [(known, name + "-") for known, name in exceptions]
         said = [f"exception: {known} of {name} applies to nothing: why" for known, name in idle]
-        yield ExceptedRun(lock, list(map(text_of, hits)), f"{counts}, {len(hits)} hit", said, idle, advisories)
+        yield ExceptedRun(lock, list(map(text_of, hits)), f"{counts}, {len(hits)} hit, {read_of(advisories)}", said, idle, advisories)
 
 
 def omission_runs():

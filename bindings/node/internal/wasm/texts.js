@@ -30,8 +30,8 @@ function makeRoomFor(which, size) {
     }
 }
 
-// Writes a text at one of the two places, and returns how many bytes it has.
-function put(which, text) {
+// Writes a text at one of the two places, and returns how many bytes are written. Of a short one what stands before `from` may be left out.
+function put(which, text, from = 0) {
     if (typeof text !== 'string') {
         throw wrongType('an argument is no string');
     }
@@ -40,16 +40,16 @@ function put(which, text) {
     const { u8 } = m;
     const to = m.texts[which];
     if (length <= SHORT) {
-        let i = 0;
+        let i = from;
         for (; i < length; i++) {
             const code = codeAt(text, i);
             if (code > LAST_ASCII) {
                 break;
             }
-            u8[to + i] = code;
+            u8[to + i - from] = code;
         }
         if (i === length) {
-            return length;
+            return length - from;
         }
     }
     return encodeInto(encoder, text, new Bytes(m.buffer, to, m.sizes[which])).written;
@@ -118,4 +118,4 @@ function bytes(call, slot, place) {
 // The same as a Buffer, where there are Buffers. Not amid a call.
 const bufferOf = (copy) => (typeof Buffer === 'undefined' ? copy : Buffer.from(copy.buffer));
 
-module.exports = { put, makeRoomFor, taken, printedLetters, print, bytes, bufferOf };
+module.exports = { SHORT, put, makeRoomFor, taken, printedLetters, print, bytes, bufferOf };

@@ -3,16 +3,16 @@
 // version that no text writes.
 'use strict';
 
-const { lengthOf, set } = require('../builtins.js');
+const { codeAt, lengthOf, numberOf, set } = require('../builtins.js');
 const { m, A, B, D, ANY, ANSWER, FAULT, OK, REFUSED, calls, check, enter, leave, view } = require('./memory.js');
 const { outOfMemory, wrongType } = require('./errors.js');
-const { put, makeRoomFor, print, printedLetters, taken, bytes, bufferOf } = require('./texts.js');
+const { SHORT, put, makeRoomFor, print, printedLetters, taken, bytes, bufferOf } = require('./texts.js');
 
 // What `compare`, `compareBuild` and `diff` return where the first key, or the second, is no version.
 const [FIRST_REFUSED, SECOND_REFUSED] = [16, 17];
 const INVALID_IDENTIFIER = 6;
 
-const LETTER_V = 118;
+const [ZERO, NINE, LETTER_V] = [48, 57, 118];
 const SMALL = 65536;
 
 // A version that no text writes: the bytes of its key, and its print.
@@ -237,19 +237,45 @@ const bumped = calls((key, number, identifier, base) => {
     return result;
 });
 
+// Where the first digit of a short text is: what stands before it is no part of a version.
+function firstDigit(text) {
+    let at = 0;
+    for (; at < text.length && at < SHORT; at++) {
+        const code = codeAt(text, at);
+        if (code >= ZERO && code <= NINE) {
+            break;
+        }
+    }
+    return at;
+}
+
+// What `readVersion` returns of a triple of small numbers, or one with LARGE.
+function numbersAt(slot) {
+    const major = numberOf(m.f.node_semver_version_major(slot));
+    const minor = numberOf(m.f.node_semver_version_minor(slot));
+    const patch = numberOf(m.f.node_semver_version_patch(slot));
+    const isLarge = major >= SMALL || minor >= SMALL || patch >= SMALL;
+    return packed(isLarge, (major * SMALL + minor) * SMALL + patch, IS_TRIPLE);
+}
+
 // The version that is found in the text: where it is a triple of small numbers, what `readVersion` returns of it; else its print; or null. If
 // full, it has the prerelease and the build that follow.
 const coerce = calls((text, rtl, full) => {
     if (typeof text !== 'string') {
         return null;
     }
-    const length = put(0, text);
+    const length = put(0, text, rtl ? 0 : firstDigit(text));
     const slot = emptied(m.at + B);
     const call = full ? m.f.node_semver_version_coerce_with_prerelease : m.f.node_semver_version_coerce;
     const status = check(call(m.texts[0], length, rtl ? 1 : 0, slot));
     view();
     if (status !== OK) {
         return null;
+    }
+    const numbers = full ? LARGE : numbersAt(slot);
+    if ((numbers & LARGE) === 0) {
+        free(slot);
+        return numbers;
     }
     const letters = printedLetters(m.f.node_semver_version_print, slot);
     free(slot);

@@ -15,13 +15,13 @@ from ._error import BumpError, BumpFault, FaultKind, SemverError
 from ._native import Range, Version, satisfies
 from ._picking import PickCode, Picked, PickError, PickFault, pick
 from ._resolving import (
-    Chosen, Culprit, Group, LockFile, LockResolution, NoSelection, Reason, Resolution, Selected, Undecided, Wish, resolve,
+    Chosen, Culprit, Group, LockFile, LockResolution, NoSelection, Reason, Resolution, Selected, Undecided, Unread, Wish, resolve,
 )  # fmt: skip
 from ._types import Bump, Cut, CutKind, Interval, ReleaseType
 
 __all__ = [
     "Bump", "BumpError", "BumpFault", "Chosen", "Culprit", "Cut", "CutKind", "FaultKind", "Group", "Interval", "LockFile",
     "LockResolution", "NoSelection", "PickCode", "PickError", "PickFault", "Picked", "Range", "Reason", "ReleaseType",
-    "Resolution", "Selected", "SemverError", "Undecided", "Version", "Wish", "pick", "resolve", "satisfies",
+    "Resolution", "Selected", "SemverError", "Undecided", "Unread", "Version", "Wish", "pick", "resolve", "satisfies",
 ]  # fmt: skip
 __version__ = "1.0.0"

@@ -112,11 +112,18 @@ class Undecided(typing.TypedDict):
     outcome: Literal["undecided"]
 
 
+class Unread(typing.TypedDict):
+    """There is no lock file: the rules in `overrides` for these names are not read, and `npm ci` would refuse it."""
+
+    outcome: Literal["unread"]
+    overrides: list[str]
+
+
 #: What `resolve` returns. A dict may have more members than these.
 Resolution = Selected | NoSelection | Undecided
 
 #: What `resolve` returns for `lockfile=True`.
-LockResolution = LockFile | NoSelection | Undecided
+LockResolution = LockFile | Unread | NoSelection | Undecided
 
 def _omits(omit: Group | collections.abc.Iterable[Group]) -> list[bool]:
     groups = [omit] if isinstance(omit, str) else list(omit)
@@ -214,8 +221,8 @@ def resolve(
     `before` leaves out what was published later, and `omit` the groups `dev`, `optional` and `peer`. `node` is the version of Node,
     for `engines`; without it any is fine. With `flat` the dependencies of selected versions count too, with `lowest` the lowest
     versions are preferred, and a version that the package-lock.json `lock` has in `node_modules/NAME` comes first. With `lockfile`,
-    which takes `flat` and no `omit`, the answer is a package-lock.json if versions fit together. The search stops after so many
-    `steps`. Raises `ValueError` if the manifest, the documents or an option cannot be read.
+    which takes `flat` and no `omit`, the answer is a package-lock.json if versions fit together and the rules in `overrides` are read.
+    The search stops after so many `steps`. Raises `ValueError` if the manifest, the documents or an option cannot be read.
 
     >>> documents = {
     ...     'hot': {'versions': {'4.0.0': {'peerDependencies': {'react': '^17'}}}},

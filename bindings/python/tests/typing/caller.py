@@ -82,3 +82,4 @@ elif answer["outcome"] == "none":
     changes: List[Optional[str]] = [one["would_fit"] for one in answer["culprits"] or []]
 locked: LockResolution = resolve("{}", {}, flat=True, lowest=True, node="v20.1.0", lock={"lockfileVersion": 3}, lockfile=True)
 lock: str = locked["lockfile"] if locked["outcome"] == "selected" else ""
+unread: List[str] = locked["overrides"] if locked["outcome"] == "unread" else []

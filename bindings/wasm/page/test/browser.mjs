@@ -8,22 +8,28 @@ import { setTimeout as pause } from 'node:timers/promises';
 
 const FLAGS = ['--headless', '--no-sandbox', '--disable-gpu', '--hide-scrollbars', '--remote-debugging-port=0', '--remote-debugging-address=127.0.0.1'];
 
-// The address at which a started browser listens.
-function addressOf(child) {
+// The address at which a started browser says that it listens.
+export function addressOf(child, saying) {
     return new Promise((found, failed) => {
         let said = '';
         child.stderr.on('data', (data) => {
             said += data;
-            const match = said.match(/DevTools listening on (ws:\S+)/);
+            const match = said.match(saying);
             if (match) {
                 found(match[1]);
             }
         });
-        child.on('exit', () => failed(new Error(`chromium ended: ${said}`)));
+        child.on('exit', () => failed(new Error(`the browser ended: ${said}`)));
     });
 }
 
-class Connection {
+export class Connection {
+    static async open(address) {
+        const socket = new WebSocket(address);
+        await new Promise((found, failed) => Object.assign(socket, { onopen: found, onerror: failed }));
+        return new Connection(socket);
+    }
+
     constructor(socket) {
         this.socket = socket;
         this.waiting = new Map();
@@ -39,10 +45,15 @@ class Connection {
         const { method, found, failed } = this.waiting.get(message.id);
         this.waiting.delete(message.id);
         if (message.error) {
-            failed(new Error(`${method}: ${message.error.message}`));
+            failed(new Error(`${method}: ${message.error.message ?? message.message}`));
         } else {
             found(message.result);
         }
+    }
+
+    // The events of a method, each with its parameters.
+    eventsOf(method) {
+        return this.events.filter((event) => event.method === method).map(({ params }) => params);
     }
 
     call(method, params = {}, sessionId = this.sessionId) {
@@ -59,9 +70,7 @@ export class Browser {
         const browser = new Browser();
         browser.folder = mkdtempSync(path.join(os.tmpdir(), 'page-'));
         browser.child = spawn('chromium', [...FLAGS, `--user-data-dir=${browser.folder}`, 'about:blank'], { stdio: ['ignore', 'ignore', 'pipe'] });
-        const socket = new WebSocket(await addressOf(browser.child));
-        await new Promise((found, failed) => Object.assign(socket, { onopen: found, onerror: failed }));
-        browser.connection = new Connection(socket);
+        browser.connection = await Connection.open(await addressOf(browser.child, /DevTools listening on (ws:\S+)/));
         const { targetId } = await browser.call('Target.createTarget', { url: 'about:blank' });
         const { sessionId } = await browser.call('Target.attachToTarget', { targetId, flatten: true });
         browser.connection.sessionId = sessionId;
@@ -82,9 +91,8 @@ export class Browser {
         return Promise.all([this.call('Emulation.setDeviceMetricsOverride', { width, height, deviceScaleFactor: 1, mobile: false }), this.call('Emulation.setEmulatedMedia', scheme)]);
     }
 
-    // The events of a method, each with its parameters.
     events(method) {
-        return this.connection.events.filter((event) => event.method === method).map(({ params }) => params);
+        return this.connection.eventsOf(method);
     }
 
     async value(expression) {

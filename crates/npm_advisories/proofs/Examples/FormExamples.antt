@@ -1,22 +1,31 @@
 -- The advisories of some files in npm's form and in OSV's, and the faults of others.
 use Rattle.std.proofs.Common.{◌≡◌, ◌∷◌, [], List, ℕ, Some, None, arith, codes, false, map, refl, true}
+use Rattle.std.specs.Fmt.{digits}
 use Rattle.serde_json.specs.Data.{Data, Items, array, item, member, no_items, no_members, null, number, object, string}
 use Rattle.serde_json.specs.Data.{unsigned}
+use Rattle.toml_datetime.proofs.OnLiterals.{toml_datetime_on_literals}
+use Rattle.toml_datetime.specs.declared.datetime.Date.{Date}
 use Rattle.semver_versions.specs.Lemmas.Public.{is-version_in, version_in}
 use Rattle.node_semver.specs.Versions.{IsVersionText, release}
-use Rattle.npm_advisories.specs.Advisories.{AboutValue, in_osv, range_text}
+use Rattle.npm_advisories.specs.Advisories.{AboutValue, in_osv, npm_about, range_text}
+use Rattle.npm_advisories.specs.KnownIds.{is_known_as}
+use Rattle.npm_advisories.specs.OsvForm.{osv_about}
 use Rattle.npm_advisories.specs.Faults.{fault_at}
 use Rattle.npm_advisories.specs.Files.{IsFileFault, advisories_of}
 use Rattle.npm_advisories.specs.Ids.{id_in, number as id_number, text as id_text}
 use Rattle.npm_advisories.specs.OsvRanges.{fixed, introduced}
 use Rattle.npm_advisories.specs.Severities.{is_at_least, severity_of_text}
-use Rattle.npm_advisories.specs.Timestamps.{is_timestamp}
+use Rattle.npm_advisories.specs.Timestamps.{day_of, is_timestamp}
 use Rattle.npm_advisories.specs.declared.fault.FaultKind.TheVariants as Faults
 use Rattle.npm_advisories.specs.declared.severity.Severity.TheVariants.{Critical, High, Info, Low, Moderate, Unknown}
 
 two : IsVersionText (codes "2.0.0") (release 2 0 0)
 unfolding version_in
 two = is-version_in _ _ (omega arith) refl
+
+-- the day on which advisories are asked
+abbrev today : Date
+today = record { year = 2024; month = 2; day = 29 }
 
 -- an object with one member
 abbrev only : (key : List ℕ) → Data → Data
@@ -29,14 +38,14 @@ in_npm = only (codes "a") (array (item (object (member (codes "id") (string (cod
     (member (codes "vulnerable_versions") (string (codes "<2")) no_members))) no_items))
 
 abbrev unsaid : (id : List ℕ) → AboutValue
-unsaid id = record { id = string id; severity = Unknown; title = None; url = None }
+unsaid id = record { id = string id; severity = Unknown; title = None; url = None; aliases = no_items }
 
-pub an_object_with_lists_is_npms_form : advisories_of in_npm
+pub an_object_with_lists_is_npms_form : advisories_of today in_npm
     ≡ record { name = codes "a"; about = unsaid (codes "N"); affected = range_text (codes "<2") } ∷ []
 an_object_with_lists_is_npms_form = refl
 
 -- with no range, or `null`, all versions are affected
-pub no_range_is_all_versions : advisories_of (only (codes "a") (array
+pub no_range_is_all_versions : advisories_of today (only (codes "a") (array
     (item (only (codes "id") (string (codes "N"))) (item (object (member (codes "id") (string (codes "N"))
     (member (codes "vulnerable_versions") null no_members))) no_items))))
     ≡ record { name = codes "a"; about = unsaid (codes "N"); affected = range_text (codes "*") }
@@ -44,7 +53,7 @@ pub no_range_is_all_versions : advisories_of (only (codes "a") (array
 no_range_is_all_versions = refl
 
 -- a package may be called `id`
-pub a_list_under_id_is_npms_form : advisories_of (only (codes "id") (array no_items)) ≡ []
+pub a_list_under_id_is_npms_form : advisories_of today (only (codes "id") (array no_items)) ≡ []
 a_list_under_id_is_npms_form = refl
 
 -- ---- OSV's form
@@ -67,44 +76,53 @@ osv_of affected = object (member (codes "affected") (array affected) (member (co
 abbrev in_osvs : Data
 in_osvs = osv_of (item (element (codes "npm") (item (up_to (codes "SEMVER") (codes "2.0.0")) no_items)) no_items)
 
-pub an_object_with_an_id_is_osvs_form : advisories_of in_osvs ≡ record {
+pub an_object_with_an_id_is_osvs_form : advisories_of today in_osvs ≡ record {
   name = codes "a";
   about = unsaid (codes "O");
   affected = in_osv ((introduced (codes "0") ∷ fixed (codes "2.0.0") ∷ []) ∷ []) [];
 } ∷ []
 an_object_with_an_id_is_osvs_form = refl
 
-pub a_list_is_osvs_form : advisories_of (array (item in_osvs no_items)) ≡ advisories_of in_osvs
+pub a_list_is_osvs_form : advisories_of today (array (item in_osvs no_items)) ≡ advisories_of today in_osvs
 a_list_is_osvs_form = refl
 
-pub the_database_gives_the_severity : advisories_of (object (member (codes "affected") (array
+pub the_database_gives_the_severity : advisories_of today (object (member (codes "affected") (array
     (item (element (codes "npm") no_items) no_items)) (member (codes "database_specific")
     (only (codes "severity") (string (codes "HIGH"))) (member (codes "id") (string (codes "O")) no_members)))) ≡ record {
       name = codes "a";
-      about = record { id = string (codes "O"); severity = High; title = None; url = None };
+      about = record { id = string (codes "O"); severity = High; title = None; url = None; aliases = no_items };
       affected = in_osv [] [];
     } ∷ []
 the_database_gives_the_severity = refl
 
 -- ---- elements that are passed over
 
-pub another_ecosystem_is_passed_over : advisories_of (osv_of (item (element (codes "PyPI") no_items) no_items)) ≡ []
+pub another_ecosystem_is_passed_over : advisories_of today (osv_of (item (element (codes "PyPI") no_items) no_items)) ≡ []
 another_ecosystem_is_passed_over = refl
 
-pub an_ecosystem_range_is_read : advisories_of (osv_of (item (element (codes "npm")
-    (item (up_to (codes "ECOSYSTEM") (codes "2.0.0")) no_items)) no_items)) ≡ advisories_of in_osvs
+pub an_ecosystem_range_is_read : advisories_of today (osv_of (item (element (codes "npm")
+    (item (up_to (codes "ECOSYSTEM") (codes "2.0.0")) no_items)) no_items)) ≡ advisories_of today in_osvs
 an_ecosystem_range_is_read = refl
 
-pub a_git_range_is_passed_over : advisories_of (osv_of (item (element (codes "npm")
+pub a_git_range_is_passed_over : advisories_of today (osv_of (item (element (codes "npm")
     (item (up_to (codes "GIT") (codes "2.0.0")) no_items)) no_items))
     ≡ record { name = codes "a"; about = unsaid (codes "O"); affected = in_osv [] [] } ∷ []
 a_git_range_is_passed_over = refl
 
-pub a_withdrawn_advisory_is_none : advisories_of (object (member (codes "affected") (array
+-- an advisory that is taken back at this time
+abbrev withdrawn : (time : List ℕ) → Data
+withdrawn time = object (member (codes "affected") (array
     (item (element (codes "npm") (item (up_to (codes "SEMVER") (codes "2.0.0")) no_items)) no_items))
-    (member (codes "id") (string (codes "O")) (member (codes "withdrawn") (string (codes "2022-01-01T00:00:00Z"))
-    no_members)))) ≡ []
+    (member (codes "id") (string (codes "O")) (member (codes "withdrawn") (string time) no_members)))
+
+pub a_withdrawn_advisory_is_none : advisories_of today (withdrawn (codes "2024-02-29T23:59:59Z")) ≡ []
+unfolding toml_datetime_on_literals
 a_withdrawn_advisory_is_none = refl
+
+-- it counts until then
+pub withdrawn_tomorrow : advisories_of today (withdrawn (codes "2024-03-01T00:00:00Z")) ≡ advisories_of today in_osvs
+unfolding toml_datetime_on_literals
+withdrawn_tomorrow = refl
 
 -- ---- times
 
@@ -115,6 +133,38 @@ pub no_times : map is_timestamp ([] ∷ codes "2022-01-31" ∷ codes "2022-01-31
     ∷ codes "2022-01-31T23:59:59.Z" ∷ codes "2022-01-31T23:59:59ZZ" ∷ [])
     ≡ false ∷ false ∷ false ∷ false ∷ false ∷ false ∷ []
 no_times = refl
+
+-- a day of the calendar, and a leap second
+pub days : map day_of (codes "2024-02-29T23:59:60.5Z" ∷ []) ≡ Some today ∷ []
+unfolding toml_datetime_on_literals
+days = refl
+
+pub no_days : map day_of (codes "9999-99-99T99:99:99Z" ∷ codes "2023-02-29T00:00:00Z" ∷ codes "2024-02-29T24:00:00Z" ∷ [])
+    ≡ None ∷ None ∷ None ∷ []
+unfolding toml_datetime_on_literals
+no_days = refl
+
+-- ---- ids
+
+-- an advisory with this `id` in OSV's form, about no package, with an alias and an address
+abbrev known : AboutValue
+known = osv_about (object (member (codes "aliases") (array (item (string (codes "CVE-1")) no_items)) (member (codes "id")
+    (string (codes "GHSA-1")) (member (codes "references") (array (item (only (codes "url") (string (codes "https://a/12")))
+    no_items)) no_members))))
+
+pub known_as : map (λ id. is_known_as id known) (codes "ghsa-1" ∷ codes "cve-1" ∷ codes "12" ∷ codes "CVE" ∷ codes "" ∷ [])
+    ≡ true ∷ true ∷ false ∷ false ∷ false ∷ []
+known_as = refl
+
+-- in npm's form the address has an id
+abbrev known_to_npm : AboutValue
+known_to_npm = npm_about (object (member (codes "id") (number (unsigned 12)) (member (codes "url")
+    (string (codes "https://github.com/advisories/GHSA-1")) no_members)))
+
+pub known_as_to_npm : map (λ id. is_known_as id known_to_npm) (codes "12" ∷ codes "ghsa-1" ∷ codes "2" ∷ codes "1" ∷ [])
+    ≡ true ∷ true ∷ false ∷ false ∷ []
+unfolding digits
+known_as_to_npm = refl
 
 -- ---- severities
 
@@ -140,43 +190,43 @@ low_is_above_info = refl
 abbrev installed : List (List ℕ)
 installed = codes "b" ∷ codes "a" ∷ []
 
-pub a_version_has_no_fault : IsFileFault installed in_osvs None
+pub a_version_has_no_fault : IsFileFault today installed in_osvs None
 a_version_has_no_fault is_version told = rw (told.passes (codes "2.0.0") (release 2 0 0) two) refl
 
-pub a_string_is_no_file : IsFileFault installed (string []) (Some (fault_at [] 0 None Faults.File))
+pub a_string_is_no_file : IsFileFault today installed (string []) (Some (fault_at [] 0 None Faults.File))
 a_string_is_no_file is_version told = refl
 
 -- an element about a repository alone has no `package`, or `null`
-pub no_package_has_no_fault : IsFileFault installed (osv_of (item (only (codes "package") null) (item (object no_members)
+pub no_package_has_no_fault : IsFileFault today installed (osv_of (item (only (codes "package") null) (item (object no_members)
     no_items))) None
 no_package_has_no_fault is_version told = refl
 
 -- another type of a range, and none
-pub another_type_is_a_fault : IsFileFault installed (osv_of (item (element (codes "npm")
+pub another_type_is_a_fault : IsFileFault today installed (osv_of (item (element (codes "npm")
     (item (up_to (codes "semver") (codes "2.0.0")) no_items)) no_items))
     (Some (fault_at (codes "a") 0 (Some (id_text (codes "O"))) Faults.Type))
 another_type_is_a_fault is_version told = refl
 
 -- in a range without events no version can be
-pub no_event_is_a_fault : IsFileFault installed (osv_of (item (element (codes "npm")
+pub no_event_is_a_fault : IsFileFault today installed (osv_of (item (element (codes "npm")
     (item (object (member (codes "events") (array no_items) (member (codes "type") (string (codes "SEMVER")) no_members)))
     no_items)) no_items)) (Some (fault_at (codes "a") 0 (Some (id_text (codes "O"))) Faults.NoStart))
 no_event_is_a_fault is_version told = refl
 
 -- nor in an element with commits alone
-pub commits_are_no_versions : IsFileFault installed (osv_of (item (element (codes "npm")
+pub commits_are_no_versions : IsFileFault today installed (osv_of (item (element (codes "npm")
     (item (up_to (codes "GIT") (codes "2.0.0")) no_items)) no_items))
     (Some (fault_at (codes "a") 0 (Some (id_text (codes "O"))) Faults.NoVersion))
 commits_are_no_versions is_version told = refl
 
 -- the second of a list has no `id`
-pub a_fault_has_its_place : IsFileFault installed (array (item in_osvs (item (only (codes "affected")
+pub a_fault_has_its_place : IsFileFault today installed (array (item in_osvs (item (only (codes "affected")
     (array (item (element (codes "npm") no_items) no_items))) no_items)))
     (Some (fault_at (codes "a") 1 None Faults.OsvId))
 a_fault_has_its_place is_version told = rw (told.passes (codes "2.0.0") (release 2 0 0) two) refl
 
 -- an event with two members is none, whatever their texts
-pub two_members_are_no_event : IsFileFault installed (osv_of (item (element (codes "npm") (item (object
+pub two_members_are_no_event : IsFileFault today installed (osv_of (item (element (codes "npm") (item (object
     (member (codes "type") (string (codes "SEMVER")) (member (codes "events") (array (item (object
     (member (codes "fixed") (string (codes "2.0.0")) (member (codes "introduced") (string (codes "0")) no_members)))
     no_items)) no_members))) no_items)) no_items)) (Some (fault_at (codes "a") 0
@@ -192,48 +242,49 @@ an_id_is_a_number_or_a_text = refl
 -- ---- advisories about packages that are not installed
 
 -- neither an object without `id` about `a`, nor one that names no package
-pub about_none_has_no_fault : IsFileFault (codes "b" ∷ []) (array (item (only (codes "affected")
+pub about_none_has_no_fault : IsFileFault today (codes "b" ∷ []) (array (item (only (codes "affected")
     (array (item (element (codes "npm") no_items) no_items))) (item (only (codes "affected") (array no_items)) no_items))) None
 about_none_has_no_fault is_version told = refl
 
 -- an object whose `affected` is no list may be about any package
-pub about_any_is_a_fault : IsFileFault [] (array (item (only (codes "affected") (string [])) no_items))
+pub about_any_is_a_fault : IsFileFault today [] (array (item (only (codes "affected") (string [])) no_items))
     (Some (fault_at [] 0 None Faults.OsvId))
 about_any_is_a_fault is_version told = refl
 
 -- an object without `affected` may be about any package: `[{"id": "O"}]`
-pub affected_is_missing : IsFileFault [] (array (item (only (codes "id") (string (codes "O"))) no_items))
+pub affected_is_missing : IsFileFault today [] (array (item (only (codes "id") (string (codes "O"))) no_items))
     (Some (fault_at [] 0 (Some (id_text (codes "O"))) Faults.Affected))
 affected_is_missing is_version told = refl
 
 -- unless it is withdrawn
-pub a_withdrawn_advisory_needs_none : IsFileFault [] (array (item (object (member (codes "id") (string (codes "O"))
+pub a_withdrawn_advisory_needs_none : IsFileFault today [] (array (item (object (member (codes "id") (string (codes "O"))
     (member (codes "withdrawn") (string (codes "2022-01-01T00:00:00Z")) no_members))) no_items)) None
+unfolding toml_datetime_on_literals
 a_withdrawn_advisory_needs_none is_version told = refl
 
 -- `withdrawn` says at which time: in `[{"id": "O", "withdrawn": ""}]` it does not
-pub no_time_is_a_fault : IsFileFault [] (array (item (object (member (codes "id") (string (codes "O"))
+pub no_time_is_a_fault : IsFileFault today [] (array (item (object (member (codes "id") (string (codes "O"))
     (member (codes "withdrawn") (string []) no_members))) no_items))
     (Some (fault_at [] 0 (Some (id_text (codes "O"))) Faults.Withdrawn))
 no_time_is_a_fault is_version told = refl
 
 -- under each name stands a list: in `{"a": ""}`, where `a` is not installed
 pub no_list_under_any_name :
-    IsFileFault (codes "b" ∷ []) (only (codes "a") (string [])) (Some (fault_at (codes "a") 0 None Faults.List))
+    IsFileFault today (codes "b" ∷ []) (only (codes "a") (string [])) (Some (fault_at (codes "a") 0 None Faults.List))
 no_list_under_any_name is_version told = refl
 
 -- of advisories: in `{"results": [{}]}`
-pub no_advisory_under_any_name : IsFileFault [] (only (codes "results") (array (item (object no_members) no_items)))
+pub no_advisory_under_any_name : IsFileFault today [] (only (codes "results") (array (item (object no_members) no_items)))
     (Some (fault_at (codes "results") 0 None Faults.Id))
 no_advisory_under_any_name is_version told = refl
 
 -- in npm's form, and not in OSV's: `{"vulns": [{"affected": [], "id": "O"}]}`
-pub osvs_form_under_a_name : IsFileFault [] (only (codes "vulns") (array (item (osv_of no_items) no_items)))
+pub osvs_form_under_a_name : IsFileFault today [] (only (codes "vulns") (array (item (osv_of no_items) no_items)))
     (Some (fault_at (codes "vulns") 0 (Some (id_text (codes "O"))) Faults.OsvUnderName))
 osvs_form_under_a_name is_version told = refl
 
 -- nor in that of an answer of OSV's service: `{"vulns": [{"id": "O", "modified": ""}]}`
-pub no_member_under_any_name : IsFileFault [] (only (codes "vulns") (array (item (object (member (codes "id") (string (codes "O"))
+pub no_member_under_any_name : IsFileFault today [] (only (codes "vulns") (array (item (object (member (codes "id") (string (codes "O"))
     (member (codes "modified") (string []) no_members))) no_items)))
     (Some (fault_at (codes "vulns") 0 (Some (id_text (codes "O"))) Faults.NoMember))
 no_member_under_any_name is_version told = refl
@@ -244,8 +295,8 @@ untitled = only (codes "a") (array (item (object (member (codes "id") (number (u
     (number (unsigned 1)) no_members))) no_items))
 
 pub a_title_of_an_installed_package :
-    IsFileFault installed untitled (Some (fault_at (codes "a") 0 (Some (id_number 1)) Faults.Title))
+    IsFileFault today installed untitled (Some (fault_at (codes "a") 0 (Some (id_number 1)) Faults.Title))
 a_title_of_an_installed_package is_version told = refl
 
-pub a_title_of_another_package : IsFileFault (codes "b" ∷ []) untitled None
+pub a_title_of_another_package : IsFileFault today (codes "b" ∷ []) untitled None
 a_title_of_another_package is_version told = refl

@@ -9,6 +9,7 @@ use Rattle.npm_advisories.specs.Advisories.{AboutValue, AdvisoryValue, Affected,
 use Rattle.npm_advisories.specs.OsvPackages.{any_concerns, concerns, is_about_wanted, may_concern}
 use Rattle.npm_advisories.specs.OsvForm.{affected_list, is_withdrawn, items_at, npm_name, osv_about, osv_advisories}
 use Rattle.npm_advisories.specs.OsvForm.{osv_affected}
+use Rattle.toml_datetime.specs.declared.datetime.Date.{Date}
 
 either-false : (a b : Bool) → (a || b) ≡ false → (a ≡ false) × (b ≡ false)
 either-false true b is = absurd (cc)
@@ -71,8 +72,9 @@ module _ (is_wanted : List ℕ → Bool) (name : List ℕ) (is : is_wanted name 
       ∙ (rw (one-other about one here.1, affected-other about others both.1) refl)
 
   -- an OSV object
-  pub object-other : (entry : Data) → concerns is_wanted entry ≡ false → about_name name (osv_advisories entry) ≡ []
-  object-other entry not =
+  pub object-other : (today : Date) (entry : Data) → concerns is_wanted entry ≡ false
+      → about_name name (osv_advisories today entry) ≡ []
+  object-other today entry not =
       let both = either-false _ (any_concerns is_wanted (items_at (codes "affected") entry)) not in
-      if-none (is_withdrawn entry) (affected_list (osv_about entry) (items_at (codes "affected") entry)) name
+      if-none (is_withdrawn today entry) (affected_list (osv_about entry) (items_at (codes "affected") entry)) name
       (affected-other (osv_about entry) (items_at (codes "affected") entry) both.1)

@@ -2,8 +2,34 @@
 ghost use Rattle.std.specs.Prelude.{◌≡◌, option_map};
 ghost use Rattle.npm_advisories.specs.Timestamps as Timestamps;
 
-/// Returns `true` for a time in UTC: `2022-01-31T23:59:59Z`, with a fraction of a second or without.
-pub(crate) fn is_timestamp(text: &str) -> bool
+use std::str::FromStr;
+use toml_datetime::{Date, Datetime};
+
+/// Returns the day of a time in UTC: 2022-01-31 for `2022-01-31T23:59:59Z`. `None`: the text is no such time, as
+/// `2022-02-30T00:00:00Z`.
+pub(crate) fn day_of(text: &str) -> Option<Date>
+    ensures { result ≡ Timestamps.day_of text.now }
+{
+    if !is_timestamp(text) {
+        return None;
+    }
+    match Datetime::from_str(text) {
+        Ok(time) => time.date,
+        Err(_) => None,
+    }
+}
+
+/// Returns `true` if the first day is before the second one.
+pub(crate) fn is_before(day: Date, other: Date) -> bool
+    ensures { result ≡ Timestamps.is_before day other }
+{
+    day.year < other.year
+        || (day.year == other.year
+            && (day.month < other.month || (day.month == other.month && day.day < other.day)))
+}
+
+/// Returns `true` for the form of a time in UTC: `2022-01-31T23:59:59Z`, with a fraction of a second or without.
+fn is_timestamp(text: &str) -> bool
     ensures { result ≡ Timestamps.is_timestamp text.now }
 {
     match after(b"0000-00-00T00:00:00", text.as_bytes()) {

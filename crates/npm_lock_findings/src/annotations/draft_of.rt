@@ -1,23 +1,24 @@
 //! One finding without its place.
 ghost use Rattle.std.specs.Prelude.{◌≡◌, IfOk, map};
-ghost use Rattle.findings.specs.Drafts.{draft_value};
 ghost use Rattle.npm_advisories.specs.Audit.{found_value};
 ghost use Rattle.npm_lock.specs.Outcomes.{problem_value, unchecked_value};
 ghost use Rattle.npm_lock_reports.specs.Unread.{unread_value};
 ghost use Rattle.npm_lock.specs.Mismatches.{mismatch_value};
-ghost use Rattle.npm_lock_findings.specs.Findings.{hit_draft, mismatch_draft, names_seen, note_draft, problem_draft};
-ghost use Rattle.npm_lock_findings.specs.Findings.{unchecked_draft, unread_draft};
+ghost use Rattle.npm_lock_findings.specs.Findings.{hit_draft, mismatch_draft, names_seen, note_draft, problem_draft, seen_draft};
+ghost use Rattle.npm_lock.specs.Sources.{source_value};
+ghost use Rattle.npm_lock_findings.specs.Findings.{source_draft, unchecked_draft, unread_draft};
 
 use crate::annotations::paths::{dependency_paths, mismatch_paths, package_paths, problem_paths};
 use crate::annotations::rules::{
-    ADVISORY_PLACE, MISMATCH_PLACE, UNCHECKED_PLACE, mismatch_level, rule_of, rule_place,
+    ADVISORY_PLACE, MISMATCH_PLACE, SOURCE_PLACE, UNCHECKED_PLACE, mismatch_level, rule_of,
+    rule_place, unchecked_level,
 };
 use findings::{Draft, Level};
 use npm_advisories::Found;
-use npm_lock::{Mismatch, Problem, Unchecked};
+use npm_lock::{Mismatch, Problem, Source, Unchecked};
 use npm_lock_reports::{
-    Unread, push_hit_sentence, push_mismatch_sentence, push_sentence, push_unchecked_sentence,
-    push_unread_sentence,
+    Unread, push_hit_sentence, push_mismatch_sentence, push_sentence, push_source_sentence,
+    push_unchecked_sentence, push_unread_sentence,
 };
 use std::alloc::{AllocError, Global};
 
@@ -26,7 +27,7 @@ pub fn problematic<'a>(
     alloc: Global,
     problem: &'a Problem,
 ) -> Result<Draft<'static, 'a>, AllocError>
-    ensures { IfOk result (λ draft. draft_value draft ≡ problem_draft (problem_value problem.now)) }
+    ensures { IfOk result (λ draft. seen_draft draft ≡ problem_draft (problem_value problem.now)) }
 {
     let mut message = Vec::new(alloc);
     push_sentence(&mut message, problem)?;
@@ -47,7 +48,7 @@ pub fn mismatched<'a>(
     mismatch: &'a Mismatch,
     exact: bool,
 ) -> Result<Draft<'static, 'a>, AllocError>
-    ensures { IfOk result (λ draft. draft_value draft ≡ mismatch_draft exact (mismatch_value mismatch.now)) }
+    ensures { IfOk result (λ draft. seen_draft draft ≡ mismatch_draft exact (mismatch_value mismatch.now)) }
 {
     let mut message = Vec::new(alloc);
     push_mismatch_sentence(&mut message, mismatch)?;
@@ -68,7 +69,7 @@ pub fn mismatched<'a>(
 
 /// Returns the draft of a package that an advisory hits.
 pub fn hit<'a>(alloc: Global, found: &'a Found<'_, '_>) -> Result<Draft<'static, 'a>, AllocError>
-    ensures { IfOk result (λ draft. draft_value draft ≡ hit_draft (found_value found.now)) }
+    ensures { IfOk result (λ draft. seen_draft draft ≡ hit_draft (found_value found.now)) }
 {
     let mut message = Vec::new(alloc);
     push_hit_sentence(alloc, &mut message, found)?;
@@ -81,37 +82,57 @@ pub fn hit<'a>(alloc: Global, found: &'a Found<'_, '_>) -> Result<Draft<'static,
     })
 }
 
+/// Returns the draft of what is suspicious in where a package comes from.
+pub fn sourced<'a>(alloc: Global, source: &'a Source) -> Result<Draft<'static, 'a>, AllocError>
+    ensures { IfOk result (λ draft. seen_draft draft ≡ source_draft (source_value source.now)) }
+{
+    let mut message = Vec::new(alloc);
+    push_source_sentence(&mut message, source)?;
+    Ok(Draft {
+        rule: "source",
+        rule_index: SOURCE_PLACE,
+        level: Level::Error,
+        message,
+        paths: package_paths(alloc, source.folder.as_str())?,
+    })
+}
+
 /// Returns the draft of a dependency that is not checked.
 pub fn unchecked<'a>(
     alloc: Global,
     unchecked: &'a Unchecked,
+    strict: bool,
 ) -> Result<Draft<'static, 'a>, AllocError>
-    ensures { IfOk result (λ draft. draft_value draft ≡ unchecked_draft (unchecked_value unchecked.now)) }
+    ensures { IfOk result (λ draft. seen_draft draft ≡ unchecked_draft strict (unchecked_value unchecked.now)) }
 {
     let mut message = Vec::new(alloc);
     push_unchecked_sentence(&mut message, unchecked)?;
     let folder = unchecked.dependency.from.as_str();
     let name = unchecked.dependency.name.as_str();
-    Ok(noted(message, dependency_paths(alloc, folder, name)?))
+    Ok(noted(strict, message, dependency_paths(alloc, folder, name)?))
 }
 
 /// Returns the draft of what was not looked at.
-pub fn unread<'a>(alloc: Global, unread: &'a Unread) -> Result<Draft<'static, 'a>, AllocError>
-    ensures { IfOk result (λ draft. draft_value draft ≡ unread_draft (unread_value unread.now)) }
+pub fn unread<'a>(
+    alloc: Global,
+    unread: &'a Unread,
+    strict: bool,
+) -> Result<Draft<'static, 'a>, AllocError>
+    ensures { IfOk result (λ draft. seen_draft draft ≡ unread_draft strict (unread_value unread.now)) }
 {
     let mut message = Vec::new(alloc);
     push_unread_sentence(&mut message, unread)?;
-    Ok(noted(message, package_paths(alloc, unread.folder())?))
+    Ok(noted(strict, message, package_paths(alloc, unread.folder())?))
 }
 
-/// Returns the draft of a note.
-fn noted<'a>(message: Vec<u8>, paths: Vec<Vec<&'a str>>) -> Draft<'static, 'a>
-    ensures { draft_value result ≡ note_draft message.items (map names_seen paths.entry.items) }
+/// Returns the draft of what is not checked.
+fn noted<'a>(strict: bool, message: Vec<u8>, paths: Vec<Vec<&'a str>>) -> Draft<'static, 'a>
+    ensures { seen_draft result ≡ note_draft strict (map names_seen paths.entry.items) }
 {
     Draft {
         rule: "unchecked",
         rule_index: UNCHECKED_PLACE,
-        level: Level::Note,
+        level: unchecked_level(strict),
         message,
         paths,
     }

@@ -1,17 +1,17 @@
 //! The report of a lock file as findings without places.
 ghost use Rattle.std.specs.Prelude.{◌≡◌, ◌++◌, OnOk, map};
-ghost use Rattle.findings.specs.Drafts.{draft_value};
 ghost use Rattle.npm_advisories.specs.Audit.{found_value};
 ghost use Rattle.npm_lock.specs.Outcomes.{problem_value, unchecked_value};
 ghost use Rattle.npm_lock_reports.specs.Unread.{unread_value};
 ghost use Rattle.npm_lock.specs.Mismatches.{mismatch_value};
-ghost use Rattle.npm_lock_findings.specs.Findings.{hit_draft, listed_drafts, mismatch_draft, problem_draft, unchecked_draft};
-ghost use Rattle.npm_lock_findings.specs.Findings.{unread_draft};
+ghost use Rattle.npm_lock_findings.specs.Findings.{hit_draft, listed_drafts, mismatch_draft, problem_draft, seen_draft, unchecked_draft};
+ghost use Rattle.npm_lock.specs.Sources.{source_value};
+ghost use Rattle.npm_lock_findings.specs.Findings.{source_draft, unread_draft};
 
-use crate::annotations::draft_of::{hit, mismatched, problematic, unchecked, unread};
+use crate::annotations::draft_of::{hit, mismatched, problematic, sourced, unchecked, unread};
 use findings::Draft;
 use npm_advisories::Found;
-use npm_lock::{Mismatch, Problem, Unchecked};
+use npm_lock::{Mismatch, Problem, Source, Unchecked};
 use npm_lock_reports::{Report, Unread};
 use std::alloc::{AllocError, Global};
 
@@ -22,8 +22,8 @@ pub fn push_mismatches<'a>(
     mismatches: &'a [Mismatch],
     exact: bool,
 ) -> Result<(), AllocError>
-    ensures { OnOk result (map draft_value drafts.new.items
-        ≡ map draft_value drafts.old.items ++ map (mismatch_draft exact) (map mismatch_value mismatches.now)) }
+    ensures { OnOk result (map seen_draft drafts.new.items
+        ≡ map seen_draft drafts.old.items ++ map (mismatch_draft exact) (map mismatch_value mismatches.now)) }
 {
     for mismatch in mismatches {
         drafts.push(mismatched(alloc, mismatch, exact)?)?;
@@ -37,8 +37,8 @@ pub fn push_problems<'a>(
     drafts: &mut Vec<Draft<'static, 'a>>,
     problems: &'a [Problem],
 ) -> Result<(), AllocError>
-    ensures { OnOk result (map draft_value drafts.new.items
-        ≡ map draft_value drafts.old.items ++ map problem_draft (map problem_value problems.now)) }
+    ensures { OnOk result (map seen_draft drafts.new.items
+        ≡ map seen_draft drafts.old.items ++ map problem_draft (map problem_value problems.now)) }
 {
     for problem in problems {
         drafts.push(problematic(alloc, problem)?)?;
@@ -52,11 +52,26 @@ pub fn push_hits<'a>(
     drafts: &mut Vec<Draft<'static, 'a>>,
     found: &'a [Found<'_, '_>],
 ) -> Result<(), AllocError>
-    ensures { OnOk result (map draft_value drafts.new.items
-        ≡ map draft_value drafts.old.items ++ map hit_draft (map found_value found.now)) }
+    ensures { OnOk result (map seen_draft drafts.new.items
+        ≡ map seen_draft drafts.old.items ++ map hit_draft (map found_value found.now)) }
 {
     for one in found {
         drafts.push(hit(alloc, one)?)?;
+    }
+    Ok(())
+}
+
+/// Adds the drafts of what is suspicious in where packages come from.
+pub fn push_sources<'a>(
+    alloc: Global,
+    drafts: &mut Vec<Draft<'static, 'a>>,
+    sources: &'a [Source],
+) -> Result<(), AllocError>
+    ensures { OnOk result (map seen_draft drafts.new.items
+        ≡ map seen_draft drafts.old.items ++ map source_draft (map source_value sources.now)) }
+{
+    for source in sources {
+        drafts.push(sourced(alloc, source)?)?;
     }
     Ok(())
 }
@@ -67,12 +82,12 @@ pub fn push_listed<'a>(
     drafts: &mut Vec<Draft<'static, 'a>>,
     report: &'a Report,
 ) -> Result<(), AllocError>
-    ensures { OnOk result (map draft_value drafts.new.items
-        ≡ map draft_value drafts.old.items ++ listed_drafts report.now) }
+    ensures { OnOk result (map seen_draft drafts.new.items
+        ≡ map seen_draft drafts.old.items ++ listed_drafts report.now) }
 {
     if report.listed {
-        push_all_unchecked(alloc, drafts, &report.problems.unchecked)?;
-        push_all_unread(alloc, drafts, &report.unread)?;
+        push_all_unchecked(alloc, drafts, &report.problems.unchecked, report.strict)?;
+        push_all_unread(alloc, drafts, &report.unread, report.strict)?;
     }
     Ok(())
 }
@@ -82,12 +97,13 @@ fn push_all_unchecked<'a>(
     alloc: Global,
     drafts: &mut Vec<Draft<'static, 'a>>,
     all: &'a [Unchecked],
+    strict: bool,
 ) -> Result<(), AllocError>
-    ensures { OnOk result (map draft_value drafts.new.items
-        ≡ map draft_value drafts.old.items ++ map unchecked_draft (map unchecked_value all.now)) }
+    ensures { OnOk result (map seen_draft drafts.new.items
+        ≡ map seen_draft drafts.old.items ++ map (unchecked_draft strict) (map unchecked_value all.now)) }
 {
     for one in all {
-        drafts.push(unchecked(alloc, one)?)?;
+        drafts.push(unchecked(alloc, one, strict)?)?;
     }
     Ok(())
 }
@@ -97,12 +113,13 @@ fn push_all_unread<'a>(
     alloc: Global,
     drafts: &mut Vec<Draft<'static, 'a>>,
     all: &'a [Unread],
+    strict: bool,
 ) -> Result<(), AllocError>
-    ensures { OnOk result (map draft_value drafts.new.items
-        ≡ map draft_value drafts.old.items ++ map unread_draft (map unread_value all.now)) }
+    ensures { OnOk result (map seen_draft drafts.new.items
+        ≡ map seen_draft drafts.old.items ++ map (unread_draft strict) (map unread_value all.now)) }
 {
     for one in all {
-        drafts.push(unread(alloc, one)?)?;
+        drafts.push(unread(alloc, one, strict)?)?;
     }
     Ok(())
 }

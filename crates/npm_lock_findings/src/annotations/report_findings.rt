@@ -3,14 +3,17 @@ ghost use Rattle.std.specs.Prelude.{IfOk, map};
 ghost use Rattle.npm_advisories.specs.Audit.{found_value};
 ghost use Rattle.npm_lock_findings.specs.Findings.{AreFindings};
 
-use crate::annotations::drafts::{push_hits, push_listed, push_mismatches, push_problems};
+use crate::annotations::drafts::{
+    push_hits, push_listed, push_mismatches, push_problems, push_sources,
+};
 use findings::{Finding, findings_in};
 use npm_advisories::Found;
 use npm_lock_reports::Report;
 use std::alloc::{AllocError, Global};
 
 /// Returns the findings of a lock file at this path, with this text, in the order of the report's lines: the mismatches, the problems,
-/// the packages that an advisory hits, and if the report lists them the dependencies that are not checked and what was not looked at.
+/// the packages that an advisory hits, what is suspicious in where packages come from, and if the report lists them the dependencies that
+/// are not checked and what was not looked at.
 /// A mismatch is an error if it counts for the status, and else a warning. What is not checked is a note.
 ///
 /// The line and the column are those of the dependency in the group of its dependent, of `engines.node` of a package, or of a package.
@@ -38,6 +41,7 @@ pub fn findings_of<'f, 'a>(
     push_mismatches(alloc, &mut drafts, &report.mismatches, report.exact)?;
     push_problems(alloc, &mut drafts, &report.problems.list)?;
     push_hits(alloc, &mut drafts, found)?;
+    push_sources(alloc, &mut drafts, &report.sources)?;
     push_listed(alloc, &mut drafts, report)?;
     findings_in(alloc, text, file, &drafts)
 }

@@ -17,8 +17,11 @@ pub const UNCHECKED_PLACE: usize = 6;
 /// The place of the rule of files that are refused.
 pub const REFUSED_PLACE: usize = 7;
 
+/// The place of the rule of suspicious sources.
+pub const SOURCE_PLACE: usize = 8;
+
 /// Returns the rules, each at its place.
-pub fn rules() -> [Rule<'static>; 8]
+pub fn rules() -> [Rule<'static>; 9]
     ensures { map (λ rule. rule.id.now) result ≡ Rules.rule_words }
 {
     [
@@ -47,6 +50,10 @@ pub fn rules() -> [Rule<'static>; 8]
             level: Level::Note,
         },
         error("refused", "A file is not read, or has a fault."),
+        error(
+            "source",
+            "Where a package comes from is suspicious: its address is that of another version or package, is not encrypted or is below no registry that was given, or it has no integrity.",
+        ),
     ]
 }
 
@@ -90,4 +97,11 @@ pub fn mismatch_level(exact: bool) -> Level
     ensures { result ≡ Rules.mismatch_level exact }
 {
     if exact { Level::Error } else { Level::Warning }
+}
+
+/// Returns the level of what is not checked.
+pub fn unchecked_level(strict: bool) -> Level
+    ensures { result ≡ Rules.unchecked_level strict }
+{
+    if strict { Level::Error } else { Level::Note }
 }

@@ -8,11 +8,12 @@ ghost use Rattle.npm_lock_findings.specs.Subjects as Subjects;
 ghost use Rattle.npm_lock_findings.specs.Entries.{subject_value};
 ghost use Rattle.npm_lock_reports.specs.Unread.{unread_value};
 ghost use Rattle.npm_lock.specs.Mismatches.{mismatch_value};
+ghost use Rattle.npm_lock.specs.Sources.{source_value};
 
 use crate::pages::entries::Subject;
 use findings::Part;
 use npm_advisories::{About, Found, Severity};
-use npm_lock::{Mismatch, Problem, Unchecked};
+use npm_lock::{Mismatch, Problem, Source, Unchecked};
 use npm_lock_reports::Unread;
 
 /// Returns what a problem is about.
@@ -42,6 +43,16 @@ pub fn hit<'a>(found: &'a Found<'_, '_>) -> Subject<'a>
     Subject {
         part: part_of_hits(&found.hits),
         group: found.name,
+    }
+}
+
+/// Returns what is suspicious in where a package comes from is about.
+pub fn sourced<'a>(source: &'a Source) -> Subject<'a>
+    ensures { subject_value result ≡ Subjects.source_subject (source_value source.now) }
+{
+    Subject {
+        part: Part::Problems,
+        group: source.folder.as_str(),
     }
 }
 

@@ -6,11 +6,12 @@ ghost use Rattle.npm_lock_findings.specs.Entries.{subject_value};
 ghost use Rattle.npm_lock_findings.specs.Subjects as Subjects;
 ghost use Rattle.npm_lock_reports.specs.Unread.{unread_value};
 ghost use Rattle.npm_lock.specs.Mismatches.{mismatch_value};
+ghost use Rattle.npm_lock.specs.Sources.{source_value};
 
 use crate::pages::entries::Subject;
-use crate::pages::subject::{hit, mismatched, problematic, unchecked, unread};
+use crate::pages::subject::{hit, mismatched, problematic, sourced, unchecked, unread};
 use npm_advisories::Found;
-use npm_lock::{Mismatch, Problem, Unchecked};
+use npm_lock::{Mismatch, Problem, Source, Unchecked};
 use npm_lock_reports::{Report, Unread};
 use std::alloc::{AllocError, Global};
 
@@ -27,6 +28,7 @@ pub fn subjects_of<'a>(
     push_mismatches(&mut subjects, &report.mismatches)?;
     push_problems(&mut subjects, &report.problems.list)?;
     push_hits(&mut subjects, found)?;
+    push_sources(&mut subjects, &report.sources)?;
     push_listed(&mut subjects, report)?;
     Ok(subjects)
 }
@@ -69,6 +71,20 @@ fn push_hits<'a>(
 {
     for one in found {
         subjects.push(hit(one))?;
+    }
+    Ok(())
+}
+
+/// Adds what suspicious sources are about.
+fn push_sources<'a>(
+    subjects: &mut Vec<Subject<'a>>,
+    sources: &'a [Source],
+) -> Result<(), AllocError>
+    ensures { OnOk result (map subject_value subjects.new.items
+        ≡ map subject_value subjects.old.items ++ map Subjects.source_subject (map source_value sources.now)) }
+{
+    for source in sources {
+        subjects.push(sourced(source))?;
     }
     Ok(())
 }

@@ -1,6 +1,6 @@
 -- What the definitions say of some hits.
 use Rattle.std.proofs.Common.{◌≡◌, ◌++◌, ◌∷◌, [], List, ℕ, Option, None, Some, codes, false, refl, true}
-use Rattle.serde_json.specs.Data.{Data, boolean, member, no_members, object, string}
+use Rattle.serde_json.specs.Data.{Data, boolean, member, no_items, no_members, object, string}
 use Rattle.toml_datetime.specs.declared.datetime.Date.{Date}
 use Rattle.npm_advisories.specs.Advisories.{AboutValue}
 use Rattle.npm_advisories.specs.declared.severity.Severity.TheVariants.{High}
@@ -17,7 +17,7 @@ development = record { dev = true; optional = false }
 
 -- an advisory with this id
 abbrev known : (id : List ℕ) → AboutValue
-known id = record { id = string id; severity = High; title = None; url = None }
+known id = record { id = string id; severity = High; title = None; url = None; aliases = no_items }
 
 -- a package in `node_modules` that these advisories hit
 abbrev hit : (name : List ℕ) → List AboutValue → FoundValue

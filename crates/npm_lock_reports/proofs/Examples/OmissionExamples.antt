@@ -1,6 +1,6 @@
 -- What the definitions say of some packages.
 use Rattle.std.proofs.Common.{◌≡◌, ◌∷◌, [], List, ℕ, Bool, Option, None, Some, codes, false, map, refl, true}
-use Rattle.serde_json.specs.Data.{Data, Members, boolean, member, no_members, object, string}
+use Rattle.serde_json.specs.Data.{Data, Members, array, boolean, item, member, no_items, no_members, object, string}
 use Rattle.npm_lock.specs.Outcomes.{DependencyValue}
 use Rattle.npm_lock_reports.specs.Count.{count_of}
 use Rattle.npm_lock_reports.specs.Omissions.{is_left_out, is_omitted}
@@ -25,7 +25,7 @@ marked mark = object (member mark (boolean true) (member (codes "version") (stri
 -- ---- packages
 
 abbrev at : (mark : List ℕ) → Omissions → Bool
-at mark omissions = is_omitted omissions (codes "node_modules/a") (marked mark)
+at mark omissions = is_omitted omissions (object no_members) (codes "node_modules/a") (marked mark)
 
 pub a_package_for_development : map (at (codes "dev")) (nothing ∷ dev_alone ∷ optional_alone ∷ both ∷ [])
     ≡ false ∷ true ∷ false ∷ true ∷ []
@@ -43,8 +43,27 @@ of_either_group = refl
 pub a_peer_stays : map (at (codes "peer")) (dev_alone ∷ both ∷ []) ≡ false ∷ false ∷ []
 a_peer_stays = refl
 
-pub the_root_stays : is_omitted both [] (marked (codes "dev")) ≡ false
+pub the_root_stays : is_omitted both (object no_members) [] (marked (codes "dev")) ≡ false
 the_root_stays = refl
+
+-- ---- linked folders
+
+-- a lock file whose root has this pattern of workspaces
+abbrev with_pattern : (pattern : List ℕ) → Data
+with_pattern pattern = object (member (codes "packages") (object (member []
+    (object (member (codes "workspaces") (array (item (string pattern) no_items)) no_members)) no_members)) no_members)
+
+abbrev below : (folder pattern : List ℕ) → Bool
+below folder pattern = is_omitted dev_alone (with_pattern pattern) folder (marked (codes "dev"))
+
+-- `npm ci --omit=dev` installs what is below a linked folder that is no workspace
+pub below_linked_folders : map (below (codes "lib/x/node_modules/lodash"))
+    (codes "lib/*" ∷ codes "./lib/*" ∷ codes "lib/x" ∷ codes "lib/**" ∷ codes "**" ∷ codes "lib/x/**" ∷ codes "lib" ∷ codes "*" ∷ codes "lib/y" ∷ codes "!lib/x" ∷ [])
+    ≡ true ∷ true ∷ true ∷ true ∷ true ∷ false ∷ false ∷ false ∷ false ∷ false ∷ []
+below_linked_folders = refl
+
+pub a_workspace_itself : map (below (codes "lib/x")) (codes "lib/*" ∷ codes "lib/y" ∷ []) ≡ true ∷ false ∷ []
+a_workspace_itself = refl
 
 -- ---- dependencies
 

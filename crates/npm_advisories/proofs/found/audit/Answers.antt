@@ -9,10 +9,10 @@ use Rattle.npm_advisories.proofs.found.audit.Goals as goal
 pub returns-clause-sound : goal.returns-clause-sound
 returns-clause-sound c =
     fault-each (names_of (map installed_value c.args.installed.now)) (has_name c.in_ok-names.names)
-    c.in_ok-names.ensures (view c.args.file.now) _ c.in_ok-index.ensures.sound
+    c.in_ok-names.ensures c.args.today (view c.args.file.now) _ c.in_ok-index.ensures.sound
 
 pub returns-in_err-index-clause-refused : goal.returns-in_err-index-clause-refused
 returns-in_err-index-clause-refused c =
     let fault = audit-error (names_of (map installed_value c.args.installed.now)) (has_name c.in_ok-names.names)
-    c.in_ok-names.ensures (view c.args.file.now) c.in_err-index.field-0.0 c.in_err-index.ensures.refused in
+    c.in_ok-names.ensures c.args.today (view c.args.file.now) c.in_err-index.field-0.0 c.in_err-index.ensures.refused in
     search (rules, fault)

@@ -9,5 +9,5 @@ use Rattle.npm_advisories.proofs.osv.add_osv.Goals as goal
 pub returns-then-not-concerns-clause-read : goal.returns-then-not-concerns-clause-read
 returns-then-not-concerns-clause-read c =
     adds-other (has_name c.args.names.now) _ _
-    (λ n is. object-other (has_name c.args.names.now) n is (view c.args.entry.now)
+    (λ n is. object-other (has_name c.args.names.now) n is c.args.today (view c.args.entry.now)
     (sym c.concerns.ensures ∙ c.if-not-concerns.true))

@@ -13,7 +13,7 @@ abbrev pub invariant-loop-place : goal.invariant-loop-place
 invariant-loop-place l = record {
   front : List AdvisoryValue;
   adds : Adds (has_name l.names) l.fn.index l.index front;
-  rest : osv_list (items_view l.entries) ≡ front ++ osv_list (items_view (drop l.place l.entries));
-  fault : osv_list_fault is_version (has_name l.names) 0 (items_view l.entries)
-      ≡ osv_list_fault is_version (has_name l.names) l.place (items_view (drop l.place l.entries));
+  rest : osv_list l.today (items_view l.entries) ≡ front ++ osv_list l.today (items_view (drop l.place l.entries));
+  fault : osv_list_fault l.today is_version (has_name l.names) 0 (items_view l.entries)
+      ≡ osv_list_fault l.today is_version (has_name l.names) l.place (items_view (drop l.place l.entries));
 }

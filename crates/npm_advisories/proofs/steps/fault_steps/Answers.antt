@@ -21,7 +21,7 @@ each names is_wanted same file fault steps e = λ other told.
     (subst (λ w. steps ≡ fault_steps is_version w file fault) (λ i name. same name i) e)
 
 pub returns-in-Err-clause-refused : goal.returns-in-Err-clause-refused
-returns-in-Err-clause-refused c = c.in-Err.ensures.refused (view c.args.file.now)
+returns-in-Err-clause-refused c = λ today. c.in-Err.ensures.refused today (view c.args.file.now)
 
 pub returns-in-Ok-steps_of-clause-found : goal.returns-in-Ok-steps_of-clause-found
 returns-in-Ok-steps_of-clause-found c =

@@ -1,11 +1,8 @@
--- The lines so far, and those that are left, are all lines.
-use Rattle.std.proofs.Common.{◌≡◌, ◌++◌, drop, map}
-use Rattle.npm_lock.specs.Outcomes.{unchecked_value}
-use Rattle.npm_lock_reports.specs.Report.{unchecked_text, lines}
-use Rattle.npm_lock_reports.specs.Style.{style_value}
+-- The lines so far, and one for each that is left, are all lines.
+use Rattle.std.proofs.Common.{◌≡◌, ◌+◌, drop, length}
+use Rattle.npm_lock_reports.specs.Lines.{line_count}
 use Rattle.npm_lock_reports.proofs.lines.push_all_unchecked.Given as goal
 
 abbrev pub invariant-loop-unchecked : goal.invariant-loop-unchecked
 invariant-loop-unchecked l =
-    l.lines.items ++ lines (unchecked_text (style_value l.style)) (map unchecked_value (drop l.unchecked-index l.all))
-    ≡ l.initial.lines.items ++ lines (unchecked_text (style_value l.style)) (map unchecked_value l.all)
+    line_count l.lines.items + length (drop l.unchecked-index l.all) ≡ line_count l.initial.lines.items + length l.all

@@ -1,11 +1,8 @@
--- The lines so far, and those that are left, are all lines.
-use Rattle.std.proofs.Common.{◌≡◌, ◌++◌, drop, map}
-use Rattle.npm_lock_reports.specs.Report.{unread_text, lines}
-use Rattle.npm_lock_reports.specs.Style.{style_value}
-use Rattle.npm_lock_reports.specs.Unread.{unread_value}
+-- The lines so far, and one for each that is left, are all lines.
+use Rattle.std.proofs.Common.{◌≡◌, ◌+◌, drop, length}
+use Rattle.npm_lock_reports.specs.Lines.{line_count}
 use Rattle.npm_lock_reports.proofs.lines.push_all_unread.Given as goal
 
 abbrev pub invariant-loop-unread : goal.invariant-loop-unread
 invariant-loop-unread l =
-    l.lines.items ++ lines (unread_text (style_value l.style)) (map unread_value (drop l.unread-index l.all))
-    ≡ l.initial.lines.items ++ lines (unread_text (style_value l.style)) (map unread_value l.all)
+    line_count l.lines.items + length (drop l.unread-index l.all) ≡ line_count l.initial.lines.items + length l.all

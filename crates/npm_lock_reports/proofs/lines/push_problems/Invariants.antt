@@ -1,11 +1,8 @@
--- The lines so far, and those that are left, are all lines.
-use Rattle.std.proofs.Common.{◌≡◌, ◌++◌, drop, map}
-use Rattle.npm_lock.specs.Outcomes.{problem_value}
-use Rattle.npm_lock_reports.specs.Report.{line_text, lines}
-use Rattle.npm_lock_reports.specs.Style.{style_value}
+-- The lines so far, and one for each that is left, are all lines.
+use Rattle.std.proofs.Common.{◌≡◌, ◌+◌, drop, length}
+use Rattle.npm_lock_reports.specs.Lines.{line_count}
 use Rattle.npm_lock_reports.proofs.lines.push_problems.Given as goal
 
 abbrev pub invariant-loop-problem : goal.invariant-loop-problem
 invariant-loop-problem l =
-    l.lines.items ++ lines (line_text (style_value l.style)) (map problem_value (drop l.problem-index l.problems))
-    ≡ l.initial.lines.items ++ lines (line_text (style_value l.style)) (map problem_value l.problems)
+    line_count l.lines.items + length (drop l.problem-index l.problems) ≡ line_count l.initial.lines.items + length l.problems

@@ -20,7 +20,7 @@ returns c = record {
   posed = record {
     wishes = c.in_ok-asks.field-0.asks;
     offers = c.in_ok-offers.offers;
-    names = c.in_ok-names.names;
+    names = c.in_ok-names.field-0.names;
     ranges = c.in_ok-root.field-0.ranges;
     root = c.in_ok-root.field-0.root;
     documents = record { packages = c.in_ok-root.field-0.packages; ranges = c.in_ok-ranges.ranges };
@@ -41,6 +41,7 @@ returns c = record {
   resolution = c.in_ok-resolution.ensures;
   left_out = refl;
   unread = subst (λ (rules : RulesValue). map text c.in_ok-unread.unread.items
-      ≡ unread_among rules (map (λ (one : Listed). one.name.now) c.in_ok-names.names.items))
+      ≡ unread_among rules (map (λ (one : Listed). one.name.now) c.in_ok-names.field-0.names.items))
       c.in_ok-rules.ensures (rw c.deref-3.ensures.value at c.in_ok-unread.ensures);
+  missing = c.in_ok-names.ensures.3;
 }

@@ -8,5 +8,5 @@ use Rattle.npm_lock_findings.proofs.annotations.drafts.push_all_unread.Goals as 
 pub loop-one-preserved : goal.loop-one-preserved
 loop-one-preserved c =
     let more : c.push.new.self.items ≡ c.loop-one.drafts.items ++ (c.in_ok-unread.field-0 ∷ []) = search rules in
-    draft_more unread_value _ _ c.one-item.result c.loop-one-test.true c.one-item.is unread_draft _ _ c.in_ok-unread.field-0 _
+    draft_more unread_value _ _ c.one-item.result c.loop-one-test.true c.one-item.is (unread_draft c.args.strict) _ _ c.in_ok-unread.field-0 _
     c.in_ok-unread.ensures more c.loop-one.invariant

@@ -1,11 +1,10 @@
 -- The drafts so far, and those of the packages that are left, are all.
 use Rattle.std.proofs.Common.{◌≡◌, ◌++◌, drop, map}
-use Rattle.findings.specs.Drafts.{draft_value}
 use Rattle.npm_advisories.specs.Audit.{found_value}
-use Rattle.npm_lock_findings.specs.Findings.{hit_draft}
+use Rattle.npm_lock_findings.specs.Findings.{hit_draft, seen_draft}
 use Rattle.npm_lock_findings.proofs.annotations.drafts.push_hits.Given as goal
 
 abbrev pub invariant-loop-one : goal.invariant-loop-one
-invariant-loop-one l = map draft_value l.drafts.items
+invariant-loop-one l = map seen_draft l.drafts.items
     ++ map hit_draft (map found_value (drop l.one-index l.found))
-    ≡ map draft_value l.initial.drafts.items ++ map hit_draft (map found_value l.found)
+    ≡ map seen_draft l.initial.drafts.items ++ map hit_draft (map found_value l.found)

@@ -1,0 +1,10 @@
+-- What is left of the usage is text.
+use denote.Text.{Utf8}
+use denote.Shadow.{shadow}
+use Rattle.npm_lock_check.proofs.arguments.usage.usage_of.Given as goal
+
+abbrev pub invariant-loop-part : goal.invariant-loop-part
+invariant-loop-part l =
+    (goal.iterator-loop-part).can_next l.part-iterator ×
+    (goal.iterator-loop-part).is_finite l.part-iterator ×
+    shadow (Utf8 l.before)

@@ -1,0 +1,9 @@
+-- The patterns that are left decide.
+use Rattle.std.proofs.Common.{◌≡◌, drop}
+use Rattle.serde_json.specs.View.{items_view}
+use Rattle.npm_lock_reports.specs.Projects as Projects
+use Rattle.npm_lock_reports.proofs.workspace.has_negated.Given as goal
+
+abbrev pub invariant-loop-pattern : goal.invariant-loop-pattern
+invariant-loop-pattern l =
+    Projects.has_negated (items_view l.patterns) ≡ Projects.has_negated (items_view (drop l.pattern-index l.patterns))

@@ -1,0 +1,157 @@
+//! What is needed, but left out.
+ghost use Rattle.std.specs.Prelude.{◌≡◌, ◌||◌, ◌++◌, IfOk, OnOk, map, option_and_then, option_map};
+ghost use Rattle.serde_json.specs.View.{view};
+ghost use Rattle.npm_lock.specs.Outcomes.{dependency_value};
+ghost use Rattle.npm_packages.specs.Edges.{edge_value};
+ghost use Rattle.npm_packages.specs.Packages.{version_of};
+ghost use Rattle.npm_lock_reports.specs.Exceptions.{some_list};
+ghost use Rattle.npm_lock_reports.specs.Needed as Needed;
+ghost use Rattle.npm_lock_reports.specs.Needed.{AreNeeded};
+
+use crate::omissions::{Omissions, member_at};
+use crate::workspace::is_in_project;
+use npm_lock::Dependency;
+use npm_packages::{Edge, SoundLock, edges_in, version_of};
+use npm_texts::{copied, has_true};
+use serde_json::Value;
+use std::alloc::{AllocError, Global};
+
+/// Returns the dependencies that are needed, and for which a package is found that is left out, as `npm ci --omit` leaves it out, which
+/// believes the marks of the file: of the packages in the order of their folders, of each by the names. A dependency is needed if it is
+/// neither optional nor, where development is left out, one of `devDependencies`, and if the package that asks has no mark by which it
+/// is left out.
+///
+/// # Errors
+///
+/// An allocation failed.
+///
+/// # Memory
+///
+/// Allocates the list with a copy of each text, and while it runs a list of all dependencies.
+///
+/// # Examples
+///
+/// If the root depends on `a`, and `node_modules/a` has `"dev": true`: that dependency, where development is left out.
+pub fn left_out_but_needed(
+    lock: &SoundLock<'_>,
+    omissions: Omissions,
+) -> Result<Vec<Dependency>, AllocError>
+    ensures { IfOk result (λ list. AreNeeded omissions (view lock.now) (map dependency_value list.items)) }
+{
+    let edges = edges_in(lock)?;
+    told_of(lock.packages().alloc, lock.file(), omissions, &edges)
+}
+
+/// Those of these dependencies that are needed and left out.
+fn told_of(
+    alloc: Global,
+    lock: &Value,
+    omissions: Omissions,
+    edges: &[Edge<'_>],
+) -> Result<Vec<Dependency>, AllocError>
+    ensures { IfOk result (λ list. map dependency_value list.items
+        ≡ Needed.told_in omissions (view lock.now) (map edge_value edges.now)) }
+{
+    let mut list = Vec::new(alloc);
+    for edge in edges {
+        push_told(alloc, &mut list, lock, omissions, edge)?;
+    }
+    Ok(list)
+}
+
+/// Adds a dependency that is needed and left out.
+fn push_told(
+    alloc: Global,
+    list: &mut Vec<Dependency>,
+    lock: &Value,
+    omissions: Omissions,
+    edge: &Edge<'_>,
+) -> Result<(), AllocError>
+    ensures { OnOk result (map dependency_value list.new.items ≡ map dependency_value list.old.items
+        ++ some_list (Needed.told_if omissions (view lock.now) (edge_value edge.now))) }
+{
+    if is_needed(omissions, lock, edge) && is_left_out(omissions, lock, edge) {
+        list.push(told(alloc, member_at(lock, edge.from), edge)?)?;
+    }
+    Ok(())
+}
+
+/// A dependency, with the version and the marks of the package that asks.
+fn told(alloc: Global, asker: Option<&Value>, edge: &Edge<'_>) -> Result<Dependency, AllocError>
+    ensures { IfOk result (λ dependency. dependency_value dependency
+        ≡ Needed.told (option_map (λ member. view member.now) asker.entry) (edge_value edge.now)) }
+{
+    Ok(Dependency {
+        from: String::from_str(alloc, edge.from)?,
+        from_version: copied(alloc, version_in(asker))?,
+        name: String::from_str(alloc, edge.name)?,
+        spec: String::from_str(alloc, edge.spec)?,
+        to: copied(alloc, edge.to)?,
+        version: copied(alloc, edge.version)?,
+        dev: is_marked(asker, "dev", edge.is_dev),
+        optional: is_marked(asker, "optional", !edge.is_needed),
+        peer: is_marked(asker, "peer", edge.is_peer),
+    })
+}
+
+/// The version of a package that may be absent.
+fn version_in(asker: Option<&Value>) -> Option<&str>
+    ensures { option_map (λ text. text.now) result
+        ≡ option_and_then version_of (option_map (λ member. view member.now) asker.entry) }
+{
+    version_of(asker?)
+}
+
+/// Returns `true` if a package has this mark, or the dependency itself is so.
+fn is_marked(asker: Option<&Value>, mark: &str, is_so: bool) -> bool
+    ensures { result ≡ (Needed.has_mark mark.now (option_map (λ member. view member.now) asker.entry) || is_so) }
+{
+    match asker {
+        Some(member) => has_true(member, mark) || is_so,
+        None => is_so,
+    }
+}
+
+/// Returns `true` if the dependency is needed.
+fn is_needed(omissions: Omissions, lock: &Value, edge: &Edge<'_>) -> bool
+    ensures { result ≡ Needed.is_needed omissions (view lock.now) (edge_value edge.now) }
+{
+    edge.is_needed && !(omissions.dev && edge.is_dev) && !is_marked_at(omissions, lock, edge.from)
+}
+
+/// Returns `true` if the package that is found for a dependency is left out.
+fn is_left_out(omissions: Omissions, lock: &Value, edge: &Edge<'_>) -> bool
+    ensures { result ≡ Needed.is_left_out omissions (view lock.now) (edge_value edge.now) }
+{
+    match edge.to {
+        Some(to) => finds_left_out(omissions, lock, edge.from, to),
+        None => false,
+    }
+}
+
+/// Returns `true` if what a package in one folder finds in another is left out.
+fn finds_left_out(omissions: Omissions, lock: &Value, from: &str, to: &str) -> bool
+    ensures { result ≡ Needed.finds_left_out omissions (view lock.now) from.now to.now }
+{
+    is_marked_at(omissions, lock, to) && (is_of_project(lock, to) || is_of_project(lock, from))
+}
+
+/// Returns `true` if the package in a folder, which is not the root, has a mark by which packages are left out.
+fn is_marked_at(omissions: Omissions, lock: &Value, folder: &str) -> bool
+    ensures { result ≡ Needed.is_marked_at omissions (view lock.now) folder.now }
+{
+    if folder.is_empty() {
+        return false;
+    }
+    match member_at(lock, folder) {
+        Some(member) => omissions.has_marked(member),
+        None => false,
+    }
+}
+
+/// Returns `true` if the folder is the root, a workspace, or what npm installs for them.
+fn is_of_project(lock: &Value, folder: &str) -> bool
+    ensures { result ≡ Needed.is_of_project (view lock.now) folder.now }
+{
+    folder.is_empty() || is_in_project(lock, folder)
+}

@@ -1,9 +1,0 @@
--- The array has the objects of the culprits, and the reasons are their objects.
-use Rattle.std.proofs.Common.{rules}
-use Rattle.serde_json.proofs.OnLiterals.{serde_json_on_literals}
-use Rattle.serde_json.proofs.Views.{view-Array, view-Object}
-use Rattle.npm_resolve_reports.proofs.json.conflict_json.Goals as goal
-
-pub returns : goal.returns
-unfolding serde_json_on_literals
-returns c = search (rules, view-Object, view-Array)

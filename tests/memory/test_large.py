@@ -17,7 +17,7 @@ from support.refused_calls import AFTER
 from support.refused_programs import told
 
 SEMVER = [rows.join_rows, rows.tree_rows, rows.least_rows, rows.key_rows]
-OF_FILES = [lock_files.check_rows, lock_files.manifest_rows, lock_files.audit_rows, lock_files.pick_rows]
+OF_FILES = [lock_files.check_rows, lock_files.manifest_rows, lock_files.source_rows, lock_files.audit_rows, lock_files.pick_rows]
 GROUPS = [*(("semver_answers", made) for made in SEMVER), *(("npm_answers", made) for made in OF_FILES)]
 
 

@@ -450,7 +450,8 @@ const main = async () => {
     const ran = run(['--ignore', 'group', '--outside'])
     const isMismatched = isCompared && / [1-9]\d* mismatches/.test(run([]).stderr)
     fs.rmSync(path.join(folder, '..', '..'), { recursive: true })
-    const sorted = ran.stdout.split('\n').filter(line => line).sort()
+    // npm says nothing of addresses.
+    const sorted = ran.stdout.split('\n').filter(line => line && JSON.parse(line).problem !== 'source').sort()
     const counts = /^(\d+) packages, (\d+) dependencies/.exec(ran.stderr)
     const counted = Number(counts?.[2])
     problems += npm.found.length

@@ -29,11 +29,12 @@ const specs = ['^1.0.0', '^1', '~1.2', '1.x', '*', '', '1.0.0', '>=1 <3', '^2', 
 
 // Of two packages with the same integrity npm takes one for the other.
 const integrity = (name, version) => `sha512-${createHash('sha512').update(`${name}@${version}`).digest('base64')}`
+const tarball = (address, name, version) => `${address}/${name}/-/${name.split('/').pop()}-${version}.tgz`
 const packument = (name, address) => ({
   name,
   'dist-tags': { latest: Object.keys(published[name]).filter(version => !version.includes('-')).pop() },
   versions: Object.fromEntries(Object.entries(published[name]).map(([version, more]) =>
-    [version, { name, version, ...more, dist: { tarball: `${address}/${name}/-/x-${version}.tgz`, integrity: integrity(name, version) } }]))
+    [version, { name, version, ...more, dist: { tarball: tarball(address, name, version), integrity: integrity(name, version) } }]))
 })
 const serve = () => new Promise(resolve => {
   const server = http.createServer((request, response) => {

@@ -66,7 +66,8 @@ const main = async () => {
   fs.writeFileSync(advisories, JSON.stringify(Object.fromEntries([...names].map(name =>
     [name, [{ id: 1, severity: 'low', title: 'all', vulnerable_versions: '>=0.0.0-0' }]]))))
   const ran = spawnSync(program, ['--advisories', advisories], { input: text, encoding: 'utf8', maxBuffer: 1 << 28 })
-  const hits = new Map(ran.stdout.split('\n').filter(line => line).map(line => JSON.parse(line)).map(hit => [hit.folder, hit]))
+  const lines = ran.stdout.split('\n').filter(line => line).map(line => JSON.parse(line))
+  const hits = new Map(lines.filter(line => line.advisories).map(hit => [hit.folder, hit]))
   let compared = 0
   for (const [i, [name, entry]] of entries.entries()) {
     if (!npm[i].version) continue

@@ -179,6 +179,25 @@ def manifest_rows():
     yield "npm_lock::workspace_problem", [among, text_of(long), long], wanted
 
 
+# ---- addresses
+
+KINDS = ["other-version", "other-package", "insecure", "other-host", "no-integrity"]
+
+
+def source_rows():
+    """Each package has an address at which nothing is right, in a file of either version, and many registries are given."""
+    entry = {"version": "1.0.0", "resolved": "http://r/x/-/x-2.0.0.tgz"}
+    wanted = listed({**entry, "folder": f"node_modules/{name}", "problem": "source", "source": kind} for name in NAMES for kind in KINDS)
+    old = {"lockfileVersion": 1, "dependencies": dict.fromkeys(NAMES, entry)}
+    for lock in (lock_of({}, {f"node_modules/{name}": entry for name in NAMES}), old):
+        yield "npm_lock::suspicious_sources", [text_of(lock), "https://r/npm"], wanted
+    long = {"folder": "node_modules/d", "problem": "source", "resolved": f"http://r/{'n' * LONG}", "source": "no-integrity", "version": "1.0.0"}
+    one = lock_of({}, {"node_modules/d": {"version": "1.0.0", "resolved": long["resolved"]}})
+    yield "npm_lock::suspicious_sources", [text_of(one), "http://r"], listed([{**long, "source": "insecure"}, long])
+    yield "npm_lock::suspicious_sources", [text_of(one), *(f"http://r{number}" for number in range(MANY)), "http://r"], listed(
+        [{**long, "source": "insecure"}, long])
+
+
 # ---- advisories
 
 
@@ -316,10 +335,3 @@ def pick_rows():
     yield "npm_pick::pick", [document, '{"avoidStrict": true, "avoid": "<1.9"}', "~1.0.0"], f"1.{MANY - 1}.0"
     document = text_of({"versions": {**versions, "1.3.0": {}}})
     yield "npm_pick::pick", [document, "", "*"], "1.3.0"
-
-
-def rows():
-    yield from check_rows()
-    yield from manifest_rows()
-    yield from audit_rows()
-    yield from pick_rows()

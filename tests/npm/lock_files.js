@@ -107,7 +107,7 @@ const oldFile = () => {
   return { file, manifest: { ...manifest, name: 'root' } }
 }
 
-const words = { MISSING: 'missing', INVALID: 'invalid', 'PEER LOCAL': 'peer local' }
+const words = { MISSING: 'missing', INVALID: 'invalid', 'PEER LOCAL': 'peer-local' }
 
 // Rows: the members of `packages`, beside a root.
 const at = (version, more) => ({ version, ...more })

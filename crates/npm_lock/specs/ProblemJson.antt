@@ -11,7 +11,7 @@ use Rattle.npm_lock.specs.declared.problem.Reason.TheVariants.{Location, Overrid
 abbrev pub kind_text : Kind → List ℕ
 kind_text Missing = codes "missing"
 kind_text Invalid = codes "invalid"
-kind_text PeerLocal = codes "peer local"
+kind_text PeerLocal = codes "peer-local"
 kind_text Engine = codes "engine"
 
 -- the word for why it is not checked

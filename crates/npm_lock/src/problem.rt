@@ -33,7 +33,7 @@ impl Kind {
         match self {
             Kind::Missing => "missing",
             Kind::Invalid => "invalid",
-            Kind::PeerLocal => "peer local",
+            Kind::PeerLocal => "peer-local",
             Kind::Engine => "engine",
         }
     }

@@ -76,7 +76,7 @@ def peers():
     packages = at_root("1.0.0", peerDependencies={"d": "1"})
     packages.update({f"{folder}/node_modules/d": {"version": "1.0.0"} for folder in list(packages)})
     return Case(lock_of({}, packages), [
-        dependency("d", "1", f"node_modules/{name}", peer=True, problem="peer local",
+        dependency("d", "1", f"node_modules/{name}", peer=True, problem="peer-local",
                    to=f"node_modules/{name}/node_modules/d", version="1.0.0") for name in NAMES
     ], packages=2 * MANY)
 

@@ -10,7 +10,7 @@ VERDICTS = {
     "missing": " is not installed, so nothing satisfies ",
     "invalid": " does not satisfy ",
     "engine": " does not satisfy ",
-    "peer local": " is installed inside the package that has it as a peer: ",
+    "peer-local": " is installed inside the package that has it as a peer: ",
 }
 DEEP = 60  # So many packages are inside one another: a text nests at most 128 deep.
 REASONS = {

@@ -47,7 +47,7 @@ a_missing_package = refl
 pub an_invalid_version : kind_text Kinds.Invalid ≡ codes "invalid"
 an_invalid_version = refl
 
-pub a_local_peer : kind_text Kinds.PeerLocal ≡ codes "peer local"
+pub a_local_peer : kind_text Kinds.PeerLocal ≡ codes "peer-local"
 a_local_peer = refl
 
 pub a_version_of_node : kind_text Kinds.Engine ≡ codes "engine"

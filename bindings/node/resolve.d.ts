@@ -4,7 +4,7 @@ import pick = require('./pick');
 /**
  * Versions of packages that fit together, or what cannot be installed together: what `npm install --strict-peer-deps` must find, or
  * stops at with `ERESOLVE`. One version is selected of each package that the manifest asks for, and of the peers of the versions
- * that are selected.
+ * that are selected. A package of `optionalDependencies` that has no version in its range is left out.
  *
  * Names are chosen in the order in which they are first needed. Each choice is the first version with which a selection that fits
  * exists: that of the tag, or else the newest.

@@ -177,6 +177,7 @@ const limits = {
     '`minVersion`': 0.95,
     '`validRange`, 20,000 ranges': 1,
     '`validRange`, 20,000 hyphen ranges': 1,
+    '`new Range` and its `range`, 20,000 hyphen ranges': 1,
 };
 
 function compareWithLimits() {

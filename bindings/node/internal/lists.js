@@ -4,7 +4,7 @@
 'use strict';
 
 const native = require('./native.js');
-const { List, Numbers, add } = require('./builtins.js');
+const { newList, Numbers, add } = require('./builtins.js');
 const { parseOptions } = require('./options.js');
 const { callKey, rangeOf } = require('./range.js');
 const {
@@ -21,7 +21,7 @@ const sortArray = Array.prototype.sort;
 
 // The elements of an array but `undefined`, and how many places have an element.
 function elements(list) {
-    const values = new List();
+    const values = newList();
     const { length } = list;
     let count = 0;
     for (let i = 0; i < length; i++) {
@@ -47,7 +47,7 @@ function keyOf(version, options) {
 
 // The keys of texts and SemVers; or `undefined` where a value is neither, or no text writes a version.
 function keysOf(versions, options) {
-    const keys = new List();
+    const keys = newList();
     for (let i = 0; i < versions.length; i++) {
         if (typeof versions[i] !== 'string' && !(versions[i] instanceof SemVer)) {
             return undefined;
@@ -65,7 +65,7 @@ function keysOf(versions, options) {
 
 // The places of SemVers in the order of their fields. Most are compared by a number that holds the three of a triple.
 function placesOfSemVers(versions, options, isDescending) {
-    const read = new List();
+    const read = newList();
     const numbers = new Numbers(versions.length);
     for (let i = 0; i < versions.length; i++) {
         add(read, new SemVer(versions[i], options));
@@ -100,7 +100,7 @@ function ordered(versions, options, isDescending) {
     if (places === undefined) {
         return Array.from(versions).sort((isDescending ? byBuildDown : byBuild)(options));
     }
-    const list = new List();
+    const list = newList();
     for (let i = 0; i < versions.length; i++) {
         add(list, versions[places[i]]);
     }
@@ -141,14 +141,14 @@ function elementsOf(versions) {
     if (Array.isArray(versions) && versions.constructor === Array && versions.forEach === forEach) {
         return slice.call(versions);
     }
-    const list = new List();
+    const list = newList();
     versions.forEach((version) => { add(list, version); });
     return list;
 }
 
 // The texts of the elements as `test` reads them, or `undefined` if one has none. It may run code of a user.
 function testedTexts(list, options) {
-    const texts = new List();
+    const texts = newList();
     for (let i = 0; i < list.length; i++) {
         const text = list[i] ? keyOf(list[i], options) : '';
         if (typeof text !== 'string') {

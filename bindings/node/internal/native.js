@@ -3,13 +3,13 @@
 // range that is kept.
 'use strict';
 
-const { versionText, readVersion, compare, compareBuild, diff, bump, coerce, sortKey } = require('./wasm/versions.js');
+const { versionText, readVersion, isVersion, compare, compareBuild, diff, bump, coerce, sortKey } = require('./wasm/versions.js');
 const { isKept, keep, forget, rangeText, sets, fromSets, refusedAt, satisfies } = require('./wasm/ranges.js');
 const { intersect, difference, leastBeyond, leastCommon } = require('./wasm/pairs.js');
 const { order, best, intervals } = require('./wasm/lists.js');
 
 module.exports = {
-    versionText, readVersion, compare, compareBuild, diff, bump, coerce,
+    versionText, readVersion, isVersion, compare, compareBuild, diff, bump, coerce,
     rangeText, isKept, keep, forget, satisfies, best, order,
     intersect, difference, leastBeyond, leastCommon, sets, fromSets, sortKey, intervals, refusedAt,
 };

@@ -2,7 +2,7 @@
 // Whether a version lies above or below all that a range admits, and the shortest range for a list, as npm decides them.
 'use strict';
 
-const { List, add } = require('./builtins.js');
+const { newList, add } = require('./builtins.js');
 const { ANY, Comparator } = require('./comparator.js');
 const { Range } = require('./range.js');
 const { satisfies } = require('./ranges.js');
@@ -56,7 +56,7 @@ const ltr = (version, range, options) => outside(version, range, '<', options);
 // The runs of versions in a sorted list that satisfy the range: the first and the last of each, and null for the last if
 // the run goes to the end of the list.
 function runs(list, range, options) {
-    const found = new List();
+    const found = newList();
     let run = null;
     for (const version of list) {
         if (satisfies(version, range, options)) {

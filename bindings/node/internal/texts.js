@@ -8,9 +8,17 @@ const LONGEST_VERSION = 256;
 const BLANK = 32;
 const LAST_ASCII = 127;
 
-// White space as npm reads it: none at the ends of a version; in a range also one blank for each run of it.
+// Whether a character of ASCII is no white space. There is none above the blank.
+const isDark = (code) => code > BLANK && code <= LAST_ASCII;
+
+// White space as npm reads it: none at the ends of a version; in a range also one blank for each run of it. To call `trim` takes longer than
+// to look at the ends, and few texts need it.
 function trimmedVersion(text) {
-    return text.length > LONGEST_VERSION ? '' : text.trim();
+    const { length } = text;
+    if (length > LONGEST_VERSION) {
+        return '';
+    }
+    return isDark(text.charCodeAt(0)) && isDark(text.charCodeAt(length - 1)) ? text : text.trim();
 }
 
 function trimmedRange(text) {

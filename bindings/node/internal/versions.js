@@ -28,7 +28,7 @@ function parse(version, options, throwErrors = false) {
 function valid(version, options) {
     if (typeof version === 'string') {
         const key = trimmedVersion(version);
-        if (native.readVersion(key) !== 0) {
+        if (native.isVersion(key)) {
             return withoutBuild(withoutV(key));
         }
         if (!options && !parseOptions(options).loose) {

@@ -5,7 +5,7 @@
 'use strict';
 
 const native = require('./native.js');
-const { List, add } = require('./builtins.js');
+const { newList, add } = require('./builtins.js');
 const { ANY, comparatorOf } = require('./comparator.js');
 const { textKey } = require('./kept.js');
 const { INCLUDES_PRERELEASES, IS_LOOSE } = require('./options.js');
@@ -86,7 +86,7 @@ function wordsOf(alternative, flags) {
     if (texts.length === 3 && texts[1] === '-' && isPartial(texts[0], flags) && isPartial(texts[2], flags)) {
         return [`${texts[0]} - *`, `* - ${texts[2]}`];
     }
-    const words = new List();
+    const words = newList();
     add(words, texts[0]);
     for (let i = 1; i < texts.length; i++) {
         if (isJoined(texts[i - 1], texts[i])) {

@@ -115,12 +115,14 @@ describe('the process goes on', () => {
             const evictAll = () => { native.forget(0, 576); for (let i = 0; i < 9; i++) native.keep('0*', i); };
             const trap = new Proxy([], { get() { evictAll(); return '1.0.0'; } });
             const getter = Object.defineProperty([, '1.2.3'], 0, { get() { evictAll(); return version; } });
+            const detached = new Uint32Array(4);
+            structuredClone(detached.buffer, { transfer: [detached.buffer] });
             const values = [undefined, null, true, 0, 5, 511, 512, 4294967295, -1, 1.5, NaN, 1n, '', '1.2.3', '^1', '0^1', '3*', '4', '\u0100', 'x',
                 '1.2.3\\n2.0.0\\n', '\\n\\n', 'a\\u0000b', '\\ud800', 'x'.repeat(100000), Symbol('a'), () => 1, {}, [],
                 [1, 2], [0, null, 3, null], [1, '1.0.0', 1, '2.0.0'], [1, version, 3, null], [1, range, 1, range],
                 [9, '1.0.0', 9, null], [1, external, 1, external], [1, '1.0.0'], external, proxy, trap, getter,
                 version, range, Object.create(version), new Proxy(version, {}), new Proxy(range, {}),
-                new Uint32Array(4), new Uint8Array(64).fill(10), new Uint8Array(0), Buffer.from('1.2.3\\n\\n9')];
+                detached, new Uint32Array(4), new Uint8Array(64).fill(10), new Uint8Array(0), Buffer.from('1.2.3\\n\\n9')];
             let count = 0;
             for (const [name, call] of Object.entries(native)) {
                 if (typeof call !== 'function') continue;

@@ -22,6 +22,31 @@ for (const [name, it] of Object.entries({ npm, here: semver })) {
         });
         assert.strictEqual(it.maxSatisfying(['9.0.0', '1.5.0'], range), '1.5.0');
     });
+    test(`${name}: a proxy of a range that asks too`, () => {
+        const range = new Proxy(new it.Range('^2'), {
+            get(target, key) {
+                it.minSatisfying(['7.0.0', '8.0.0', '9.0.0'], '*');
+                return target[key];
+            },
+        });
+        assert.strictEqual(it.maxSatisfying(['9.0.0', '2.5.0'], range), '2.5.0');
+    });
+    test(`${name}: what is put in the place of a text is kept for no text`, () => {
+        for (const [put, text, version] of [[19, '19', '19.1.2'], [['^20.1.0'], '^20.1.0', '20.1.2'], [{ trim: () => 21 }, '21', '21.0.0']]) {
+            const range = Object.assign(new it.Range('^1'), { raw: put });
+            const comparator = Object.assign(new it.Comparator('>=1.2.3'), { value: put });
+            for (const options of [undefined, true, { includePrerelease: true }]) {
+                for (const one of [range, comparator]) {
+                    try {
+                        it.satisfies(version, new it.Range(one, options), options);
+                    } catch (error) {
+                        assert.ok(error instanceof TypeError, String(error));
+                    }
+                }
+                assert.strictEqual(it.satisfies(version, text, options), true);
+            }
+        }
+    });
 }
 
 test('a number that is put into a version that no text writes', () => {

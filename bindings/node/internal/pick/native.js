@@ -3,7 +3,7 @@
 'use strict';
 
 const { module: compiled } = require('#npm_pick');
-const { List, add, listOf } = require('../builtins.js');
+const { newList, add, listOf } = require('../builtins.js');
 const { outOfMemory } = require('../wasm/errors.js');
 const { Caller, textOf } = require('../wasm/call.js');
 
@@ -19,7 +19,7 @@ const caller = new Caller(compiled);
 // The bytes of the key and the sum of its marks; or the status.
 function picked(texts, avoidStrict, includeStaged) {
     return caller.run((it) => {
-        const given = new List();
+        const given = newList();
         for (let i = 0; i < texts.length; i++) {
             it.put(texts[i], given);
         }

@@ -6,8 +6,8 @@ const OF_DOCUMENT = ['dist-tags', 'time'];
 const GROUPS = ['dependencies', 'devDependencies', 'optionalDependencies', 'peerDependencies'];
 const OF_MANIFEST = ['engines', 'peerDependenciesMeta', ...GROUPS];
 // What only a lock file has of a version.
-const OF_INSTALLED = ['bin', 'cpu', 'deprecated', 'dist', 'hasInstallScript', 'license', 'os', 'scripts'];
-const OF_DIST = ['integrity', 'tarball'];
+const OF_INSTALLED = ['bin', 'cpu', 'deprecated', 'dist', 'hasInstallScript', 'libc', 'license', 'os', 'scripts'];
+const OF_DIST = ['integrity', 'shasum', 'tarball'];
 const OF_LOCK = ['lockfileVersion', 'packages'];
 const OF_PACKAGE = ['link', 'resolved', 'version', 'workspaces', ...GROUPS];
 

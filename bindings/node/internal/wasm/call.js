@@ -3,7 +3,7 @@
 // that was broken off, for which no memory was left, or that made the memory large.
 'use strict';
 
-const { Bytes, List, Words, add, apply, bufferOf, encodeInto, fill, set, sizeOf } = require('../builtins.js');
+const { Bytes, newList, Words, add, apply, bufferOf, encodeInto, fill, set, sizeOf } = require('../builtins.js');
 const { outOfMemory, wrongType } = require('./errors.js');
 const { MOST_MEMORY } = require('./limits.js');
 
@@ -17,7 +17,7 @@ class Caller {
     #module;
     #exports;
     #isBroken = true;
-    #taken = new List();
+    #taken = newList();
     room = 0;
     told = 0;
 
@@ -91,7 +91,7 @@ class Caller {
     run(call) {
         if (this.#isBroken) {
             this.#exports = new WebAssembly.Instance(this.#module, {}).exports;
-            this.#taken = new List();
+            this.#taken = newList();
         }
         this.#isBroken = true;
         const result = call(this);

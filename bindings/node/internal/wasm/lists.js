@@ -2,7 +2,7 @@
 // Calls on lists of versions, and the intervals of keys that a range is.
 'use strict';
 
-const { List, Words, add, fill, listOf } = require('../builtins.js');
+const { newList, Words, add, fill, listOf } = require('../builtins.js');
 const { sortPlaces } = require('../sort.js');
 const { wrongType } = require('./errors.js');
 const { m, ANSWER, B, C, OK, allocate, calls, check, view } = require('./memory.js');
@@ -108,7 +108,7 @@ const endsOf = ofOne((slot, isIncluded) => {
         return null;
     }
     const count = m.f.node_semver_intervals_count(at) >>> 0;
-    const found = new List();
+    const found = newList();
     addIntervals(found, at, count, isIncluded ? false : undefined);
     if (isIncluded) {
         addIntervals(found, at, count, true);

@@ -3,7 +3,7 @@
 // place where the range may be kept; or the cuts of its sets, in an object that holds them: of a range that no text writes.
 'use strict';
 
-const { List, add, codeAt, fill, listOf } = require('../builtins.js');
+const { newList, add, codeAt, fill, listOf } = require('../builtins.js');
 const {
     m, A, B, C, D, ANSWER, FAULT, OK, PLACE, PLACES, REFUSED, allocate, calls, check, enter, leave, view,
 } = require('./memory.js');
@@ -92,7 +92,7 @@ function addCut(cuts, cut) {
 // The cuts of a range, each as two elements: its kind, and the key of its version or null.
 function cutsOf(slot) {
     const count = m.f.node_semver_range_set_count(slot) >>> 0;
-    const cuts = new List();
+    const cuts = newList();
     const at = allocate(SET_SIZE);
     for (let i = 0; i < count; i++) {
         fill(m.u8, 0, at, at + SET_SIZE);
@@ -108,7 +108,7 @@ function cutsOf(slot) {
 // ---- the ranges that are kept ----
 
 // The ranges of the places. A new instance has read none of them: it reads each where it is asked for.
-const kept = new List();
+const kept = newList();
 
 const isKept = (range) => kept[range.place] === range;
 const isPlace = (place) => (place >>> 0) === place && place < PLACES;

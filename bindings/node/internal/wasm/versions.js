@@ -144,12 +144,26 @@ function partsOfHeld(key) {
     return status === OK ? LARGE : 0;
 }
 
+// Where the version begins that was put as a text of so many bytes, or 0 if it is none. It may stand after a `v`.
+function startOf(length) {
+    const at = m.texts[0] + (length > 0 && m.u8[m.texts[0]] === LETTER_V ? 1 : 0);
+    const end = m.texts[0] + length;
+    return m.f.node_semver_contains_strict(m.at + ANY, at, end - at, m.at + ANSWER) === OK ? at : 0;
+}
+
 function partsOfText(text) {
     const length = put(0, text);
-    const at = m.texts[0];
-    const skipped = length > 0 && m.u8[at] === LETTER_V ? 1 : 0;
-    const status = m.f.node_semver_contains_strict(m.at + ANY, at + skipped, length - skipped, m.at + ANSWER);
-    return status === OK ? parts(at + skipped, at + length) : 0;
+    const start = startOf(length);
+    return start === 0 ? 0 : parts(start, m.texts[0] + length);
+}
+
+// Whether a text is that of a version.
+function isVersion(text) {
+    if (typeof text !== 'string') {
+        throw wrongType('no text of a version');
+    }
+    enter();
+    return leave(startOf(put(0, text)) !== 0);
 }
 
 // 0 where the key is none. Otherwise one number that holds the form of the version and, where they are small, its three numbers. Of what no
@@ -304,5 +318,6 @@ function sortKey(key) {
 }
 
 module.exports = {
-    HeldVersion, checkVersion, emptied, free, read, readText, keyOf, versionText, readVersion, compare, compareBuild, diff, bump, coerce, sortKey,
+    HeldVersion, checkVersion, emptied, free, read, readText, keyOf, versionText, readVersion, isVersion, compare, compareBuild,
+    diff, bump, coerce, sortKey,
 };

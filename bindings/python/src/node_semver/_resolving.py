@@ -216,7 +216,8 @@ def resolve(
 
     The manifest is a package.json, and the documents are a dict from the name of a package to its document, as a registry serves
     it; or each is its JSON. One version is selected of each package that the manifest asks for, and of the peers of the versions
-    that are selected: the best with which a selection that fits exists. A name without a document has no versions.
+    that are selected: the best with which a selection that fits exists. A name without a document has no versions. A package of
+    `optionalDependencies` that has no version in its range is left out.
 
     `before` leaves out what was published later, and `omit` the groups `dev`, `optional` and `peer`. `node` is the version of Node,
     for `engines`; without it any is fine. With `flat` the dependencies of selected versions count too, with `lowest` the lowest

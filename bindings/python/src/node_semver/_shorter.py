@@ -16,9 +16,9 @@ _OF_VERSION = ("engines", "peerDependenciesMeta", *_GROUPS)
 _OF_DOCUMENT = ("dist-tags", "time")
 
 # What a lock file has too: of a root and a version; and of a version alone.
-_OF_LOCK_FILE = ("bin", "cpu", "engines", "hasInstallScript", "license", "os", "scripts")
+_OF_LOCK_FILE = ("bin", "cpu", "engines", "hasInstallScript", "libc", "license", "os", "scripts")
 _OF_INSTALLED = ("deprecated", *_OF_LOCK_FILE, *_OF_VERSION[1:])
-_OF_DIST = ("integrity", "tarball")
+_OF_DIST = ("integrity", "shasum", "tarball")
 
 # What is read of a package in a lock file.
 _OF_PACKAGE = ("link", "resolved", "version", "workspaces", *_GROUPS)

@@ -224,7 +224,10 @@ def numbered(problem):
 
     packages = [[[demand(ask) for ask in asks(manifest, documents[package]["versions"][version], omits, is_flat)
                   if registered(*ask[:2])] for version in versions] for package, versions in places.values()]
-    return ([demand(ask) for ask in root], packages, ranges), names, [versions for _, versions in places.values()], root
+    # Of the root an optional dependency that no version meets only limits.
+    needed = {ask[0] for ask in asks(manifest, manifest, [*omits, "optional"], is_flat) if ask[2]}
+    demands = [[name, range_, how and (names[name] in needed or any(ranges[range_]))] for name, range_, how in map(demand, root)]
+    return (demands, packages, ranges), names, [versions for _, versions in places.values()], root
 
 
 def fault(problem, line):

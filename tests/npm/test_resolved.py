@@ -54,12 +54,12 @@ def with_versions(manifest, versions):
     return {**manifest, "dependencies": versions, "overrides": rules}
 
 
-def selected(room, manifest):
+def selected(room, manifest, notes=""):
     """The versions that the program selects, or None if none fit together."""
     registry.put(os.path.join(room, "package.json"), manifest)
     words = [programs.built("npm_resolve"), "--manifest", "package.json", "--packuments", "mirror", "--format", "json"]
     done = subprocess.run(words, cwd=room, stdin=subprocess.DEVNULL, capture_output=True, encoding="utf-8")
-    assert done.returncode in (0, 1) and not done.stderr, f"{json.dumps(manifest)}: status {done.returncode}: {done.stderr}"
+    assert done.returncode in (0, 1) and done.stderr == notes, f"{json.dumps(manifest)}: status {done.returncode}: {done.stderr}"
     said = json.loads(done.stdout)
     return {one["name"]: one["version"] for one in said["packages"]} if said["outcome"] == "selected" else None
 
@@ -98,3 +98,44 @@ def test_fits_where_npm_installs(record_property, tmp_path):
     fits = sum(pinned is not None for pinned in found)
     assert len(found) // 4 <= fits <= len(found) - len(found) // 4
     record_property("made", len(found))
+
+
+# ---- optional dependencies that cannot be installed
+
+DOCUMENTS = {
+    "core": {"dist-tags": {"latest": "2.0.0"}, "versions": {"1.0.0": {}, "2.0.0": {}}},
+    "plugin": {"dist-tags": {"latest": "1.0.0"}, "versions": {"1.0.0": {"peerDependencies": {"core": "1"}}}},
+}
+NOTE = "npm_resolve: optional, and no version fits: {}\n"
+OPTIONS = [
+    ({"dependencies": {"core": "1"}, "optionalDependencies": {"gone": "1"}}, "gone"),
+    ({"dependencies": {"core": "1"}, "optionalDependencies": {"plugin": "9"}}, "plugin"),
+    ({"dependencies": {"gone": "1"}, "optionalDependencies": {"gone": "1"}}, "gone"),
+    ({"peerDependencies": {"gone": "1"}, "optionalDependencies": {"gone": "1"}}, "gone"),
+    ({"devDependencies": {"gone": "1"}, "optionalDependencies": {"gone": "1"}}, None),
+    ({"dependencies": {"plugin": "1"}, "optionalDependencies": {"core": "9"}}, "core"),
+    ({"dependencies": {"plugin": "1"}, "optionalDependencies": {"core": "2"}}, None),
+]
+
+
+def locked(folder):
+    """The versions in the lock file that npm wrote, by name."""
+    with open(os.path.join(folder, "package-lock.json"), encoding="utf-8") as file:
+        packages = json.load(file)["packages"]
+    return {place[len("node_modules/"):]: one["version"] for place, one in packages.items() if place}
+
+
+def test_leaves_out_the_options_that_npm_leaves_out(tmp_path):
+    room, folders = str(tmp_path), []
+    os.mkdir(os.path.join(room, "mirror"))
+    for name, document in DOCUMENTS.items():
+        registry.put(os.path.join(room, "mirror", f"{name}.json"), document)
+    found = [selected(room, one, NOTE.format(name) if name else "") for one, name in OPTIONS]
+    for at, (one, _) in enumerate(OPTIONS):
+        folders.append(os.path.join(room, str(at)))
+        os.mkdir(folders[-1])
+        registry.put(os.path.join(folders[-1], "package.json"), {"name": "project", "version": "1.0.0", **one})
+    with registry.served(room, DOCUMENTS) as address:
+        installed = registry.npm(room, address, [(folder, INSTALL) for folder in folders])
+    assert found == [locked(folder) if status == 0 else None for folder, (status, _) in zip(folders, installed)]
+    assert None in found and {} in found and {"core": "1.0.0"} in found

@@ -3,5 +3,6 @@ mod Wishing
 mod Gathering
 mod Naming
 mod Needing
+mod Unmet
 mod Keys
 mod Changing

@@ -13,6 +13,7 @@ use Rattle.npm_candidates.specs.declared.owner.Reach.{Reach}
 use Rattle.npm_resolve.specs.Explanations.{IsConflict}
 use Rattle.npm_resolve.specs.Instance.{IsInstance, key_of}
 use Rattle.npm_resolve.specs.Missing.{missing_among}
+use Rattle.npm_resolve.specs.Optional.{unmet_names}
 use Rattle.npm_resolve.specs.ReasonValues.{text}
 use Rattle.npm_resolve.specs.Rules.{rules_of, unread_among}
 use Rattle.npm_resolve.specs.declared.answer.Answer.{Answer}
@@ -53,7 +54,7 @@ IsResolution posed (Resolutions.NoSelection found) = NoneFits (problem_of posed.
 IsResolution posed Resolutions.Undecided = ⊤
 
 -- The resolution is that of the problem that the manifests and the documents pose. Of the names in it, those are told whose rule in
--- `overrides` is not read, and those without a document that a version needs.
+-- `overrides` is not read, those without a document that a version needs, and those of optional dependencies that no version meets.
 pub record IsAnswer (manifests : List Value) (documents : List Document) (options : Options) (reach : Reach) (omits : Omits) (answer : Answer)
     : Type 0 where
   pub posed : Posed
@@ -62,4 +63,6 @@ pub record IsAnswer (manifests : List Value) (documents : List Document) (option
   pub left_out : posing.left_out ≡ map ask_value answer.left_out.items
   pub unread : map text answer.unread.items
       ≡ unread_among (rules_of manifests) (map (λ (one : Listed). one.name.now) posed.names.items)
+  pub unmet : map text answer.unmet.items
+      ≡ unmet_names manifests posed.names.items posed.documents.ranges.items posing.demands
   pub missing : map text answer.missing.items ≡ missing_among posing.listed (map (λ (one : Listed). one.name.now) posing.absent)

@@ -4,6 +4,7 @@ use Rattle.std.specs.List.{All, AllZip, Contains}
 use Rattle.std.specs.Option.{option_map_or}
 use Rattle.serde_json.specs.View.{view}
 use Rattle.serde_json.specs.declared.value.Value.{Value}
+use Rattle.version_solving.specs.declared.demand.Demand.{Demand}
 use Rattle.version_solving.specs.declared.documents.Range.{Range}
 use Rattle.version_solving.specs.Naming.{AreDemandsOf, ArePackagesOf}
 use Rattle.version_solving.specs.declared.ask.Ask.{Ask}
@@ -19,6 +20,7 @@ use Rattle.npm_candidates.specs.declared.options.Omits.{Omits}
 use Rattle.npm_candidates.specs.declared.options.Options.{Options}
 use Rattle.npm_candidates.specs.declared.owner.Owner.TheVariants.{Version}
 use Rattle.npm_candidates.specs.declared.owner.Reach.{Reach}
+use Rattle.npm_resolve.specs.Optional.{root_demands}
 use Rattle.npm_resolve.specs.Rules.{rules_of}
 use Rattle.npm_resolve.specs.Wishes.{AreWishes}
 use Rattle.npm_resolve.specs.declared.documents.Document.{Document}
@@ -108,7 +110,7 @@ pub record AreAbsent (wishes : List Ask) (listed absent : List Listed) : Type 0 
 -- ---- all of it
 
 -- This is the problem that the manifests of a root and the documents pose. The names are those of the documents, and behind them others
--- that are asked for.
+-- that are asked for. An optional dependency of the root that no version meets only limits.
 pub record IsInstance (manifests : List Value) (documents : List Document) (options : Options) (reach : Reach) (omits : Omits)
     (posed : Posed)
     : Type 0 where
@@ -120,6 +122,8 @@ pub record IsInstance (manifests : List Value) (documents : List Document) (opti
   pub absent : List Listed
   pub are_absent : AreAbsent posed.wishes.items listed absent
   pub named : posed.names.items ≡ listed ++ absent
-  pub demanded : AreDemandsOf posed.names.items posed.ranges.items posed.wishes.items posed.root.items
+  pub demands : List Demand
+  pub demanded : AreDemandsOf posed.names.items posed.ranges.items posed.wishes.items demands
+  pub root : posed.root.items ≡ root_demands manifests posed.names.items posed.documents.ranges.items demands
   pub packages : ArePackagesOf posed.names.items posed.ranges.items posed.names.items posed.documents.packages.items
   pub allowed : AreRanges options.before posed.offers.items posed.ranges.items posed.documents.ranges.items

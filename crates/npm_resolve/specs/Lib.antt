@@ -4,6 +4,7 @@
 pub mod Rules  -- which rules of `overrides` count
 pub mod Wishes  -- what manifests ask for
 pub mod Documents  -- the documents that are needed
+pub mod Optional  -- optional dependencies of the root
 pub mod Instance  -- the problem that manifests and documents pose
 pub mod ReasonValues  -- what a contract sees of a culprit and of a line
 pub mod Missing  -- names without a document that rule versions out

@@ -25,7 +25,7 @@ pub enum Resolution<'v> {
     Undecided,
 }
 
-/// Which versions fit together, what the manifests ask no registry for, which rules are not read, and which documents are missing.
+/// Which versions fit together, what the manifests ask no registry for, which rules are not read, and what is missing.
 #[derive(Drop)]
 pub struct Answer<'v> {
     pub resolution: Resolution<'v>,
@@ -33,6 +33,8 @@ pub struct Answer<'v> {
     pub left_out: Vec<Ask<'v>>,
     /// Names that are asked for as they are written, since their rule in `overrides` is not read.
     pub unread: Vec<&'v str>,
+    /// Optional dependencies of the root that no version meets. They only limit.
+    pub unmet: Vec<&'v str>,
     /// Names without a document that a version needs. Such a version is never selected.
     pub missing: Vec<&'v str>,
 }

@@ -13,6 +13,7 @@ mod documents;
 mod explained;
 mod instance;
 mod missing;
+mod optional;
 mod posed;
 mod requests;
 mod resolve;

@@ -16,6 +16,7 @@ use crate::culprits::culprits_of;
 use crate::documents::Document;
 use crate::explained::all_explained;
 use crate::instance::{lists_of, offers_of, ranges_of};
+use crate::optional::{root_demands, unmet_names};
 use crate::posed::Posed;
 use crate::rules::{rules_of, unread_among};
 use crate::wishes::wishes_of;
@@ -27,7 +28,8 @@ use version_solving::{Demand, Documents, Numbered, Outcome, by_number, culprits,
 
 /// Returns versions that fit together: of the names that manifests need, and of those that their versions need, one version each, so
 /// that all that is asked for is met. A version needs its peers and, by `Reach::Dependencies`, its `dependencies`. A name without a
-/// document has no versions; one that a version needs is told in the answer.
+/// document has no versions; one that a version needs is told in the answer. An optional dependency of the root that no version meets only
+/// limits, and is told too.
 ///
 /// `overrides` of the first manifest, which is the root, change what the manifests and the versions ask for. Those of other manifests
 /// do not count. A rule that is not read changes nothing, and is told in the answer.
@@ -64,11 +66,13 @@ pub fn resolved<'v>(
     let Named { names, missing } = with_absent(alloc, &asks, listed)?;
     let unread = unread_among(alloc, &rules, &names)?;
     let Numbered {
-        root,
+        root: demands,
         packages,
         ranges: wanted,
     } = by_number(alloc, &asks, &names)?;
     let ranges = ranges_of(alloc, &offers, &wanted, options.before)?;
+    let unmet = unmet_names(alloc, manifests, &names, &ranges, &demands)?;
+    let root = root_demands(alloc, manifests, &names, &ranges, &demands)?;
     let mut posed = Posed {
         wishes: asks,
         offers,
@@ -82,6 +86,7 @@ pub fn resolved<'v>(
         resolution,
         left_out,
         unread,
+        unmet,
         missing,
     })
 }

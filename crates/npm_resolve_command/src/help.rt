@@ -69,5 +69,6 @@ Options, of which the value may also be in the same word, as in --steps=1000:
 The exit status is 0 if versions fit together, 1 if none do, 3 if the steps were used up before either was known, and 2
 if nothing was written: an argument is wrong, a file is not read, or a rule in overrides is not read for a lock file. A
 line on standard error says why, and names each dependency that asks no registry, as a folder or a repository: it is left
-out. It also names each package whose rule in overrides is not read, and each that is not for --os, --cpu or --libc.
+out. It also names each package whose rule in overrides is not read, each that is not for --os, --cpu or --libc, and each
+of optionalDependencies of which no version fits: it is left out too.
 ";

@@ -2,7 +2,7 @@
 use Rattle.std.specs.Prelude.{slice_get}
 use Rattle.npm_resolve.specs.Rules.{rules_of}
 use Rattle.npm_packages.specs.Overrides.{changed_by, rule_in}
-use Rattle.std.proofs.Common.{◌≡◌, ◌∙◌, ◌&&◌, ◌||◌, ◌⊎◌, ℕ, List, [], ◌∷◌, Bool, false, true, None, Option, Some, ap, bytes_eq, codes, if◌then◌else◌, inl, inr, not, option_and_then, refl, string_bytes, subst, sym}
+use Rattle.std.proofs.Common.{◌≡◌, ◌≢◌, ◌∙◌, ◌&&◌, ◌||◌, ◌⊎◌, ℕ, List, [], ◌∷◌, Bool, false, true, None, Option, Some, ap, bytes_eq, codes, if◌then◌else◌, inl, inr, not, option_and_then, refl, string_bytes, subst, sym}
 use Rattle.std.proofs.lemmas.List.Elements.{All-contains, All-contains_itself, All-weaker}
 use Rattle.std.proofs.lemmas.Slice.Eq.{bytes_eq-Decides}
 use Rattle.std.specs.List.{All, Contains}
@@ -14,7 +14,7 @@ use Rattle.serde_json.specs.declared.value.Value.{Value}
 use Rattle.npm_texts.specs.InstalledVersions.{IsInstalledVersion}
 use Rattle.npm_texts.specs.RegistrySpec.{RegistrySpecValue, registry_spec}
 use Rattle.npm_texts.specs.SpecLaws.{IsAskedAsWritten}
-use Rattle.npm_packages.specs.Asked.{AskedValue}
+use Rattle.npm_packages.specs.Asked.{AskedValue, asked_of}
 use Rattle.npm_candidates.specs.Asks.{AskValue, ask_of, asks_by, asks_on, counts, has_dependencies, is_root}
 use Rattle.npm_candidates.specs.declared.candidate.Candidate.{Candidate}
 use Rattle.npm_candidates.specs.declared.options.Options.{Options}
@@ -22,6 +22,7 @@ use Rattle.npm_candidates.specs.declared.owner.Owner.{Owner}
 use Rattle.npm_candidates.specs.declared.owner.Owner.TheVariants.{Root, Version}
 use Rattle.npm_candidates.specs.declared.owner.Reach.TheVariants.{Dependencies}
 use Rattle.npm_resolve.specs.Answers.{ChosenValue}
+use Rattle.npm_resolve.specs.Optional.{is_required_in}
 use Rattle.npm_resolve.specs.declared.documents.Document.{Document}
 use Rattle.npm_resolve_reports.specs.Locks.{all_installed, installed_by, manifest_of, packument_of}
 use Rattle.npm_flat_locks.specs.Installed.{InstalledValue, found, found_after, later_found}
@@ -120,8 +121,8 @@ by_or true b off = absurd (cc off)
 by_or false b off = refl
 
 module _ (read_back : ReadBack) (one_spec : OneSpec) (as_written : (name spec : List ℕ) (one : RegistrySpecValue) → IsAskedAsWritten name spec one)
-    (manifests : List Value) (documents : List Document) (options : Options) (selected : List ChosenValue)
-    (sound : IsSound manifests documents options Dependencies nothing_omitted selected) (ordered : AreOrdered documents) where
+    (manifests : List Value) (documents : List Document) (options : Options) (unmet : List (List ℕ)) (selected : List ChosenValue)
+    (sound : IsSound manifests documents options Dependencies nothing_omitted unmet selected) (ordered : AreOrdered documents) where
   abbrev installed : List InstalledValue
   installed = all_installed documents selected
 
@@ -171,24 +172,39 @@ module _ (read_back : ReadBack) (one_spec : OneSpec) (as_written : (name spec : 
         allowed.meaning allowed.candidate ((as_written name asked.spec allowed.request).0 asks) ordinary allowed.means allowed.admitted
         (read_key documents options ordered one allowed.packument allowed.candidate allowed.selected))
 
-    met_by : IsOrdinarySpec name asked.spec → (owner : Owner) → IsAnswered documents options selected (ask_of owner name asked)
-        → (o : Option InstalledValue) → found installed name ≡ o → IsMet installed name asked
-    met_by ordinary owner (Answering.allowed one there named allowed) None none = absurd
-        ((none_found installed None name none).1 (installed_as one (view allowed.candidate.manifest.now))
-        (in_installed one allowed.packument allowed.candidate allowed.selected there) named)
-    met_by ordinary owner (Answering.allowed one there named allowed) (Some x) is =
-        Meeting.met x is (kept_one ordinary one there named allowed x is)
-    met_by ordinary owner (Answering.unneeded free apart) None none =
-        Meeting.unneeded none (by_or asked.is_needed (is_root owner && not asked.is_peer) free)
-    met_by ordinary owner (Answering.unneeded free apart) (Some x) is =
+    -- what is selected under no name is not installed
+    none_apart : ((one : ChosenValue) → Contains selected one → one.name ≢ name) → (x : InstalledValue) → found installed name ≡ Some x
+        → IsMet installed name asked
+    none_apart apart x is =
         let here = some_found installed name x is in
         let from = from_installed x here.0 in
         absurd (apart from.0 from.2 (ap (λ (o : InstalledValue). o.name) (sym from.3) ∙ here.1))
 
-  all_met : ((name : List ℕ) → rules_of manifests name ≡ None) → (manifest : Data) (owner : Owner) → has_dependencies owner ≡ true
-      → AreAnswered documents options selected manifest owner (rules_of manifests) nothing_omitted
+    module _ (told : List (List ℕ)) (manifest : Data)
+        (may_lack : Contains told name → is_required_in manifest name ≡ false → asked.is_needed ≡ false) where
+      met_by : IsOrdinarySpec name asked.spec → (owner : Owner) → IsAnswered documents options selected told manifest (ask_of owner name asked)
+          → (o : Option InstalledValue) → found installed name ≡ o → IsMet installed name asked
+      met_by ordinary owner (Answering.allowed one there named allowed) None none = absurd
+          ((none_found installed None name none).1 (installed_as one (view allowed.candidate.manifest.now))
+          (in_installed one allowed.packument allowed.candidate allowed.selected there) named)
+      met_by ordinary owner (Answering.allowed one there named allowed) (Some x) is =
+          Meeting.met x is (kept_one ordinary one there named allowed x is)
+      met_by ordinary owner (Answering.unneeded free apart) None none =
+          Meeting.unneeded none (by_or asked.is_needed (is_root owner && not asked.is_peer) free)
+      met_by ordinary owner (Answering.unneeded free apart) (Some x) is = none_apart apart x is
+      met_by ordinary owner (Answering.unmet_option inside free apart) None none = Meeting.unneeded none (may_lack inside free)
+      met_by ordinary owner (Answering.unmet_option inside free apart) (Some x) is = none_apart apart x is
+
+  -- what is told may be missing
+  abbrev MayLack : (told : List (List ℕ)) → (manifest : Data) → Owner → Type 0
+  MayLack told manifest owner = (name : List ℕ) (asked : AskedValue) → asked_of manifest (not (is_root owner)) name ≡ Some asked
+      → Contains told name → is_required_in manifest name ≡ false → asked.is_needed ≡ false
+
+  all_met : ((name : List ℕ) → rules_of manifests name ≡ None) → (told : List (List ℕ)) (manifest : Data) (owner : Owner)
+      → MayLack told manifest owner → has_dependencies owner ≡ true
+      → AreAnswered documents options selected told manifest owner (rules_of manifests) nothing_omitted
       → AreAllOrdinary manifest (not (is_root owner)) → AreAllMet installed manifest (not (is_root owner))
-  all_met none manifest owner has answered ordinary name asked is = by_kind (ordinary name asked is) where
+  all_met none told manifest owner may_lack has answered ordinary name asked is = by_kind (ordinary name asked is) where
     counted : counts owner nothing_omitted asked ≡ true
     counted = ap (λ b. if asked.is_peer then true else (b && (if asked.is_dev then true else (asked.is_needed || true)))) has
         ∙ all_count asked.is_needed asked.is_peer asked.is_dev
@@ -199,7 +215,7 @@ module _ (read_back : ReadBack) (one_spec : OneSpec) (as_written : (name spec : 
         ∙ ap (λ b. if b then ask_of owner name asked ∷ [] else []) counted
 
     by_kind : IsOrdinary name asked → IsMet installed name asked
-    by_kind (Ordinary.registered spec) = met_by name asked spec owner
+    by_kind (Ordinary.registered spec) = met_by name asked told manifest (may_lack name asked is) spec owner
         (answered name (ask_of owner name asked) (subst (λ (asks : List AskValue). Contains asks (ask_of owner name asked)) (sym on_name)
         (first_in (ask_of owner name asked) [])) spec.registered) (found installed name) refl
     by_kind (Ordinary.elsewhere is_location free) = by_found (found installed name) refl where
@@ -210,8 +226,9 @@ module _ (read_back : ReadBack) (one_spec : OneSpec) (as_written : (name spec : 
   pub are_met : (root : Value) → slice_get manifests 0 ≡ Some root → AreOrdinary (view root) documents installed → AreMet (view root) installed
   are_met root first ordinary = record {
     names = ordinary.names;
-    of_root = all_met none (view root) Root refl
-        (All-contains (λ (manifest : Value). AreAnswered documents options selected (view manifest) Root (rules_of manifests) nothing_omitted) manifests root
+    of_root = all_met none unmet (view root) Root
+        (λ name asked is inside free. sym (ap (λ o. option_map_or (λ (a : AskedValue). a.is_needed) o false) is) ∙ free) refl
+        (All-contains (λ (manifest : Value). AreAnswered documents options selected unmet (view manifest) Root (rules_of manifests) nothing_omitted) manifests root
         sound.of_manifests (item_of manifests 0 root first)) ordinary.of_root;
     of_packages = All-weaker (Contains installed) (λ (x : InstalledValue). AreAllMet installed x.manifest true) of_one installed
         (All-contains_itself installed);
@@ -225,5 +242,6 @@ module _ (read_back : ReadBack) (one_spec : OneSpec) (as_written : (name spec : 
         let manifest : x.manifest ≡ view from.1.candidate.manifest.now = ap (λ (o : InstalledValue). o.manifest) from.3 in
         let own = All-contains (λ (o : InstalledValue). AreAllOrdinary o.manifest true) installed x ordinary.of_packages inside in
         subst (λ (m : Data). AreAllMet installed m true) (sym manifest)
-        (all_met none (view from.1.candidate.manifest.now) (Version Dependencies) refl from.1.answered
+        (all_met none [] (view from.1.candidate.manifest.now) (Version Dependencies)
+        (λ name asked is inside free. absurd (none_in name inside)) refl from.1.answered
         (subst (λ (m : Data). AreAllOrdinary m true) manifest own))

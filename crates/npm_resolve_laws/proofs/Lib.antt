@@ -11,12 +11,13 @@ mod ByKey
 mod Agreeing
 mod Zips
 mod Choosing
-mod Places
-mod WishPosing
-mod Answering
 mod Lists
 mod Types
 mod Numbers
+mod Optionals
+mod Places
+mod WishPosing
+mod Answering
 mod Posing
 mod Selections
 mod Members

@@ -26,10 +26,11 @@ use Rattle.npm_candidates.specs.declared.options.Options.{Options}
 use Rattle.npm_candidates.specs.declared.owner.Reach.{Reach}
 use Rattle.npm_resolve.specs.Answers.{ChosenValue}
 use Rattle.npm_resolve.specs.Instance.{HasNone, IsAsker, IsInstance, IsListedFor, IsOffer, key_of}
+use Rattle.npm_resolve.specs.Optional.{root_demand}
 use Rattle.npm_resolve.specs.declared.documents.Document.{Document}
 use Rattle.npm_resolve_reports.specs.Locks.{packument_of}
 use Rattle.npm_resolve_laws.specs.Selected.{IsSelectedFrom}
-use Rattle.npm_resolve_laws.proofs.Lists.{either_place, item_of, place_of, place_within, zip_right}
+use Rattle.npm_resolve_laws.proofs.Lists.{either_place, from_map, item_of, place_of, place_within, zip_right}
 use Rattle.npm_resolve_laws.proofs.Numbers.{document_of, number_named}
 use Rattle.npm_resolve_laws.proofs.Types.{Offer, Posed}
 
@@ -132,7 +133,10 @@ module _ (manifests : List Value) (documents : List Document) (options : Options
       let ask = zip_right (IsDemandOf names posed.ranges.items) asks demands place.0 d are place.1 in (ask.0.name.now, ask.2.name)
 
   pub needed_named : (s : Selection) → Fits (problem_posed posed) s → (n : ℕ) → IsNeeded (problem_posed posed) s n → IsOfName n
-  needed_named s fits n (by_root d inside needed) = demand_named posed.wishes.items posed.root.items posing.demanded d inside
+  needed_named s fits n (by_root d inside needed) =
+      let from = from_map (root_demand manifests names posed.documents.ranges.items) posing.demands d
+      (subst (λ (ds : List Demand). Contains ds d) posing.root inside) in
+      subst (λ (one : Demand). IsOfName one.name) from.2 (demand_named posed.wishes.items posing.demands posing.demanded from.0 from.1)
   needed_named s fits n (by_candidate other c d is_needed is inside needed) =
       let spot = candidate_at other c (fits.existing other c is) in
       demand_named spot.asker.asks.items ((problem_posed posed).demands other c) spot.demands d inside

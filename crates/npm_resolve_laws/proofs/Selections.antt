@@ -1,7 +1,7 @@
 -- A selection of a problem that manifests and documents pose answers all that is asked.
 use Rattle.npm_packages.specs.Overrides.{changed_by}
 use Rattle.npm_resolve.specs.Rules.{rules_of}
-use Rattle.std.proofs.Common.{◌≡◌, ◌≢◌, ◌∙◌, ◌↔◌, IsTrue, ℕ, List, [], Bool, false, true, Option, Some, None, ap, map, not, refl, reverse, subst, sym, unwrap_or}
+use Rattle.std.proofs.Common.{◌≡◌, ◌≢◌, ◌∙◌, ◌↔◌, ◌++◌, ◌⊎◌, IsTrue, ℕ, List, [], Bool, false, true, Option, Some, None, ap, filter, inl, inr, map, not, refl, reverse, subst, subst₂, sym, unwrap_or}
 use Rattle.std.proofs.lemmas.List.{reverse-reverse}
 use Rattle.std.proofs.lemmas.List.Elements.{All-contains, All-contains_itself, All-weaker}
 use Rattle.std.specs.Prelude.{MatchOption, slice_get}
@@ -11,7 +11,7 @@ use Rattle.serde_json.specs.Data.{Data}
 use Rattle.serde_json.specs.View.{view}
 use Rattle.serde_json.specs.declared.value.Value.{Value}
 use Rattle.version_solving.specs.Documents.{allowed_in}
-use Rattle.version_solving.specs.Naming.{AreDemandsOf, IsDemandOf, number_of}
+use Rattle.version_solving.specs.Naming.{AreDemandsOf, IsDemandOf, IsRangeAt, number_of}
 use Rattle.version_solving.specs.Solving.{Holds, IsTheSelection, Selection, selection_of}
 use Rattle.version_solving.specs.declared.ask.Ask.{Ask}
 use Rattle.version_solving.specs.declared.ask.Listed.{Listed}
@@ -28,8 +28,10 @@ use Rattle.npm_candidates.specs.declared.owner.Owner.{Owner}
 use Rattle.npm_candidates.specs.declared.owner.Owner.TheVariants.{Root, Version}
 use Rattle.npm_candidates.specs.declared.owner.Reach.{Reach}
 use Rattle.npm_resolve.specs.Answers.{ChosenValue, IsAnswer, IsResolution, chosen_of}
-use Rattle.npm_resolve.specs.Instance.{IsAllowed, IsInstance, IsMeaningFor, IsRangeFor}
+use Rattle.npm_resolve.specs.Instance.{IsAllowed, IsAskNamed, IsInstance, IsMeaningFor, IsRangeFor}
 use Rattle.npm_resolve.specs.Instance as Posing
+use Rattle.npm_resolve.specs.Optional.{is_met, is_required, is_required_in, is_unmet, name_at, root_demand, unmet_names}
+use Rattle.npm_resolve.specs.ReasonValues.{text}
 use Rattle.npm_resolve.specs.Wishes.{IsWish, WishesValue}
 use Rattle.npm_resolve.specs.declared.answer.Answer.{Answer}
 use Rattle.npm_resolve.specs.declared.answer.Resolution.{Resolution}
@@ -39,6 +41,7 @@ use Rattle.npm_resolve_laws.specs.Selected.{AreAnswered, IfSelected, IsAllowedBy
 use Rattle.npm_resolve_laws.specs.Selected as Answering
 use Rattle.npm_resolve_laws.proofs.Lists.{from_map, in_filter, in_flat_map, in_map, in_reverse, item_of, none_in, place_of, zip_left}
 use Rattle.npm_resolve_laws.proofs.Numbers.{chosen_in, in_selection}
+use Rattle.npm_resolve_laws.proofs.Optionals.{is_told, named_at, none_any, not_required}
 use Rattle.npm_resolve_laws.proofs.Posing.{IsAt, at_named, candidate_at, chosen_at, chosen_is, needed_named, problem_posed, selected_from, value_at}
 use Rattle.npm_resolve_laws.proofs.Types.{Offer, Posed}
 
@@ -122,7 +125,15 @@ module _ (manifests : List Value) (documents : List Document) (options : Options
 
   -- ---- what an ask is answered by
 
-  module _ (ask : Ask) (d : Demand) (of : IsDemandOf names posed.ranges.items ask d) where
+  -- a version is selected for it that its spec allows
+  abbrev IsMetBy : Ask → Type 0
+  IsMetBy ask = (one : ChosenValue) × Contains selected one × (one.name ≡ ask.name.now) × IsAllowedBy documents options ask.spec.now one
+
+  -- none is selected
+  abbrev IsApart : (name : List ℕ) → Type 0
+  IsApart name = (one : ChosenValue) → Contains selected one → one.name ≢ name
+
+  module _ (ask : Ask) (d : Demand) (number : d.name ≡ number_of names ask.name.now) (at : IsRangeAt posed.ranges.items d.range d.name ask.spec.now) where
     abbrev HoldsOf : Option ℕ → Type 0
     HoldsOf o = MatchOption o (d.needed ≡ false) (λ (candidate : ℕ). (problem_posed posed).allows d.range candidate ≡ true)
 
@@ -137,7 +148,7 @@ module _ (manifests : List Value) (documents : List Document) (options : Options
       one = value d.name c spot
 
       name_is : one.name ≡ ask.name.now
-      name_is = at_named manifests documents options reach omits posed posing d.name c spot ask.name.now of.name
+      name_is = at_named manifests documents options reach omits posed posing d.name c spot ask.name.now number
 
       admitted_by : (meaning : MeaningValue) → IsAdmitted meaning spot.candidate
           → IsMeaningFor options.before spot.offer ask.spec.now meaning → IsAllowedBy documents options ask.spec.now one
@@ -165,53 +176,108 @@ module _ (manifests : List Value) (documents : List Document) (options : Options
 
       allowed_so : (problem_posed posed).allows d.range c ≡ true → IsAllowedBy documents options ask.spec.now one
       allowed_so allows =
-          let wanted = of.range.wanted in
+          let wanted = at.wanted in
           let range = zip_left (IsRangeFor options.before posed.offers.items) posed.ranges.items posed.documents.ranges.items d.range wanted
-          posing.allowed of.range.there in
-          let offer_at : slice_get posed.offers.items wanted.name ≡ Some spot.offer = ap (slice_get posed.offers.items) of.range.of_name ∙ spot.offer_at in
+          posing.allowed at.there in
+          let offer_at : slice_get posed.offers.items wanted.name ≡ Some spot.offer = ap (slice_get posed.offers.items) at.of_name ∙ spot.offer_at in
           let are : IsAllowed options.before wanted.spec.now range.0 spot.offer =
           subst (λ (o : Option Offer). MatchOption o (range.0.allowed.items ≡ []) (IsAllowed options.before wanted.spec.now range.0)) offer_at range.2 in
-          by_range range.0 (subst (λ (t : List ℕ). IsAllowed options.before t range.0 spot.offer) of.range.of_spec are)
+          by_range range.0 (subst (λ (t : List ℕ). IsAllowed options.before t range.0 spot.offer) at.of_spec are)
           (sym (ap (λ (o : Option Range). allowed_in o c) range.1) ∙ allows)
 
-      is_answered : Holds (problem_posed posed) s d → IsAnswered documents options selected (ask_value ask)
-      is_answered holds = Answering.allowed one
-          (subst (Contains selected) (chosen_is manifests documents options reach omits posed posing d.name c spot) (is_selected d.name c is))
-          name_is (allowed_so (held (Some c) is holds))
+      is_met_by : Holds (problem_posed posed) s d → IsMetBy ask
+      is_met_by holds = (
+        one,
+        subst (Contains selected) (chosen_is manifests documents options reach omits posed posing d.name c spot) (is_selected d.name c is),
+        name_is,
+        allowed_so (held (Some c) is holds),
+      )
 
-    unnamed : s d.name ≡ None → (one : ChosenValue) → Contains selected one → one.name ≢ ask.name.now
+    unnamed : s d.name ≡ None → IsApart ask.name.now
     unnamed none one there same =
         let from = from_selected one there in
         let name = named_so from.0 from.1 (at_place from.0 from.1 from.2) one from.3 in
-        let number : d.name ≡ from.0 = of.name ∙ (ap (number_of names) (sym (name ∙ same)) ∙ own_number from.0 from.1 from.2) in
-        let off : None ≡ Some from.1 = sym none ∙ (ap s number ∙ from.2) in (cc off)
+        let found : d.name ≡ from.0 = number ∙ (ap (number_of names) (sym (name ∙ same)) ∙ own_number from.0 from.1 from.2) in
+        let off : None ≡ Some from.1 = sym none ∙ (ap s found ∙ from.2) in (cc off)
 
-    answered : Holds (problem_posed posed) s d → IsAnswered documents options selected (ask_value ask)
+    answered : Holds (problem_posed posed) s d → IsMetBy ask ⊎ ((d.needed ≡ false) × IsApart ask.name.now)
     answered holds = by_choice (s d.name) refl where
-      by_choice : (o : Option ℕ) → s d.name ≡ o → IsAnswered documents options selected (ask_value ask)
-      by_choice None none = Answering.unneeded (sym of.needed ∙ held None none holds) (unnamed none)
-      by_choice (Some c) some = is_answered c some holds
+      by_choice : (o : Option ℕ) → s d.name ≡ o → IsMetBy ask ⊎ ((d.needed ≡ false) × IsApart ask.name.now)
+      by_choice None none = inr (held None none holds, unnamed none)
+      by_choice (Some c) some = inl (is_met_by c some holds)
 
-  all_answered : (asks : List Ask) (demands : List Demand) → AreDemandsOf names posed.ranges.items asks demands
-      → All (Holds (problem_posed posed) s) demands → (ask : AskValue) → Contains (map ask_value asks) ask
-      → IsAnswered documents options selected ask
-  all_answered asks demands are hold ask there =
-      let from = from_map ask_value asks ask there in
-      let place = place_of asks from.0 from.1 in
-      let demand = zip_left (IsDemandOf names posed.ranges.items) asks demands place.0 from.0 are place.1 in
-      subst (IsAnswered documents options selected) from.2 (answered from.0 demand.0 demand.2
-      (All-contains (Holds (problem_posed posed) s) demands demand.0 hold (item_of demands place.0 demand.0 demand.1)))
+  -- ---- what versions ask
+
+  module _ (manifest : Data) where
+    by_demand : (ask : Ask) (d : Demand) → IsDemandOf names posed.ranges.items ask d
+        → IsMetBy ask ⊎ ((d.needed ≡ false) × IsApart ask.name.now) → IsAnswered documents options selected [] manifest (ask_value ask)
+    by_demand ask d of (inl met) = Answering.allowed met.0 met.1 met.2 met.3
+    by_demand ask d of (inr free) = Answering.unneeded (sym of.needed ∙ free.0) free.1
+
+    all_answered : (asks : List Ask) (demands : List Demand) → AreDemandsOf names posed.ranges.items asks demands
+        → All (Holds (problem_posed posed) s) demands → (ask : AskValue) → Contains (map ask_value asks) ask
+        → IsAnswered documents options selected [] manifest ask
+    all_answered asks demands are hold ask there =
+        let from = from_map ask_value asks ask there in
+        let place = place_of asks from.0 from.1 in
+        let demand = zip_left (IsDemandOf names posed.ranges.items) asks demands place.0 from.0 are place.1 in
+        subst (IsAnswered documents options selected [] manifest) from.2 (by_demand from.0 demand.0 demand.2
+        (answered from.0 demand.0 demand.2.name demand.2.range
+        (All-contains (Holds (problem_posed posed) s) demands demand.0 hold (item_of demands place.0 demand.0 demand.1))))
+
+  -- ---- what manifests ask
+
+  abbrev ranges : List Range
+  ranges = posed.documents.ranges.items
+
+  abbrev unmet : List (List ℕ)
+  unmet = unmet_names manifests names ranges posing.demands
+
+  module _ (manifest : Value) (among : Contains manifests manifest) (ask : Ask) (wished : Contains posed.wishes.items ask) (d : Demand)
+      (of : IsDemandOf names posed.ranges.items ask d) (inside : Contains posing.demands d) where
+    named : name_at names d.name ≡ ask.name.now
+    named = ap (name_at names) of.name ∙ named_at names ask.name.now (subst (λ (ls : List Listed). IsAskNamed ls ask) (sym posing.named)
+        (All-contains (IsAskNamed (posing.listed ++ posing.absent)) posed.wishes.items ask posing.are_absent.of_root wished))
+
+    told : is_unmet manifests names ranges d ≡ true → Contains unmet ask.name.now
+    told on = subst (Contains unmet) named (in_map (λ (one : Demand). name_at names one.name) (filter (is_unmet manifests names ranges) posing.demands) d
+        (in_filter (is_unmet manifests names ranges) posing.demands d inside on))
+
+    free : is_unmet manifests names ranges d ≡ true → is_required_in (view manifest) ask.name.now ≡ false
+    free on = subst (λ name. is_required_in (view manifest) name ≡ false) named
+        (none_any (λ (one : Value). is_required_in (view one) (name_at names d.name)) manifests manifest
+        (not_required d.needed (is_met ranges d.range) (is_required manifests (name_at names d.name)) on) among)
+
+    by_root_demand : IsMetBy ask ⊎ (((root_demand manifests names ranges d).needed ≡ false) × IsApart ask.name.now)
+        → IsAnswered documents options selected unmet (view manifest) (ask_value ask)
+    by_root_demand (inl met) = Answering.allowed met.0 met.1 met.2 met.3
+    by_root_demand (inr left) = by_need d.needed refl where
+      by_need : (b : Bool) → d.needed ≡ b → IsAnswered documents options selected unmet (view manifest) (ask_value ask)
+      by_need false off = Answering.unneeded (sym of.needed ∙ off) left.1
+      by_need true on =
+          let is = is_told d.needed (is_met ranges d.range) (is_required manifests (name_at names d.name)) left.0 on in
+          Answering.unmet_option (told is) (free is) left.1
+
+    root_answered : IsAnswered documents options selected unmet (view manifest) (ask_value ask)
+    root_answered = by_root_demand (answered ask (root_demand manifests names ranges d) of.name of.range
+        (All-contains (Holds (problem_posed posed) s) posed.root.items (root_demand manifests names ranges d) best.fits.root
+        (subst (λ (ds : List Demand). Contains ds (root_demand manifests names ranges d)) (sym posing.root)
+        (in_map (root_demand manifests names ranges) posing.demands d inside))))
 
   -- ---- all that is asked
 
-  of_manifest : (manifest : Value) → Contains manifests manifest → AreAnswered documents options selected (view manifest) Root (rules_of manifests) omits
+  of_manifest : (manifest : Value) → Contains manifests manifest
+      → AreAnswered documents options selected unmet (view manifest) Root (rules_of manifests) omits
   of_manifest manifest there name ask asked registered =
       let place = place_of manifests manifest there in
       let wish = zip_left (IsWish (rules_of manifests) omits) manifests posing.asked.each place.0 manifest posing.asked.are place.1 in
       let inside = asked_there (view manifest) Root (rules_of manifests) omits wish.0.asks wish.0.left_out wish.2 name ask asked registered in
-      all_answered posed.wishes.items posed.root.items posing.demanded best.fits.root ask
-      (subst (λ (asks : List AskValue). Contains asks ask) (sym posing.asked.asked)
-      (in_flat_map (λ (one : WishesValue). one.asks) posing.asked.each wish.0 ask (item_of posing.asked.each place.0 wish.0 wish.1) inside))
+      let from = from_map ask_value posed.wishes.items ask (subst (λ (asks : List AskValue). Contains asks ask) (sym posing.asked.asked)
+      (in_flat_map (λ (one : WishesValue). one.asks) posing.asked.each wish.0 ask (item_of posing.asked.each place.0 wish.0 wish.1) inside)) in
+      let spot = place_of posed.wishes.items from.0 from.1 in
+      let demand = zip_left (IsDemandOf names posed.ranges.items) posed.wishes.items posing.demands spot.0 from.0 posing.demanded spot.1 in
+      subst (IsAnswered documents options selected unmet (view manifest)) from.2 (root_answered manifest there from.0 from.1 demand.0 demand.2
+      (item_of posing.demands spot.0 demand.0 demand.1))
 
   of_version : (one : ChosenValue) → Contains selected one → IsAnsweredFor documents options reach (rules_of manifests) omits selected one
   of_version one there =
@@ -222,16 +288,16 @@ module _ (manifests : List Value) (documents : List Document) (options : Options
         packument = view spot.offer.packument.now;
         candidate = spot.candidate;
         from = selected_from manifests documents options reach omits posed posing from.0 from.1 spot (own_number from.0 from.1 from.2);
-        answered = λ name ask asked registered. all_answered spot.asker.asks.items ((problem_posed posed).demands from.0 from.1) spot.demands
+        answered = λ name ask asked registered. all_answered (view spot.candidate.manifest.now) spot.asker.asks.items ((problem_posed posed).demands from.0 from.1) spot.demands
             (best.fits.candidates from.0 from.1 from.2) ask
             (asked_there (view spot.candidate.manifest.now) (Version reach) (rules_of manifests) omits (map ask_value spot.asker.asks.items) spot.asks.0 spot.asks.1 name ask
             asked registered);
       })
 
-  pub sound : IsSound manifests documents options reach omits selected
+  pub sound : IsSound manifests documents options reach omits unmet selected
   sound = record {
     once = once;
-    of_manifests = All-weaker (Contains manifests) (λ (manifest : Value). AreAnswered documents options selected (view manifest) Root (rules_of manifests) omits)
+    of_manifests = All-weaker (Contains manifests) (λ (manifest : Value). AreAnswered documents options selected unmet (view manifest) Root (rules_of manifests) omits)
         of_manifest manifests (All-contains_itself manifests);
     of_versions = All-weaker (Contains selected) (IsAnsweredFor documents options reach (rules_of manifests) omits selected) of_version selected
         (All-contains_itself selected);
@@ -239,10 +305,11 @@ module _ (manifests : List Value) (documents : List Document) (options : Options
 
 pub answer_is_sound : (manifests : List Value) (documents : List Document) (options : Options) (reach : Reach) (omits : Omits) (answer : Answer)
     → IsAnswer manifests documents options reach omits answer
-    → IfSelected answer.resolution (IsSound manifests documents options reach omits)
+    → IfSelected answer.resolution (IsSound manifests documents options reach omits (map text answer.unmet.items))
 answer_is_sound manifests documents options reach omits answer is = by_resolution answer.resolution is.resolution where
-  by_resolution : (r : Resolution) → IsResolution is.posed r → IfSelected r (IsSound manifests documents options reach omits)
-  by_resolution (Resolutions.Selected chosen) found = subst (IsSound manifests documents options reach omits) (sym found.2)
+  by_resolution : (r : Resolution) → IsResolution is.posed r
+      → IfSelected r (IsSound manifests documents options reach omits (map text answer.unmet.items))
+  by_resolution (Resolutions.Selected chosen) found = subst₂ (IsSound manifests documents options reach omits) (sym is.unmet) (sym found.2)
       (sound manifests documents options reach omits is.posed is.posing found.0 found.1)
   by_resolution (Resolutions.NoSelection conflict) none = tt
   by_resolution Resolutions.Undecided unknown = tt

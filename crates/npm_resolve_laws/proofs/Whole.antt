@@ -1,5 +1,5 @@
 -- The lock file of a selection has no problem.
-use Rattle.std.proofs.Common.{ℕ, List}
+use Rattle.std.proofs.Common.{ℕ, List, map}
 use Rattle.serde_json.specs.View.{view}
 use Rattle.serde_json.specs.declared.value.Value.{Value}
 use Rattle.npm_texts.specs.RegistrySpec.{RegistrySpecValue}
@@ -7,6 +7,7 @@ use Rattle.npm_texts.specs.SpecLaws.{IsAskedAsWritten}
 use Rattle.npm_candidates.specs.declared.options.Options.{Options}
 use Rattle.npm_candidates.specs.declared.owner.Reach.TheVariants.{Dependencies}
 use Rattle.npm_resolve.specs.Answers.{ChosenValue, IsAnswer}
+use Rattle.npm_resolve.specs.ReasonValues.{text}
 use Rattle.npm_resolve.specs.declared.answer.Answer.{Answer}
 use Rattle.npm_resolve.specs.declared.answer.Resolution.{Resolution}
 use Rattle.npm_resolve.specs.declared.answer.Resolution.TheVariants as Resolutions
@@ -23,19 +24,19 @@ use Rattle.npm_resolve_laws.proofs.Selections.{answer_is_sound}
 
 module _ (read_back : ReadBack) (one_spec : OneSpec) (as_written : (name spec : List ℕ) (one : RegistrySpecValue) → IsAskedAsWritten name spec one)
     (manifests : List Value) (documents : List Document) (options : Options) where
-  sound_lock : (selected : List ChosenValue) → IsSound manifests documents options Dependencies nothing_omitted selected
+  sound_lock : (unmet : List (List ℕ)) (selected : List ChosenValue) → IsSound manifests documents options Dependencies nothing_omitted unmet selected
       → HasSoundLock manifests documents selected
-  sound_lock selected sound root lines problems first ordinary file checked =
+  sound_lock unmet selected sound root lines problems first ordinary file checked =
       nothing_wrong one_spec (view root) file.lock (all_installed documents selected) problems
-      (are_met read_back one_spec as_written manifests documents options selected sound ordinary.ordered root first ordinary)
+      (are_met read_back one_spec as_written manifests documents options unmet selected sound ordinary.ordered root first ordinary)
       file.is checked
 
   pub no_problems : (answer : Answer) → IsAnswer manifests documents options Dependencies nothing_omitted answer
       → IfSelected answer.resolution (HasSoundLock manifests documents)
   no_problems answer is = by_resolution answer.resolution
       (answer_is_sound manifests documents options Dependencies nothing_omitted answer is) where
-        by_resolution : (r : Resolution) → IfSelected r (IsSound manifests documents options Dependencies nothing_omitted)
+        by_resolution : (r : Resolution) → IfSelected r (IsSound manifests documents options Dependencies nothing_omitted (map text answer.unmet.items))
             → IfSelected r (HasSoundLock manifests documents)
-        by_resolution (Resolutions.Selected chosen) sound = sound_lock _ sound
+        by_resolution (Resolutions.Selected chosen) sound = sound_lock _ _ sound
         by_resolution (Resolutions.NoSelection conflict) none = tt
         by_resolution Resolutions.Undecided unknown = tt

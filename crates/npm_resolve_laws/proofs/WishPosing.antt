@@ -1,5 +1,5 @@
 -- The problem that a single wish poses.
-use Rattle.std.proofs.Common.{◌≡◌, ◌∙◌, ◌++◌, ◌||◌, ◌∷◌, ℕ, ℤ, zero, suc, List, [], Bool, true, None, Option, Some, ap, bytes_eq, length, map, refl, string_bytes, subst, subst₂, sym}
+use Rattle.std.proofs.Common.{◌≡◌, ◌∙◌, ◌++◌, ◌||◌, ◌∷◌, ℕ, ℤ, zero, suc, List, [], Bool, false, true, None, Option, Some, ap, bytes_eq, length, map, refl, string_bytes, subst, subst₂, sym}
 use Rattle.std.proofs.lemmas.Slice.Eq.{bytes_eq-Decides}
 use Rattle.std.specs.List.{AllByRecursion, AllZip}
 use Rattle.std.specs.Option.{option_map_or}
@@ -30,9 +30,11 @@ use Rattle.npm_candidates.specs.declared.owner.Reach.{Reach}
 use Rattle.npm_resolve.specs.Answers.{ChosenValue, chosen_of}
 use Rattle.npm_resolve.specs.Instance.{AreAllowed, IsAllowed, IsAsker, IsInstance, IsListedFor, IsMeaningFor, IsOffer, IsRangeFor}
 use Rattle.npm_resolve.specs.Instance as Instances
+use Rattle.npm_resolve.specs.Optional.{is_unmet, name_at, root_demand, root_demands, unmet_names}
 use Rattle.npm_resolve.specs.Rules.{rules_of}
 use Rattle.npm_resolve.specs.declared.documents.Document.{Document}
 use Rattle.npm_resolve_laws.specs.Single.{AsksNothing, IsSingleWish}
+use Rattle.npm_resolve_laws.proofs.Optionals.{alone_off, still_needed}
 use Rattle.npm_resolve_laws.proofs.Places.{is_allowed}
 use Rattle.npm_resolve_laws.proofs.Zips.{head_zip, no_map, one_map, one_zip, zip_at, zip_length}
 
@@ -112,7 +114,8 @@ pub record IsPosedAlone (p : Problem) (value_of : Choice → ChosenValue) (docum
 
 module _ (manifests : List Value) (document : Document) (options : Options) (reach : Reach) (omits : Omits) (wish : AskValue)
     (request : RegistrySpecValue) (single : IsSingleWish manifests document options reach omits wish request) (posed : _)
-    (posing : IsInstance manifests (document ∷ []) options reach omits posed) where
+    (posing : IsInstance manifests (document ∷ []) options reach omits posed)
+    (all_met : unmet_names manifests posed.names.items posed.documents.ranges.items posing.demands ≡ []) where
   abbrev IsAlone : Type 0
   IsAlone = IsPosedAlone (problem_of posed.root.items posed.documents) (chosen_of posed.offers.items) document options wish request
 
@@ -194,10 +197,17 @@ module _ (manifests : List Value) (document : Document) (options : Options) (rea
       let l = one_zip (IsListedFor reach (rules_of manifests) omits) o.0 posing.listed
       (subst (λ offers. AllZip (IsListedFor reach (rules_of manifests) omits) offers posing.listed) o.1 posing.are_listed) in
       let names : posed.names.items ≡ l.0 ∷ posing.absent = posing.named ∙ ap (λ all. all ++ posing.absent) l.1 in
-      let d = one_zip (IsDemandOf posed.names.items posed.ranges.items) w.0 posed.root.items
-      (subst (λ wishes. AreDemandsOf posed.names.items posed.ranges.items wishes posed.root.items) w.1 posing.demanded) in
+      let d = one_zip (IsDemandOf posed.names.items posed.ranges.items) w.0 posing.demands
+      (subst (λ wishes. AreDemandsOf posed.names.items posed.ranges.items wishes posing.demands) w.1 posing.demanded) in
+      let limit = root_demand manifests posed.names.items posed.documents.ranges.items d.0 in
+      let root : posed.root.items ≡ limit ∷ [] = posing.root
+      ∙ ap (root_demands manifests posed.names.items posed.documents.ranges.items) d.1 in
+      let met : is_unmet manifests posed.names.items posed.documents.ranges.items d.0 ≡ false =
+      alone_off (λ (one : Demand). name_at posed.names.items one.name) (is_unmet manifests posed.names.items posed.documents.ranges.items) d.0
+      (subst (λ demands. unmet_names manifests posed.names.items posed.documents.ranges.items demands ≡ []) d.1 all_met) in
+      let needed : limit.needed ≡ w.0.needed = still_needed d.0.needed _ met ∙ d.2.needed in
       let made = head_zip (IsPackageOf posed.names.items posed.ranges.items) l.0 posing.absent posed.documents.packages.items
       (subst (λ all. AllZip (IsPackageOf posed.names.items posed.ranges.items) all posed.documents.packages.items) names posing.packages) in
       let range = zip_at (IsRangeFor options.before posed.offers.items) posed.ranges.items posed.documents.ranges.items d.0.range
       d.2.range.wanted posing.allowed d.2.range.there in
-      posed_alone w.0 w.1 w.2 o.0 o.1 o.2 l.0 names l.2 d.0 d.1 d.2 made.0 made.1 made.2 made.3 range.0 range.1 range.2
+      posed_alone w.0 w.1 w.2 o.0 o.1 o.2 l.0 names l.2 limit root (record { name = d.2.name; range = d.2.range; needed = needed }) made.0 made.1 made.2 made.3 range.0 range.1 range.2

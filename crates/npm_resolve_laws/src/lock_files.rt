@@ -1,5 +1,5 @@
 //! The lock file that is written of a selection has no problem.
-ghost use Rattle.std.specs.Prelude.{◌≡◌, ℕ, ℤ, List, None, Option, Some, []};
+ghost use Rattle.std.specs.Prelude.{◌≡◌, ℕ, ℤ, List, None, Option, Some, [], map};
 ghost use Rattle.serde_json.specs.Data.{Data};
 ghost use Rattle.serde_json.specs.declared.value.Value.{Value};
 ghost use Rattle.npm_candidates.specs.declared.options.Omits.{Omits};
@@ -7,6 +7,7 @@ ghost use Rattle.npm_candidates.specs.declared.options.Options.{Options};
 ghost use Rattle.npm_candidates.specs.declared.owner.Reach.{Reach};
 ghost use Rattle.npm_candidates.specs.declared.owner.Reach.TheVariants.{Dependencies};
 ghost use Rattle.npm_resolve.specs.Answers.{IsAnswer};
+ghost use Rattle.npm_resolve.specs.ReasonValues.{text};
 ghost use Rattle.npm_resolve.specs.declared.answer.Answer.{Answer};
 ghost use Rattle.npm_resolve.specs.declared.documents.Document.{Document};
 ghost use Rattle.npm_flat_locks.specs.Installed.{InstalledValue};
@@ -26,8 +27,8 @@ use npm_sets::laws::prints_are_read_back_by_npm;
 use npm_texts::laws::specs_are_those_of_the_grammar;
 
 /// The law: what a selection is asked for is answered. Each dependency of a manifest, and of each version that is selected, that counts and
-/// asks a registry has a selected version that its spec allows; or none is selected under its name, and none need be. Each name has one
-/// version at most.
+/// asks a registry has a selected version that its spec allows; or none is selected under its name, and none need be: an optional peer, an
+/// optional dependency of a version, or one of a manifest that is among the `unmet` of the answer. Each name has one version at most.
 ///
 /// # Memory
 ///
@@ -35,7 +36,7 @@ use npm_texts::laws::specs_are_those_of_the_grammar;
 pub fn each_dependency_of_a_selection_is_answered()
     ensures { (manifests : List Value) (documents : List Document) (options : Options) (reach : Reach) (omits : Omits) (answer : Answer)
         → IsAnswer manifests documents options reach omits answer
-        → IfSelected answer.resolution (IsSound manifests documents options reach omits) }
+        → IfSelected answer.resolution (IsSound manifests documents options reach omits (map text answer.unmet.items)) }
 {}
 
 /// The law: if each dependency is met by the package that is installed under its name, `npm_lock::check` finds no problem in the lock

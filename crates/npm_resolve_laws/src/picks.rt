@@ -1,5 +1,5 @@
 //! A single wish is answered as npm would pick.
-ghost use Rattle.std.specs.Prelude.{ℕ, List, Result, ◌∷◌, []};
+ghost use Rattle.std.specs.Prelude.{◌≡◌, ℕ, List, Result, ◌∷◌, []};
 ghost use Rattle.serde_json.specs.Data.{Data};
 ghost use Rattle.npm_resolve_laws.specs.Alike.{AreAlike, HasKeysOnce};
 ghost use Rattle.npm_resolve_laws.specs.Firsts.{AgreesWith};
@@ -48,7 +48,8 @@ pub fn the_first_candidate_is_picked()
 /// that `npm_pick::pick` picks for the wish, and no other; and where no selection fits, none is picked.
 ///
 /// Its premises are those of [`the_first_candidate_is_picked`]; the wish must be met, and it asks for the package of the
-/// document; and the lock file, if there is one, has no version for the name. `resolved` may still run out of steps, and then says so.
+/// document; the lock file, if there is one, has no version for the name; and the wish is not left out, as an optional dependency that no
+/// version meets is. `resolved` may still run out of steps, and then says so.
 ///
 /// # Memory
 ///
@@ -62,7 +63,8 @@ pub fn one_wish_is_answered_as_picked()
         (request : RegistrySpecValue) (picking : Picking.Options) (picked : Result PickedValue PickError) (answer : Answer)
         → IsSingleWish manifests document options reach omits wish request → AreAlike options picking
         → HasKeysOnce (view document.packument) → IsPicked (view document.packument) picking (filled request.text) picked
-        → IsAnswer manifests (document ∷ []) options reach omits answer → IsAsPicked wish request picked answer.resolution }
+        → IsAnswer manifests (document ∷ []) options reach omits answer → answer.unmet.items ≡ []
+        → IsAsPicked wish request picked answer.resolution }
 {
     the_first_candidate_is_picked();
 }

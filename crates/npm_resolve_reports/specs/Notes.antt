@@ -25,6 +25,10 @@ note_lines left_out = flat_map note_line left_out
 abbrev pub unread_line : (name : List ℕ) → List ℕ
 unread_line name = codes "npm_resolve: overrides are not read: " ++ (shown name ++ (10 ∷ []))
 
+-- `npm_resolve: optional, and no version fits: a`
+abbrev pub unmet_line : (name : List ℕ) → List ℕ
+unmet_line name = codes "npm_resolve: optional, and no version fits: " ++ (shown name ++ (10 ∷ []))
+
 -- what a selected version does not fit, by what its document says of it
 abbrev pub unfit_of : Platform → List Document → ChosenValue → Option UnfitValue
 unfit_of platform documents one = option_and_then (Systems.unfit_of platform) (manifest_of documents one.name one.key)
@@ -61,7 +65,8 @@ selection_notes platform documents missing (Resolutions.Selected chosen) =
 selection_notes platform documents missing (Resolutions.NoSelection found) = []
 selection_notes platform documents missing Resolutions.Undecided = []
 
--- A line for each ask that is left out, for each name whose rule in `overrides` is not read, and what is said of a selection.
-abbrev pub all_notes : Platform → List Document → (left_out : List AskValue) → (unread missing : List (List ℕ)) → Resolution → List ℕ
-all_notes platform documents left_out unread missing resolution =
-    note_lines left_out ++ (flat_map unread_line unread ++ selection_notes platform documents missing resolution)
+-- A line for each ask that is left out, for each name whose rule in `overrides` is not read, and for each optional dependency that no version
+-- meets; and what is said of a selection.
+abbrev pub all_notes : Platform → List Document → (left_out : List AskValue) → (unread unmet missing : List (List ℕ)) → Resolution → List ℕ
+all_notes platform documents left_out unread unmet missing resolution = note_lines left_out
+    ++ (flat_map unread_line unread ++ (flat_map unmet_line unmet ++ selection_notes platform documents missing resolution))

@@ -70,7 +70,7 @@ pub record IsReply (Gives : Loads) (question : Question) (format : Format) (repl
   pub lines : MatchBool (is_unread format answer.resolution (map text answer.unread.items)) (reply.lines ≡ [])
       (AreLines format question.manifests.now documents answer.resolution reply.lines)
   pub notes : reply.notes ≡ Notes.all_notes question.platform documents (map ask_value answer.left_out.items)
-      (map text answer.unread.items) (map text answer.missing.items) answer.resolution
+      (map text answer.unread.items) (map text answer.unmet.items) (map text answer.missing.items) answer.resolution
   pub ending : reply.ending
       ≡ (if is_unread format answer.resolution (map text answer.unread.items) then Unread else ending_of answer.resolution)
 

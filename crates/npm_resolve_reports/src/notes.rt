@@ -13,22 +13,25 @@ use command_lines::push_shown;
 use npm_resolve::{Ask, Chosen, Document, Resolution};
 use std::alloc::Global;
 
-/// Returns a line for each ask that is left out, and for each name whose rule in `overrides` is not read; if versions are selected, also
-/// for each name without a document that a version needs, and for each selected version that is not for the platform.
+/// Returns a line for each ask that is left out, for each name whose rule in `overrides` is not read, and for each optional dependency that
+/// no version meets; if versions are selected, also for each name without a document that a version needs, and for each selected version
+/// that is not for the platform.
 pub(crate) fn all_notes(
     alloc: Global,
     platform: Platform<'_>,
     documents: &[Document],
     left_out: &[Ask<'_>],
     unread: &[&str],
+    unmet: &[&str],
     missing: &[&str],
     resolution: &Resolution<'_>,
 ) -> Result<Vec<u8>>
     ensures { IfOk result (λ lines. lines.items ≡ Notes.all_notes platform.entry documents.now (map ask_value left_out.now)
-        (map text unread.now) (map text missing.now) resolution.now) }
+        (map text unread.now) (map text unmet.now) (map text missing.now) resolution.now) }
 {
     let mut lines = note_lines(alloc, left_out)?;
     lines.append(&mut unread_lines(alloc, unread)?)?;
+    lines.append(&mut unmet_lines(alloc, unmet)?)?;
     lines.append(&mut selection_notes(alloc, platform, documents, missing, resolution)?)?;
     Ok(lines)
 }
@@ -71,6 +74,26 @@ fn push_unread(lines: &mut Vec<u8>, name: &str) -> Result<()>
     ensures { OnOk result (lines.new.items ≡ lines.old.items ++ Notes.unread_line name.now) }
 {
     lines.extend_from_slice(b"npm_resolve: overrides are not read: ")?;
+    push_shown(lines, name)?;
+    lines.extend_from_slice(b"\n")
+}
+
+/// A line for each optional dependency that no version meets.
+fn unmet_lines(alloc: Global, unmet: &[&str]) -> Result<Vec<u8>>
+    ensures { IfOk result (λ lines. lines.items ≡ flat_map Notes.unmet_line (map text unmet.now)) }
+{
+    let mut lines = Vec::new(alloc);
+    for name in unmet {
+        push_unmet(&mut lines, *name)?;
+    }
+    Ok(lines)
+}
+
+/// Adds the line of a name.
+fn push_unmet(lines: &mut Vec<u8>, name: &str) -> Result<()>
+    ensures { OnOk result (lines.new.items ≡ lines.old.items ++ Notes.unmet_line name.now) }
+{
+    lines.extend_from_slice(b"npm_resolve: optional, and no version fits: ")?;
     push_shown(lines, name)?;
     lines.extend_from_slice(b"\n")
 }

@@ -128,6 +128,7 @@ fn reply_of<F: Fn(&str) -> Result<Option<Value>, LoadError>>(
         &documents,
         &answer.left_out,
         &answer.unread,
+        &answer.unmet,
         &answer.missing,
         &answer.resolution,
     )?;

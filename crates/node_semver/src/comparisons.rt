@@ -1,6 +1,6 @@
 //! A counter of comparisons that has no bytes when the program runs.
 //!
-//! See docs/DECISIONS.md, "Comparisons are counted in a ghost".
+//! Comparisons are counted in a ghost of its own crate: else a search that resets the counter is proved.
 ghost use Rattle.std.specs.Prelude.{◌≡◌, ◌+◌};
 
 mod tally;

@@ -1,6 +1,6 @@
 //! Ranges: which versions a range text admits.
 //!
-//! See docs/DECISIONS.md, "`Drop` of `Range` and `EndVersion` is written by hand".
+//! `Drop` is written by hand, since a derived one adds branches to every owner's proof.
 ghost use Rattle.std.specs.Prelude.{◌≡◌, ◌⊎◌, ◌↔◌, ◌∷◌, [], IfOk, IfSome, IsTrue, MatchResult};
 ghost use Rattle.std.specs.List.{AllByRecursion};
 ghost use Rattle.semver_sets.specs.Meaning.{IsRefused, RangeAdmits};

@@ -3,7 +3,7 @@
 //! A handle that owns its value is filled by the call that makes the value, and freed once. A handle that a call reads is
 //! borrowed for that call. `specs/Handles` says what C must keep.
 //!
-//! See docs/DECISIONS.md, "A handle is a struct of one pointer".
+//! A handle is a struct of one pointer: ghost fields hold its value and lifetime.
 
 pub(crate) mod intervals;
 pub(crate) mod optional;

@@ -1,6 +1,6 @@
 //! Exports of `node_semver` for C. `bindings/c/include/node_semver.h` declares them.
 //!
-//! See docs/DECISIONS.md, "Exports state the clauses of their calls".
+//! Exports state the clauses of the calls that they make, so a user of C reads the same theorem.
 #![tactic(auto)]
 
 mod algebra;

@@ -1,6 +1,6 @@
 //! The index of a lock file: which package a name has in the `node_modules` of a folder.
 //!
-//! See docs/DECISIONS.md, "The index has packages by their names and folders".
+//! Packages are found by comparing names and folders, since in a `HashMap` they could all collide.
 ghost use Rattle.std.specs.Prelude.{◌≡◌, ◌∷◌, ◌++◌, ◌↔◌, List, IfOk, IsTrue, OnOk, Some, ℕ};
 ghost use Rattle.serde_json.specs.Find.{get};
 ghost use Rattle.serde_json.specs.View.{view};

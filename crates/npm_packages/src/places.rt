@@ -1,6 +1,6 @@
 //! Packages by their names and folders, and the nearest one at or above a path.
 //!
-//! See docs/DECISIONS.md, "The index has packages by their names and folders".
+//! Packages are found by comparing names and folders, since in a `HashMap` they could all collide.
 ghost use Rattle.std.specs.Prelude.{◌≡◌, ℕ, List, IfOk, IsSome};
 ghost use Rattle.std.specs.Cmp.Lexicographic.{slice_cmp};
 ghost use Rattle.std.specs.Option.{MatchOption};

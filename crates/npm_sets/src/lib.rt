@@ -7,7 +7,7 @@
 //! in `specs/` of this crate.
 //!
 //! See docs/DECISIONS.md, "npm's reading stands beside the crate's, and shares what lies below the words".
-//! See docs/DECISIONS.md, "npm's reading is defined by functions over whole texts".
+//! npm's reading is defined by functions over whole texts, so each text has one meaning.
 #![tactic(auto)]
 
 pub mod laws;

@@ -1,6 +1,6 @@
 //! The program, for any reader and writer.
 //!
-//! See docs/DECISIONS.md, "Input is read in pieces of 4,096 bytes".
+//! Input is read in pieces of 4,096 bytes. A line counts with its newline, since a failed read may have cut it.
 ghost use Rattle.std.specs.Prelude.{◌≡◌, ◌⊎◌, ◌↔◌, ◌^◌, ◌-◌, ◌≤◌, length, OnOk, OnErr, IfSome, IsErrOf};
 ghost use Rattle.semver_pairs.specs.GaugeValue.{HasFailed};
 ghost use Rattle.semver_pairs.specs.Output.{Exchanges, HasEnded, IsOutput, IsOutputBeforeEnd, IsOutputPrefix};

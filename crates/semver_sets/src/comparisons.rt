@@ -1,6 +1,6 @@
 //! How many comparisons a search takes.
 //!
-//! See docs/DECISIONS.md, "Comparisons are counted in a ghost".
+//! Comparisons are counted in a ghost of its own crate: else a search that resets the counter is proved.
 ghost use Rattle.std.specs.Prelude.{◌≡◌, ◌+◌, ℕ};
 
 /// A count of the comparisons of a version with a cut, which only grows.

@@ -3,7 +3,7 @@
 //! `#[inline(always)]`: the functions here are the steps of a search, and most versions are releases, for which only
 //! triples are compared.
 //!
-//! See docs/DECISIONS.md, "All kinds of versions are searched alike".
+//! All kinds of versions are searched alike: `==` needs one type on both sides, hence `cmp_ref`.
 ghost use Rattle.std.specs.Prelude.{◌≡◌, ◌≤◌, ◌+◌, ◌↔◌, IsTrue};
 ghost use Rattle.semver_cuts.specs.declared.cut.Cut.TheVariants.{Before, Start};
 ghost use Rattle.semver_cuts.specs.Ends.{IsCutAtMost};

@@ -3,7 +3,7 @@
 //! `#[inline(always)]`: most ranges have one set, and each call is then one test and the code for that set.
 //! `#[inline(never)]` keeps the code for several sets, with its stack, out of that way.
 //!
-//! See docs/DECISIONS.md, "Most ends and most ranges need no memory".
+//! Most ends and most ranges need no memory: one end of ten needs a box.
 ghost use Rattle.std.specs.Prelude.{◌≡◌, ◌↔◌, IsTrue};
 ghost use Rattle.semver_cuts.specs.Sharing.{ShareCut};
 ghost use Rattle.semver_texts.specs.Comparison.{version_cmp};

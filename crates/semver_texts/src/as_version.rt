@@ -1,6 +1,6 @@
 //! Versions as what ranges are asked about. `#[inline(always)]`: each function is one load, test or call in the search.
 //!
-//! See docs/DECISIONS.md, "All kinds of versions are searched alike".
+//! All kinds of versions are searched alike: `==` needs one type on both sides, hence `cmp_ref`.
 ghost use Rattle.std.specs.Prelude.{◌≡◌, ◌↔◌, IsTrue};
 ghost use Rattle.semver_texts.specs.Comparison.{prerelease_cmp};
 ghost use Rattle.semver_texts.specs.Triple.{triple_of};

@@ -1,7 +1,7 @@
 //! The ends of a range's sets. An end is a version, stored so that the usual ones (no prerelease and build, or the
 //! prerelease `0` alone) need no allocation.
 //!
-//! See docs/DECISIONS.md, "Most ends and most ranges need no memory".
+//! Most ends and most ranges need no memory: one end of ten needs a box.
 ghost use Rattle.std.specs.Prelude.{◌≡◌, ◌↔◌, IfOk, IsTrue};
 ghost use Rattle.semver_texts.specs.Identifier.{values_of};
 ghost use Rattle.semver_texts.specs.EndViews.{borrowed_seen};

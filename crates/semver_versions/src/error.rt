@@ -1,6 +1,6 @@
 //! The errors of this crate: why parsing a text failed, and where.
 //!
-//! See docs/DECISIONS.md, "A version is seen as a record, an error by a view".
+//! Clauses see a version as a record and an error by a view: they compare values, not places in memory.
 ghost use Rattle.std.specs.Prelude.{◌≡◌, ◌↔◌, ◌⊎◌, IsTrue};
 ghost use Rattle.semver_versions.specs.Error.{kind_of, out_of_memory, refusal_of, IsOutOfMemory, IsRefusalAt};
 ghost use Rattle.semver_versions.specs.ErrorEquality.{error_value};

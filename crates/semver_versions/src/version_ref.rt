@@ -1,6 +1,6 @@
 //! A version that borrows its text.
 //!
-//! See docs/DECISIONS.md, "The text of a `VersionRef` is known by an invariant".
+//! What the text is, is an invariant: else each clause would name the version.
 ghost use Rattle.std.specs.Prelude.{◌≡◌, ◌↔◌, IsTrue};
 ghost use Rattle.semver_texts.specs.Comparison.{prerelease_cmp};
 ghost use Rattle.semver_texts.specs.Triple.{triple_of};

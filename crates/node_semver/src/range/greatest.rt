@@ -1,6 +1,6 @@
 //! The greatest and the least version of a list that satisfies a range.
 //!
-//! See docs/DECISIONS.md, "What asks as a range does".
+//! One loop serves all that asks as a range does: whatever is `Admits`.
 ghost use Rattle.std.specs.Option.{option_map};
 ghost use Rattle.std.specs.Prelude.{◌≡◌, ◌↔◌, IfSome, IsNone, IsTrue, map};
 ghost use Rattle.std.specs.declared.cmp.Ordering.TheVariants.{Less};

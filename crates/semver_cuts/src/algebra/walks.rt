@@ -1,7 +1,7 @@
 //! Whether two lists of spans share a cut, and whether one contains all cuts of the other: each is decided by one walk
 //! along the merged spans of both. Cuts are compared as values.
 //!
-//! See docs/DECISIONS.md, "A proof is made cheaper in the code".
+//! Steps stand in functions of their own: half of a check is the borrow checker's, and grows with a function's steps.
 ghost use Rattle.std.specs.Prelude.{◌↔◌, IsTrue};
 ghost use Rattle.semver_cuts.specs.Joined.{AreMerged};
 ghost use Rattle.semver_cuts.specs.Sharing.{CoversAll, ShareCut};

@@ -1,6 +1,6 @@
 //! Sets with an index, by which a version is found among them.
 //!
-//! See docs/DECISIONS.md, "Several sets have a binary search".
+//! Several sets have a binary search, over merged spans and opened triples.
 ghost use Rattle.std.specs.Prelude.{◌≡◌, ◌↔◌, ℕ, ◌+◌, ◌*◌, ◌≤◌, ◌<◌, IfOk, IsTrue, length};
 ghost use Rattle.std.specs.List.{AllByRecursion};
 ghost use Rattle.semver_cuts.specs.declared.cut.Cut.TheVariants.{Before};

@@ -1,7 +1,7 @@
 //! The two types of versions as what ranges are asked about, and what can be compared with others of its type.
 //! `#[inline(always)]`: each function is one load, test or call in the search.
 //!
-//! See docs/DECISIONS.md, "All kinds of versions are searched alike".
+//! All kinds of versions are searched alike: `==` needs one type on both sides, hence `cmp_ref`.
 ghost use Rattle.std.specs.Prelude.{◌≡◌};
 ghost use Rattle.semver_texts.specs.Comparison.{version_cmp};
 

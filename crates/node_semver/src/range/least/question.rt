@@ -1,6 +1,6 @@
 //! Which versions are wanted of two ranges, with prereleases included or not.
 //!
-//! See docs/DECISIONS.md, "One search for two questions".
+//! One search serves both questions, since a flag would be tested for each candidate.
 ghost use Rattle.std.specs.Prelude.{◌≡◌, ◌↔◌, Bool, true, false, IsTrue, List};
 ghost use Rattle.semver_cuts.specs.declared.cut.Cut.{Cut};
 ghost use Rattle.semver_cuts.specs.Ends.{Ends};

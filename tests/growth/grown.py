@@ -131,6 +131,11 @@ def versions(count):
     return {"": {}, **{f"node_modules/p{i:06}/node_modules/copied": {"version": f"{i}.0.0"} for i in range(count)}}
 
 
+def unversioned(count):
+    """N copies of a package, which have no version."""
+    return {"": {}, **{f"node_modules/p{i:06}/node_modules/copied": {} for i in range(count)}}
+
+
 def hit(count):
     """A package that N packages depend on."""
     return {"": {}, "node_modules/hit": {"version": "1.0.0"},
@@ -207,6 +212,16 @@ def striking(count):
     return {"copied": [{"id": i, "vulnerable_versions": f"{i}.0.0 - {i}.0.3"} for i in range(count)]}
 
 
+def everywhere(count):
+    """N advisories about a package, of which each hits all versions."""
+    return {"copied": [{"id": i, "vulnerable_versions": "*"} for i in range(count)]}
+
+
+def excepting(count):
+    """N exceptions of that package, of which each excepts one of N advisories."""
+    return "".join(f'[[exceptions]]\nid = "{i}"\npackage = "copied"\nreason = "read"\n' for i in range(count))
+
+
 def events(count):
     """An advisory about `hit`: one OSV range of twice N events, the last first."""
     made = [event for i in range(count, 0, -1) for event in ({"fixed": f"{i}.1.0"}, {"introduced": f"{i}.0.0"})]
@@ -218,7 +233,7 @@ def one_advisory(_):
     return {"hit": [{"id": 1, "vulnerable_versions": "<1.0.1"}]}
 
 
-ADVISORIES = (tree_advisories, sparing, striking, events, one_advisory)
+ADVISORIES = (tree_advisories, sparing, striking, everywhere, events, one_advisory)
 
 
 def text(shape, count):

@@ -31,10 +31,19 @@ def of_lines(shape, count, words):
 
 def of_advisories(shapes, count, words):
     lock, advisories = shapes[0], grown.text(shapes[1], count)
-    given = grown.text(lock, 0 if shapes[1] is grown.events else count)
+    given = grown.text(lock, {grown.events: 0, grown.everywhere: 1}.get(shapes[1], count))
     with open("advisories.json", "w", encoding="utf-8") as file:
         file.write(advisories)
     return instructions(["--advisories", "advisories.json", *words], given)[0], len(given) + len(advisories)
+
+
+def of_exceptions(_, count, words):
+    """Of one package, with an exception for each advisory."""
+    exceptions = grown.excepting(count)
+    with open("exceptions.toml", "w", encoding="utf-8") as file:
+        file.write(exceptions)
+    found, read = of_advisories((grown.unversioned, grown.everywhere), count, ["--exceptions", "exceptions.toml", *words])
+    return found, read + len(exceptions)
 
 
 def of_folders(_, count, words):
@@ -71,6 +80,8 @@ GROWTH = [
     ("many problems of a package in a deep folder, as a log", 200, of_lines, grown.asked, "--format", "sarif"),
     ("advisories that hit no copy", 2000, of_advisories, (grown.copies, grown.sparing)),
     ("advisories that hit one copy each", 2000, of_advisories, (grown.versions, grown.striking)),
+    ("advisories beside copies without a version", 2000, of_advisories, (grown.unversioned, grown.sparing)),
+    ("advisories, each of them excepted", 1600, of_exceptions, None),
     ("advisories", 2000, of_advisories, (grown.tree, grown.tree_advisories)),
     ("events of one OSV range", 2000, of_advisories, (grown.hit, grown.events)),
     ("askers of a package that is hit", 2000, of_advisories, (grown.hit, grown.one_advisory)),

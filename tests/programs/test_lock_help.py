@@ -27,6 +27,7 @@ FILES = {
     "groups.json": {"lockfileVersion": 3, "packages": {
         "": {"devDependencies": {"d": "1"}, "optionalDependencies": {"o": "1"}}, "node_modules/d": {"version": "2.0.0", "dev": True},
         "node_modules/o": {"version": "2.0.0", "optional": True}, "node_modules/b": {"version": "2.0.0", "devOptional": True}}},
+    "needed.json": {"lockfileVersion": 3, "packages": {"": {"dependencies": {"d": "1"}}, "node_modules/d": {"version": "1.0.0", "dev": True}}},
     "none.json": [],
     "sources.json": {"lockfileVersion": 3, "packages": {
         "": {"dependencies": {name: "1" for name in "vphrn"}},
@@ -35,7 +36,7 @@ FILES = {
             ("r", "https://s/r/-/r-1.0.0.tgz"))},
         "node_modules/n": {"version": "1.0.0", "resolved": "https://r/n/-/n-1.0.0.tgz"}}},
     **{f"{name}.json": {"lockfileVersion": 3, "packages": {
-        "": {"devDependencies": {"x": "file:l"}, **more}, "l": {"dependencies": {"d": "2"}}, "l/node_modules/d": {"version": "2.0.0", "dev": True},
+        "": {"devDependencies": {"x": "file:l"}, **more}, "l": {"dev": True, "dependencies": {"d": "2"}}, "l/node_modules/d": {"version": "2.0.0", "dev": True},
         "node_modules/x": {"link": True, "resolved": "l"}}} for name, more in (("linked", {}), ("below", {"workspaces": ["l"]}))},
     "all.json": {name: [{"id": number, "vulnerable_versions": "*"}] for number, name in enumerate("dob", 1)},
 }
@@ -121,8 +122,10 @@ SENTENCES = [
      lacks('"name":"o"', "groups.json --advisories all.json --omit optional"),
      gives(1, "1 problems, 0 not checked, 2 hit, 3 advisories read, 1 packages omitted", "groups.json --advisories all.json --omit optional")),
     ("What npm installs below a linked folder that is no workspace counts, whatever its group.",
-     gives(0, "0 hit, 3 advisories read, 1 packages omitted", "below.json --advisories all.json --omit dev --ignore missing"),
+     gives(0, "0 hit, 3 advisories read, 2 packages omitted", "below.json --advisories all.json --omit dev --ignore missing"),
      gives(1, "1 hit, 3 advisories read, 0 packages omitted", "linked.json --advisories all.json --omit dev --ignore missing")),
+    ("Also write each package that is left out, though it is needed.", gives(1, "d 1.0.0 is left out, though the root asks for it by 1", "needed.json --omit dev --format text"),
+     lacks("is left out", "needed.json --format text")),
     ("May be given several times.", gives(0, "0 problems, 0 not checked, 0 hit, 3 advisories read, 3 packages omitted", "groups.json --advisories all.json --omit dev --omit=optional")),
     ("--sources Also write each package whose address is that of another package or is not encrypted, and each that npm downloads without "
      "integrity.",
@@ -166,12 +169,12 @@ SENTENCES = [
      gives(1, "::error file=lock.json,line=1,col=85::gone is not installed", "--format github lock.json")),
     ("sarif: write all of them as one SARIF 2.1.0 log, of all lock files.", gives(1, '"version":"2.1.0"', "--format sarif lock.json clean.json"),
      has(1, "$schema", "--format sarif lock.json lock.json")),
-    ("html: write one page for a browser, which also lists what is not checked.", gives(1, "<h3>Not checked</h3>", "--format html lock.json"),
+    ("html: write one page for a browser, which also lists what is not checked.", gives(1, ">Not checked</h3>", "--format html lock.json"),
      has(1, "<html", "--format html lock.json lock.json")),
     ("junit: write one JUnit report, for Jenkins and GitLab.",
-     gives(1, '<testcase classname="npm_lock_check.missing" name="gone is', "--format junit lock.json"), has(1, "<testsuites", "--format junit lock.json lock.json")),
-    ("These four have the line and the column in FILE.", gives(1, "lock.json, line 1, column 85<", "--format html lock.json"),
-     gives(1, "lock.json, line 1, column 85<", "--format junit lock.json"), gives(1, "line=1,col=85::gone", "--format github"),
+     gives(1, '<testcase classname="npm_lock_check.missing" name="missing: gone in the root"', "--format junit lock.json"), has(1, "<testsuites", "--format junit lock.json lock.json")),
+    ("These four have the line in FILE, and all but junit the column.", gives(1, "lock.json, line 1, column 85<", "--format html lock.json"),
+     gives(1, 'in the root" file="lock.json" line="1">', "--format junit lock.json"), gives(1, "line=1,col=85::gone", "--format github"),
      gives(1, '"startLine":1,"startColumn":85', "--format sarif")),
     ("The default is text if standard output is a terminal, and json if not.", alike("", "--format json")),
     ("-h, --help Print help", alike("-h", "--help"), gives(0, "-h, --help", "-h")),

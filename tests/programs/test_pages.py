@@ -32,7 +32,8 @@ def hostile():
 
 
 def hostile_advisories():
-    return {name: [{"id": name if number % 2 else number, "severity": SEVERITIES[(number + step) % 6], "title": name, "vulnerable_versions": "<2"}
+    return {name: [{"id": name if number % 2 else number, "severity": SEVERITIES[(number + step) % 6], "title": name, "vulnerable_versions": "<2",
+                    "url": ("https://a.example/?", "javascript:window.ran=1//", "HTTPS://a.example/", "http://a.example/")[number % 4] + name}
                    for step in range(number % 3 + 1)] for number, name in enumerate(FOUND)}
 
 
@@ -47,6 +48,8 @@ FILES = {
                        "node_modules/z": {"version": "1.0.0", "dependencies": {name: "^2" for name in MANY}},
                        **{f"node_modules/{name}": {"version": "1.0.0"} for name in MANY}}),
     "many_advisories.json": {name: [{"id": 1, "severity": "low", "vulnerable_versions": "<2"}] for name in MANY},
+    "needed.json": lock({"": {"dependencies": {name: "1" for name in NAMES}},
+                         **{f"node_modules/{name}": {"version": "1.0.0", "dev": True} for name in FOUND if "/" not in name}}),
     "many_package.json": {"dependencies": {name: "next" for name in MANY}},
 }
 
@@ -62,6 +65,7 @@ COMPARED = [
     ("several files of which two are refused", ["bad.json", "hostile.json", "<nothing>", "clean.json"]),
     ("advisories that are refused", ["--advisories", "bad.json", "clean.json"]),
     ("a manifest that is no file", ["--manifest", "<b>.json", "clean.json"]),
+    ("packages that are needed, but left out", ["--omit", "dev", "--ignore", "missing", "needed.json"]),
     ("2,500 of each finding", ["--advisories", "many_advisories.json", "--manifest", "many_package.json", "many.json"]),
 ]
 
@@ -84,7 +88,7 @@ def wrong(checks):
 @pytest.mark.parametrize("words", [words for _, words in COMPARED], ids=[name for name, _ in COMPARED])
 def test_page_and_report_say_the_same(room, words):
     checks = list(report_pages.compare(programs.built("npm_lock_check"), ["--unchecked", *words]))
-    assert len(checks) == 9 and wrong(checks) == []
+    assert len(checks) == 13 and wrong(checks) == []
 
 
 def hostile_page():

@@ -6,10 +6,11 @@ import pytest
 
 from support import sarif
 
-RULE = {"id": "invalid", "shortDescription": {"text": "a version outside"}, "defaultConfiguration": {"level": "error"}}
+RULE = {"id": "invalid", "shortDescription": {"text": "a version outside"}, "helpUri": "https://a.example/b#c", "defaultConfiguration": {"level": "error"},
+        "properties": {"security-severity": "8.0", "tags": ["security"]}}
 PLACE = {"artifactLocation": {"uri": "a%20b/package-lock.json"}, "region": {"startLine": 3, "startColumn": 7}}
 FOUND = {"ruleId": "invalid", "ruleIndex": 0, "level": "error", "message": {"text": "b 1.0.0 is outside: a{{0}}, [0], \\\\x, \\[b\\](1)"},
-         "locations": [{"physicalLocation": PLACE}]}
+         "locations": [{"physicalLocation": PLACE}], "suppressions": [{"kind": "external", "justification": "only used to build"}]}
 LOG = {"$schema": "https://json.schemastore.org/sarif-2.1.0.json", "version": "2.1.0", "runs": [{
     "tool": {"driver": {"name": "checker", "version": "1.0.0", "rules": [RULE]}}, "invocations": [{"executionSuccessful": False}],
     "columnKind": "unicodeCodePoints", "results": [FOUND]}]}
@@ -43,6 +44,10 @@ CHANGES = [
     ((*RESULT, "ruleIndex"), -2),
     ((*RESULT, "place"), {}),
     ((*RESULT, "fingerprints"), {"a": {}}),
+    ((*RESULT, "suppressions", 0, "kind"), "outside"),
+    ((*RESULT, "suppressions", 0, "kind"), None),
+    (("runs", 0, "tool", "driver", "rules", 0, "helpUri"), "a b"),
+    (("runs", 0, "tool", "driver", "rules", 0, "properties", "security-severity"), "11"),
     ((*REGION, "startLine"), 0),
     ((*REGION, "startColumn"), "7"),
     ((*REGION, "line"), 7),

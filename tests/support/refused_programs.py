@@ -37,7 +37,7 @@ def is_failed_log(text, _):
 def is_failed_page(text, _):
     """Whether a text is a page that says that not every lock file was checked, with nothing but refused files."""
     page = report_pages.Page(text)
-    return not page.faults and not page.sections and page.head[1:] == ["Not every lock file was checked."]
+    return not page.faults and not page.sections and (page.first, page.head) == ("The check failed", ["Not every lock file was checked."])
 
 
 def is_failed_report(text, _):

@@ -15,18 +15,20 @@ import html5lib
 from support import programs  # (it makes the runner's own modules known)
 import files
 
-PARTS = ["Problems", "Advisories: critical", "Advisories: high", "Advisories: moderate", "Advisories: low", "Advisories: info",
-         "Advisories: severity not known", "Mismatches with a manifest", "Not checked"]
+PARTS = ["Advisories: critical", "Advisories: high", "Advisories: moderate", "Advisories: low", "Advisories: info", "Advisories: severity not known",
+         "Problems", "Mismatches with a manifest", "Not checked"]
 SEVERITIES = ["critical", "high", "moderate", "low", "info", "unknown"]
-COUNTS = ["packages", "dependencies", "problems", "hit by advisories", "mismatches", "not checked", "not read"]
-TAGS = {"html", "head", "meta", "title", "style", "body", "h1", "p", "section", "h2", "div", "h3", "h4", "small", "b"}
-ATTRIBUTES = {"class", "lang", "charset", "name", "content", "http-equiv"}
+COUNTS = ["packages", "dependencies", "hit by advisories", "excepted", "problems", "mismatches", "not checked", "not read"]
+TAGS = {"html", "head", "meta", "title", "style", "body", "main", "h1", "p", "nav", "ul", "li", "a", "section", "h2", "div", "h3", "h4", "small", "b"}
+ATTRIBUTES = {"class", "lang", "charset", "name", "content", "http-equiv", "id", "href", "rel"}
+# Control characters, and characters that are not seen or change how others are seen.
+HIDDEN = re.compile("[\0-\x1f\x7f-\x9f\xad\u061c\u180e\u200b-\u200f\u2028-\u202e\u2060-\u206f\ufeff\ufff9-\ufffb\ufffe\uffff]")
 ANNOTATION = re.compile(r"::(error|warning|notice) file=([^,]*),line=(\d+),col=(\d+)::(.*)")
 
 
 def shown(text):
-    """The text with each byte that is no printable ASCII by its number."""
-    return "".join(chr(byte) if 32 <= byte <= 126 else f"\\x{byte:02x}" for byte in text.encode())
+    """The text with the bytes of each hidden character by their numbers."""
+    return HIDDEN.sub(lambda it: "".join(f"\\x{byte:02x}" for byte in it[0].encode()), text)
 
 
 def plain(text):
@@ -42,14 +44,19 @@ def subject(it):
     """The part and the name that a JSON object stands under, and its rule."""
     if "advisories" in it:
         found = [one["severity"] for one in it["advisories"]]
-        return 1 + min(map(SEVERITIES.index, found)), it["name"], "advisory"
+        return min(map(SEVERITIES.index, found)), it["name"], "advisory"
     if "unchecked" in it:
         return 8, {"manifest": it["from"], "workspaces": "workspaces", "root": "the root"}.get(it["unchecked"], it.get("name")), "unchecked"
     if it["problem"] == "group":
         return 7, it["name"], "mismatch"
     if it["problem"] == "source":
-        return 0, it["folder"], "source"
-    return 0, it["name"], it["problem"].replace(" ", "-")
+        return 6, it["folder"].rpartition("node_modules/")[2], "source"
+    return 6, it["name"], it["problem"].replace(" ", "-")
+
+
+def addresses(it):
+    """The addresses of the advisories of a JSON object that are of the web."""
+    return [shown(one["url"]) for one in it.get("advisories", []) if one.get("url", "").startswith(("http://", "https://"))]
 
 
 def counted(line, unread):
@@ -57,7 +64,9 @@ def counted(line, unread):
     def number(what):
         found = re.search(rf"(\d+) {what}\b", line)
         return int(found.group(1)) if found else None
-    return [number(what) for what in ("packages", "dependencies", "problems", "hit", "mismatches", "not checked")] + [unread]
+    hit = number("hit")
+    return [number("packages"), number("dependencies"), hit, None if hit is None else number("excepted") or 0,
+            *map(number, ("problems", "mismatches", "not checked")), unread]
 
 
 class Wanted:
@@ -82,18 +91,18 @@ class Wanted:
                 continue
             found = [(it, note) for it, note in zip(objects, notes) if it.get("file", file) == file]
             unread = sum(it.get("unchecked") in ("manifest", "workspaces", "root") for it, _ in found)
-            findings = [(*subject(it), note) for it, note in found]
+            findings = [(*subject(it), it.get("folder", it.get("from")), addresses(it), note) for it, note in found]
             self.files.append((file, counted(said.get(file, said.get(shown(file))), unread), findings))
 
     def page(self):
         """The page: its files that were refused, and its sections with their counts and rows."""
         sections = []
         for file, counts, findings in self.files:
-            rows = sorted((part, name.encode(), line, column, rule, message.encode(), level == "error")
-                          for part, name, rule, (level, _, line, column, message) in findings)
+            rows = sorted((part, name.encode(), line, column, at, rule, message, level == "error", urls)
+                          for at, (part, name, rule, _, urls, (level, _, line, column, message)) in enumerate(findings))
             sections.append((shown(file), list(zip(COUNTS, counts)),
-                             [(PARTS[part], shown(name.decode()), message.decode(), f"{rule} \u00b7 {shown(file)}, line {line}, column {column}", counts)
-                              for part, name, line, column, rule, message, counts in rows]))
+                             [(PARTS[part], shown(name.decode()), message, f"{rule} \u00b7 {shown(file)}, line {line}, column {column}", counts, urls)
+                              for part, name, line, column, _, rule, message, counts, urls in rows]))
         return [(shown(file), message) for file, message in self.refused], sections
 
     def report(self):
@@ -102,16 +111,13 @@ class Wanted:
         tool = "npm_lock_check"
         for file, message in self.refused:
             case = {"classname": tool, "name": "the file is checked", "file": shown(file)}
-            suites.append((shown(file), "1 0 1 0", [(case, "error", {"type": "refused", "message": message}, None)]))
+            suites.append((shown(file), "1 0 1 0", [(case, "error", {"type": "refused"}, message)]))
         for file, _, findings in self.files:
             failed = sum(note[0] == "error" for *_, note in findings)
             cases = []
-            for _, _, rule, (level, _, line, column, message) in findings:
-                case = {"classname": f"{tool}.{rule}", "name": message, "file": shown(file), "line": str(line)}
-                if level == "error":
-                    cases.append((case, "failure", {"type": rule, "message": message}, f"{shown(file)}, line {line}, column {column}"))
-                else:
-                    cases.append((case, "skipped", {"message": message}, None))
+            for _, name, rule, folder, _, (level, _, line, _, message) in findings:
+                case = {"classname": f"{tool}.{rule}", "name": f"{rule}: {shown(name)} in {shown(folder) or 'the root'}", "file": shown(file), "line": str(line)}
+                cases.append((case, "failure", {"type": rule}, message) if level == "error" else (case, "skipped", {}, message))
             if not cases:
                 cases = [({"classname": tool, "name": "nothing is found", "file": shown(file)}, None, None, None)]
             suites.append((shown(file), f"{max(len(findings), 1)} {failed} 0 {len(findings) - failed}", cases))
@@ -121,19 +127,25 @@ class Wanted:
 # ---- what is read
 
 class Page:
-    """A page, as a browser reads it: its paragraphs before the sections, the files that were refused, the sections of
-    the others, and what is wrong with it."""
+    """A page, as a browser reads it: its first line, its paragraphs before the sections, the files that were refused, the sections of the
+    others with whether each passed, and what is wrong with it."""
 
     def __init__(self, text):
         parser = html5lib.HTMLParser(namespaceHTMLElements=False)
         root = parser.parse(text)
+        main = root.find("body/main")
         self.faults = [f"{code} at {place}" for place, code, _ in parser.errors]
         self.faults += [f"a tag that is no page's: {it.tag} {it.attrib}" for it in root.iter()
                         if it.tag not in TAGS or set(it.attrib) - ATTRIBUTES]
-        self.head = [it.text for it in root.findall("body/p")]
-        self.refused, self.sections = [], []
-        for section in root.findall("body/section"):
+        self.first = "".join(main[0].itertext())
+        self.head = [it.text for it in main.findall("p") if it.get("class") != "soft"]
+        self.refused, self.sections, self.passed = [], [], []
+        for section in main.findall("section"):
             self.read(section.findtext("h2"), section)
+        self.contents = [("".join(it.itertext())) for it in main.findall("nav/ul/li")]
+        # A link inside the page leads to a section or to a part, and there is one to each.
+        inside = [it.get("href")[1:] for it in root.iter("a") if it.get("href").startswith("#")]
+        self.links = (set(inside), {it.get("id") for it in root.iter() if it.get("id")})
 
     def read(self, name, section):
         """A section: its counts, and its rows with the headings above them; or why the file was refused."""
@@ -147,10 +159,13 @@ class Page:
             elif it.tag == "h4":
                 group = said
             elif it.find("small") is not None:
-                rows.append((part, group, it.text or "", it.findtext("small"), kind == "row"))
+                urls = [link.get("href") for link in it.iter("a") if link.text == link.get("href")]
+                rows.append((part, group, it.text or "", it.findtext("small"), kind == "row", urls))
             elif kind == "row":
                 refused.append((name, said))
-            elif it.tag != "h2" and (kind, said) not in (("fine", "Nothing was found."), ("bad", "Not checked")):
+            elif said in ("Passed", "Failed"):
+                self.passed.append((name, said == "Passed" and kind == "fine"))
+            elif it.tag not in ("h2", "nav") and (kind, said) not in (("fine", "Nothing was found."), ("bad", "Not checked")):
                 self.faults.append(f"a paragraph: {said}")
         self.refused += refused
         self.sections += [] if refused else [(name, counts, rows)]
@@ -187,22 +202,28 @@ def compare(program, arguments):
         done = subprocess.run([program, *arguments, "--format", form], stdin=subprocess.DEVNULL, capture_output=True, check=False)
         return done.returncode, done.stdout, done.stderr
 
-    values = {"--manifest", "--advisories", "--severity", "--node", "--ignore"}
+    values = {"--manifest", "--advisories", "--severity", "--node", "--ignore", "--omit"}
     files = [it for before, it in zip(["", *arguments], arguments) if not it.startswith("--") and before not in values]
     wanted = Wanted(run, files)
     for form, name in (("html", "page"), ("junit", "report")):
         status, text, errors = run(form)
         yield f"{name}: its status and standard error", (status, errors) == (wanted.status, wanted.errors), (status, errors)
-        bytes_of = set(text) - {10}
-        yield f"{name}: it is printable ASCII", all(32 <= byte <= 126 for byte in bytes_of), sorted(bytes_of)
+        hidden = HIDDEN.findall(text.decode().replace("\n", ""))
+        yield f"{name}: it has no hidden character", not hidden, hidden
         if form == "html":
             page = Page(text.decode())
             yield f"{name}: each tag is one of a page, and ends", not page.faults, page.faults
+            yield f"{name}: its first line says whether the check failed", page.first == f"The check {'failed' if wanted.status else 'passed'}", page.first
             complete = "Not every lock file was checked." if wanted.status == 2 else "Every lock file was checked."
-            yield f"{name}: whether every file was checked", page.head[1:] == [complete], page.head
+            yield f"{name}: whether every file was checked", page.head == [complete], page.head
             refused, sections = wanted.page()
             yield f"{name}: the files that were refused", page.refused == refused, (page.refused, refused)
             yield f"{name}: the sections", page.sections == sections, (page.sections, sections)
+            failed = [(file, not any(row[4] for row in rows)) for file, _, rows in sections]
+            yield f"{name}: which files passed", page.passed == failed, (page.passed, failed)
+            yield f"{name}: its links", page.links[0] == page.links[1], page.links
+            contents = [f"{file}: refused" for file, _ in refused] + [f"{file}: {'passed' if passed else 'failed'}" for file, passed in failed]
+            yield f"{name}: its contents", page.contents == contents, (page.contents, contents)
         else:
             read = list(suites_of(text))
             yield f"{name}: the suites", read == wanted.report(), (read, wanted.report())
@@ -244,7 +265,7 @@ def browse(path):
     light, dark = json.loads(html.unescape(found.group(1)))
     page = Page(files.read(os.path.abspath(path)))
     groups = [group for _, _, rows in page.sections for (_, group), _ in itertools.groupby(rows, lambda row: row[:2])]
-    yield "no script ran", light["ran"] == "undefined" and light["title"] == "Lock files", light
+    yield "no script ran", light["ran"] == "undefined" and light["title"] == f"{page.first}: lock files", light
     yield "each tag is one of a page", set(light["tags"]) <= TAGS, light["tags"]
     yield "the names are texts", light["groups"] == groups, (light["groups"], groups)
     yield "nothing is wider than 360 pixels", light["width"] == dark["width"] == 360, (light["width"], dark["width"])

@@ -12,8 +12,9 @@ INSIDE = {("SarifLog", "runs"): "Run", ("Run", "tool"): "Tool", ("Run", "invocat
           ("Tool", "driver"): "ToolComponent", ("ToolComponent", "rules"): "ReportingDescriptor",
           ("ReportingDescriptor", "shortDescription"): "MultiformatMessageString", ("ReportingDescriptor", "defaultConfiguration"): "ReportingConfiguration",
           ("Result", "message"): "Message", ("Result", "locations"): "Location", ("Location", "physicalLocation"): "PhysicalLocation",
-          ("PhysicalLocation", "artifactLocation"): "ArtifactLocation", ("PhysicalLocation", "region"): "Region"}
-LISTS = ("runs", "invocations", "results", "rules", "locations")
+          ("PhysicalLocation", "artifactLocation"): "ArtifactLocation", ("PhysicalLocation", "region"): "Region",
+          ("ReportingDescriptor", "properties"): "PropertyBag", ("Result", "suppressions"): "Suppression"}
+LISTS = ("runs", "invocations", "results", "rules", "locations", "suppressions")
 LEVELS = ("none", "note", "warning", "error")
 URI = re.compile(r"(?:[A-Za-z0-9._~:/?#@!$&'()*+,;=\[\]-]|%[0-9A-Fa-f]{2})+")
 TEXT = lambda it: isinstance(it, str) and it != ""
@@ -21,12 +22,16 @@ NUMBER = lambda least: lambda it: type(it) is int and it >= least
 # What stands in a member that is no object.
 VALUES = {"version": TEXT, "$schema": TEXT, "name": TEXT, "id": TEXT, "text": TEXT, "ruleId": TEXT, "ruleIndex": NUMBER(-1), "level": LEVELS.__contains__,
           "executionSuccessful": lambda it: type(it) is bool, "columnKind": ("utf16CodeUnits", "unicodeCodePoints").__contains__,
-          "uri": lambda it: TEXT(it) and URI.fullmatch(it), "startLine": NUMBER(1), "startColumn": NUMBER(1)}
+          "uri": lambda it: TEXT(it) and URI.fullmatch(it), "helpUri": lambda it: TEXT(it) and URI.fullmatch(it), "startLine": NUMBER(1), "startColumn": NUMBER(1),
+          "kind": ("inSource", "external").__contains__, "justification": TEXT,
+          "security-severity": lambda it: TEXT(it) and 0 < float(it) <= 10, "tags": lambda it: it == ["security"]}
 
 
 def members_of(name):
     """The members that an object of a class may have, and those that it must have."""
     import attr
+    if name == "PropertyBag":  # Section 3.8: it may have any member; GitHub reads these.
+        return {"security-severity", "tags"}, set()
     file = re.sub(r"(?<!^)(?=[A-Z])", "_", name).lower()
     made = getattr(importlib.import_module(f"sarif_om._{file}"), name)
     named = [(it.metadata["schema_property_name"], it.default) for it in attr.fields(made)]
@@ -79,6 +84,8 @@ def run_faults(run):
     for result in run.get("results", []):
         if ids[result.get("ruleIndex", -1):][:1] != [result.get("ruleId")]:
             yield f"{result.get('ruleId')} has the index of another rule"
+    if len({"suppressions" in it for it in run.get("results", [])}) > 1:  # Section 3.27.23: all of them, or none.
+        yield "some results have suppressions, and some have none"
     for text in [it["message"]["text"] for it in run.get("results", [])] + [it["shortDescription"]["text"] for it in rules if "shortDescription" in it]:
         try:
             plain(text)

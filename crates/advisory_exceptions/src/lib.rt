@@ -5,7 +5,9 @@
 
 mod error;
 mod exception;
+mod index;
 
 pub use error::{ExceptionFault, ExceptionsError};
 pub use exception::Exception;
+pub use index::ExceptionIndex;
 pub use toml_datetime::Date;

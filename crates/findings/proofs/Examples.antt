@@ -1,2 +1,1 @@
 pub mod PageExamples
-pub mod ReportExamples

@@ -7,26 +7,6 @@ last : {T E : Type 0} (r : Result T E) (new old more whole : List ℕ) → new �
 last (Ok x) new old more whole is same = is ∙ same
 last (Err e) new old more whole is same = tt
 
-module _ {T E : Type 0} (r : Result T E) (new before old a b d e f g h : List ℕ) where
-  seven_grouped : ((((((old ++ a) ++ b) ++ d) ++ e) ++ f) ++ g) ++ h ≡ old ++ (a ++ (b ++ (d ++ (e ++ (f ++ (g ++ h))))))
-  seven_grouped = simp append_assoc
-
-  -- seven texts
-  pub seven : before ≡ (((((old ++ a) ++ b) ++ d) ++ e) ++ f) ++ g → new ≡ (if is_ok r then before ++ h else before)
-      → OnOk r (new ≡ old ++ (a ++ (b ++ (d ++ (e ++ (f ++ (g ++ h)))))))
-  seven is added = last r new before h _ added (ap (λ text. text ++ h) is ∙ seven_grouped)
-
-module _ {T E : Type 0} (r : Result T E) (new before old a b d e f g h i j k : List ℕ) where
-  ten_grouped : (((((((((old ++ a) ++ b) ++ d) ++ e) ++ f) ++ g) ++ h) ++ i) ++ j) ++ k
-      ≡ old ++ (a ++ (b ++ (d ++ (e ++ (f ++ (g ++ (h ++ (i ++ (j ++ k)))))))))
-  ten_grouped = simp append_assoc
-
-  -- ten texts
-  pub ten : before ≡ ((((((((old ++ a) ++ b) ++ d) ++ e) ++ f) ++ g) ++ h) ++ i) ++ j
-      → new ≡ (if is_ok r then before ++ k else before)
-      → OnOk r (new ≡ old ++ (a ++ (b ++ (d ++ (e ++ (f ++ (g ++ (h ++ (i ++ (j ++ k))))))))))
-  ten is added = last r new before k _ added (ap (λ text. text ++ k) is ∙ ten_grouped)
-
 module _ {T E : Type 0} (r : Result T E) (new before old a b d e f g h i j k l : List ℕ) where
   eleven_grouped : ((((((((((old ++ a) ++ b) ++ d) ++ e) ++ f) ++ g) ++ h) ++ i) ++ j) ++ k) ++ l
       ≡ old ++ (a ++ (b ++ (d ++ (e ++ (f ++ (g ++ (h ++ (i ++ (j ++ (k ++ l))))))))))

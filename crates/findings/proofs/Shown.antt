@@ -1,10 +1,9 @@
 -- A place that was chosen is that of a path of the draft, and one finding more.
-use Rattle.std.proofs.Common.{◌≡◌, ◌∙◌, ◌+◌, ◌-◌, ◌++◌, ◌∷◌, [], ℕ, List, Some, ap, arith, inl, inr, length, map, option_map}
+use Rattle.std.proofs.Common.{◌≡◌, ◌∙◌, ◌+◌, ◌++◌, ◌∷◌, [], ℕ, List, Some, ap, arith, inl, inr, length, map, option_map}
 use Rattle.std.proofs.Common.{refl, subst, suc, sym, zero}
 use Rattle.std.specs.Prelude.{◌⊎◌, All, slice_get}
 use Rattle.std.proofs.lemmas.Option.{get_or_from_slice_get, slice_get-map, slice_get_within}
-use Rattle.std.proofs.lemmas.List.{length-map, length_push}
-use denote.Ref.{Bor}
+use Rattle.std.proofs.lemmas.List.{length_push}
 use Rattle.findings.specs.declared.finding.Finding.{Finding}
 use Rattle.json_places.specs.Places.{IsChoice, IsPlaceOf, IsShownAt, at_start, at_step, none, of_path}
 use Rattle.json_places.specs.Steps.{member_steps}

@@ -76,9 +76,12 @@ underscore = 95
 abbrev pub space : ℕ
 space = 32
 
--- `~`, the last printable character of ASCII
 abbrev pub tilde : ℕ
 tilde = 126
+
+-- the control character after it
+abbrev pub delete : ℕ
+delete = 127
 
 abbrev pub digit_zero : ℕ
 digit_zero = 48

@@ -1,10 +1,8 @@
 -- What a checker finds.
-use Rattle.std.specs.Prelude.{ℕ, List, codes, map}
+use Rattle.std.specs.Prelude.{ℕ, List, Bool, codes, is_some}
 use Rattle.findings.specs.declared.finding.Finding.{Finding}
 use Rattle.findings.specs.declared.finding.Level.{Level}
 use Rattle.findings.specs.declared.finding.Level.TheVariants.{Error, Note, Warning}
-use Rattle.findings.specs.declared.finding.Rule.{Rule}
-use Rattle.findings.specs.declared.finding.Tool.{Tool}
 
 -- SARIF's word for a level
 abbrev pub level_word : Level → List ℕ
@@ -18,14 +16,8 @@ command_word Error = codes "error"
 command_word Warning = codes "warning"
 command_word Note = codes "notice"
 
--- a kind of finding
-pub record RuleValue : Type 0 where
-  pub id : List ℕ
-  pub description : List ℕ
-  pub level : Level
-
--- a finding: its rule, by its `id` and by its place in the list of rules, its level and its message, and the file, the line
--- and the column where it is
+-- a finding: its kind, the place of its rule in the list of rules, its level and its message, the file, the line and the column where it is,
+-- and whether it is suppressed: it does not count
 pub record FindingValue : Type 0 where
   pub rule : List ℕ
   pub rule_index : ℕ
@@ -34,17 +26,9 @@ pub record FindingValue : Type 0 where
   pub file : List ℕ
   pub line : ℕ
   pub column : ℕ
+  pub suppressed : Bool
 
--- a checker
-pub record ToolValue : Type 0 where
-  pub name : List ℕ
-  pub version : List ℕ
-  pub rules : List RuleValue
-
--- what contracts see of them
-abbrev pub rule_value : Rule → RuleValue
-rule_value rule = record { id = rule.id.now; description = rule.description.now; level = rule.level }
-
+-- what contracts see of it
 abbrev pub finding_value : Finding → FindingValue
 finding_value finding = record {
   rule = finding.rule.now;
@@ -54,7 +38,5 @@ finding_value finding = record {
   file = finding.file.now;
   line = finding.line;
   column = finding.column;
+  suppressed = is_some finding.suppression;
 }
-
-abbrev pub tool_value : Tool → ToolValue
-tool_value tool = record { name = tool.name.now; version = tool.version.now; rules = map rule_value tool.rules.now }

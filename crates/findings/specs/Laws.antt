@@ -1,10 +1,10 @@
 -- No text of a page or of a report is read as markup.
-use Rattle.std.specs.Prelude.{◌≡◌, ◌<◌, ◌||◌, ◌==◌, ℕ, List, [], ◌∷◌, ◌++◌, Bool, true, false, codes, filter, nat_lt}
+use Rattle.std.specs.Prelude.{◌≡◌, ◌<◌, ◌||◌, ◌==◌, ℕ, List, [], ◌∷◌, ◌++◌, Bool, false, codes, filter, nat_lt}
 use Rattle.std.specs.List.{AllByRecursion, flat_map, list_any}
 use Rattle.findings.specs.Characters as Characters
-use Rattle.findings.specs.Characters.{greater_sign, less_sign, space, tilde}
-use Rattle.findings.specs.PageEscapes.{escaped, other_byte}
-use Rattle.findings.specs.Pieces.{PieceValue, markup, number, text, written}
+use Rattle.findings.specs.Characters.{delete, greater_sign, less_sign, space}
+use Rattle.findings.specs.PageEscapes.{escaped, visible}
+use Rattle.findings.specs.Pieces.{PieceValue, address, markup, message, number, text, written}
 
 -- ---- what a reader of HTML or of XML reads
 
@@ -28,19 +28,19 @@ pub data IsReadAs : (escapes : List ℕ) → (read : List ℕ) → Type 0 where
   quotation_mark : (rest read : List ℕ) → IsReadAs rest read → IsReadAs (codes "&quot;" ++ rest) (Characters.quotation_mark ∷ read)
   apostrophe : (rest read : List ℕ) → IsReadAs rest read → IsReadAs (codes "&#39;" ++ rest) (Characters.apostrophe ∷ read)
 
--- the law: what is read is the text, with each byte that is no printable ASCII by its number
+-- the law: what is read is the text, with control characters and those that are not seen by their numbers
 abbrev pub IsReadAsItself : (any : List ℕ) → Type 0
-IsReadAsItself any = IsReadAs (escaped any) (flat_map other_byte any)
+IsReadAsItself any = IsReadAs (escaped any) (visible any)
 
 -- ---- characters
 
--- a control character, or a byte that is no ASCII
-abbrev pub is_unprintable : (byte : ℕ) → Bool
-is_unprintable byte = nat_lt byte space || nat_lt tilde byte
+-- a control character of ASCII
+abbrev pub is_control : (byte : ℕ) → Bool
+is_control byte = nat_lt byte space || byte == delete
 
--- the law: of a text of bytes, printable ASCII alone is written, which XML 1.0 allows
-abbrev pub IsPrintable : (any : List ℕ) → Type 0
-IsPrintable any = AllByRecursion (λ byte. byte < 256) any → list_any is_unprintable (escaped any) ≡ false
+-- the law: of a text of bytes no control character is written, which XML 1.0 does not allow
+abbrev pub HasNoControl : (any : List ℕ) → Type 0
+HasNoControl any = AllByRecursion (λ byte. byte < 256) any → list_any is_control (escaped any) ≡ false
 
 -- ---- marks
 
@@ -48,6 +48,8 @@ IsPrintable any = AllByRecursion (λ byte. byte < 256) any → list_any is_unpri
 abbrev pub markup_of : PieceValue → List ℕ
 markup_of (markup fixed) = fixed
 markup_of (text any) = []
+markup_of (message any) = []
+markup_of (address any) = []
 markup_of (number count) = []
 
 -- the law: the marks of what is written are those of the markup, each once and in order

@@ -1,2 +1,3 @@
 -- What private functions are said to compute.
 pub mod DraftPaths
+pub mod Told

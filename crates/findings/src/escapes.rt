@@ -128,7 +128,7 @@ pub fn push_uri(out: &mut Vec<u8>, path: &[u8]) -> Result<(), AllocError>
 }
 
 /// Adds the bytes of a path in a URI.
-fn push_uri_bytes(out: &mut Vec<u8>, path: &[u8]) -> Result<(), AllocError>
+pub fn push_uri_bytes(out: &mut Vec<u8>, path: &[u8]) -> Result<(), AllocError>
     ensures { OnOk result (out.new.items ≡ out.old.items ++ flat_map Escapes.uri_byte path.now) }
 {
     for byte in path {

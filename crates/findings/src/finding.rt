@@ -41,14 +41,18 @@ pub struct Rule<'a> {
     pub id: &'a str,
     /// A short description.
     pub description: &'a str,
+    /// The address of a page about it.
+    pub help: &'a str,
     /// The level that findings of this kind have by default.
     pub level: Level,
+    /// How severe it is, from `0.0` to `10.0`, if it is about security.
+    pub severity: Option<&'a str>,
 }
 
 /// What a checker finds in a file.
 #[derive(Debug, Drop)]
 pub struct Finding<'a> {
-    /// The `id` of its rule.
+    /// Its kind: the `id` of its rule, or a word for several rules.
     pub rule: &'a str,
     /// The place of the rule in the tool's list, counted from 0.
     pub rule_index: usize,
@@ -61,6 +65,8 @@ pub struct Finding<'a> {
     pub line: usize,
     /// The column, counted from 1 in characters (Unicode code points).
     pub column: usize,
+    /// Why it does not count, in UTF-8, if it does not.
+    pub suppression: Option<Vec<u8>>,
 }
 
 /// A checker.

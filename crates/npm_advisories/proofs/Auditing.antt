@@ -1,14 +1,14 @@
 -- An audit, one installed package after another.
-use Rattle.std.proofs.Common.{◌≡◌, ◌||◌, ◌++◌, ◌<◌, ◌+◌, ℕ, List, [], ◌∷◌, Bool, Option, true, false, ap, arith}
+use Rattle.std.proofs.Common.{◌≡◌, ◌||◌, ◌++◌, ◌<◌, ◌+◌, ℕ, List, [], ◌∷◌, Bool, true, false, ap, arith}
 use Rattle.std.proofs.Common.{bytes_eq, get_or, length, map, refl, suc, sym, take, zero}
 use Rattle.std.specs.Prelude.{◌==◌, ◌≢◌}
 use Rattle.std.proofs.lemmas.Bool.{eqb-true}
 use Rattle.std.proofs.lemmas.List.{map-append, nil_from_length, take_more}
 use Rattle.std.proofs.lemmas.Slice.Eq.{bytes_eq-Decides}
-use Rattle.node_semver.specs.Versions.{VersionValue}
 use Rattle.npm_advisories.specs.Advisories.{AdvisoryValue, about_name}
 use Rattle.npm_advisories.specs.Audit.{FoundValue, InstalledValue, IsAudit, IsFound, IsSpared, found_value, hit}
 use Rattle.npm_advisories.specs.Audit.{installed_value, names_of, none, spared}
+use Rattle.npm_advisories.specs.Hits.{Known}
 use Rattle.npm_advisories.specs.Files.{is_among}
 use Rattle.npm_advisories.specs.Private.Auditing.{IsFoundOf}
 use Rattle.npm_advisories.specs.declared.found.Found.{Found}
@@ -24,7 +24,7 @@ module _ (level : Severity) (values : List AdvisoryValue) (one : InstalledValue)
   one-spared _ _ (hit a v f before found here more) is =
       hit a v f (before ++ one ∷ []) found here (one-spared before found more is)
 
-  one-hit : (v : Option VersionValue) (new : FoundValue) (before : List InstalledValue) (found : List FoundValue)
+  one-hit : (v : Known) (new : FoundValue) (before : List InstalledValue) (found : List FoundValue)
       → IsAudit level values before found → IsFound level (about_name one.name values) one v new
       → IsAudit level values (before ++ one ∷ []) (found ++ new ∷ [])
   one-hit v new _ _ none is = hit one v new [] [] is none
@@ -58,7 +58,7 @@ module _ (level : Severity) (values : List AdvisoryValue) (installed : List Inst
         map-append installed_value (take i installed) (one ∷ []),
         map-append found_value found (new ∷ []),
       )
-      (one-hit level values (installed_value one) is.version (found_value new) (map installed_value (take i installed))
+      (one-hit level values (installed_value one) is.known (found_value new) (map installed_value (take i installed))
       (map found_value found) before is.is)
 
 -- ---- the names of installed packages

@@ -6,7 +6,7 @@ use Rattle.std.specs.List.{AllZip}
 use Rattle.semver_cuts.specs.Ends.{Ends}
 use Rattle.node_semver.specs.Versions.{VersionValue}
 use Rattle.npm_advisories.specs.Advisories.{AboutValue, AdvisoryValue, about_value}
-use Rattle.npm_advisories.specs.Hits.{AreHits, AreKept, IsAbout, IsHit, kept, left, none}
+use Rattle.npm_advisories.specs.Hits.{AreHits, AreKept, IsAbout, IsHit, kept, left, none, said}
 use Rattle.npm_advisories.specs.Offers.{IsAdmitted, IsAffected, IsUnhit}
 use Rattle.npm_advisories.specs.Private.Covering.{AreCovered}
 use Rattle.npm_advisories.specs.Private.Offering.{IsAdmittedBy, IsUnhitBy}
@@ -47,12 +47,12 @@ module _ {A B C : Type 0} (Holds : A → Type 0) (seen : A → B) (value : C →
 -- ---- advisories that were read
 
 in-about : (v : Option VersionValue) (value : AdvisoryValue) (one : Advisory) → IsAdvisory value one
-    → IsIn one v ↔ IsAbout value.affected v
+    → IsIn one v ↔ IsAbout value.affected (said v)
 in-about (Some v) value one is = is.range.means v
 in-about None value one is = (λ any. any, λ any. any)
 
 module _ (level : Severity) (v : Option VersionValue) where
-  hit-same : (value : AdvisoryValue) (one : Advisory) → IsAdvisory value one → IsHitBy level v one ↔ IsHit level v value
+  hit-same : (value : AdvisoryValue) (one : Advisory) → IsAdvisory value one → IsHitBy level v one ↔ IsHit level (said v) value
   hit-same value one is =
       let same = ap (λ (about : AboutValue). about.severity) is.about in (
         λ hit. record {
@@ -69,13 +69,13 @@ module _ (level : Severity) (v : Option VersionValue) where
   pub hits-same : (values : List AdvisoryValue) (advisories : List Advisory) (hits : List AboutValue)
       → AllZip IsAdvisory values advisories
       → AreKept (IsHitBy level v) (λ advisory. about_value advisory.about) advisories hits
-      → AreHits level v values hits
+      → AreHits level (said v) values hits
   hits-same [] _ _ are none = none
   hits-same (value ∷ values) _ _ are none = absurd are
   hits-same [] _ _ are (kept one advisories hits here more) = absurd are
   hits-same [] _ _ are (left one advisories hits not more) = absurd are
   hits-same (value ∷ values) _ _ are (kept one advisories hits here more) =
-      subst (λ about. AreHits level v (value ∷ values) (about ∷ hits)) (sym are.0.about)
+      subst (λ about. AreHits level (said v) (value ∷ values) (about ∷ hits)) (sym are.0.about)
       (kept value values hits ((hit-same value one are.0).0 here) (hits-same values advisories hits are.1 more))
   hits-same (value ∷ values) _ _ are (left one advisories hits not more) =
       left value values hits (λ hit. not ((hit-same value one are.0).1 hit))

@@ -11,6 +11,7 @@ pub mod Stepping
 pub mod Keeping
 pub mod Halving
 pub mod Auditing
+pub mod EachRelease
 pub mod Listing
 pub mod Covering
 pub mod ReleaseCuts

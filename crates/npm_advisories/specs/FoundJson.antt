@@ -22,9 +22,9 @@ abbrev pub about_data : AboutValue → Data
 about_data about = object (with_text (codes "url") about.url (with_text (codes "title") about.title
     (put (codes "severity") (string (word_of about.severity)) (put (codes "id") about.id no_members))))
 
--- a package that is hit: its folder, name and version, the list of its hits, and the versions that are offered
+-- a package that is hit: its folder and name, its version if it has one, the list of its hits, and the versions that are offered
 abbrev pub found_data : FoundValue → Data
 found_data found = object (with_version (codes "admitted") found.admitted
     (with_version (codes "least") found.least (put (codes "advisories") (array (items_of (map about_data found.hits)))
-    (put (codes "version") (string found.version) (put (codes "name") (string found.name)
+    (with_text (codes "version") found.version (put (codes "name") (string found.name)
     (put (codes "folder") (string found.folder) no_members))))))

@@ -1,5 +1,5 @@
 -- By which ids an advisory is known: the OSV schema's "id" and "aliases".
-use Rattle.std.specs.Prelude.{◌||◌, ℕ, List, Bool, bytes_eq, decimal, false}
+use Rattle.std.specs.Prelude.{◌||◌, ℕ, List, Bool, decimal, false}
 use Rattle.std.specs.Option.{option_map_or}
 use Rattle.serde_json.specs.Data.{Data, Items, item, no_items, number, string, unsigned}
 use Rattle.serde_json.specs.Find.{as_str}
@@ -18,7 +18,7 @@ any_is id (item value others) = is_text id value || any_is id others
 -- an `id` is this text, or a number with these digits
 abbrev pub is_id : (id : List ℕ) → (value : Data) → Bool
 is_id id (string text) = is_word id text
-is_id id (number (unsigned n)) = bytes_eq (decimal n) id
+is_id id (number (unsigned n)) = is_word id (decimal n)
 is_id id _ = false
 
 -- the `id` of an advisory is, or one of its aliases: nothing else is an id of it, not even the end of an address

@@ -21,20 +21,19 @@ pub data IsName (folder : List ℕ) (alias : Option (List ℕ)) (entry : Data) :
   unsaid : (name : List ℕ) → (text_of (codes "name") entry ≡ None) ⊎ (text_of (codes "name") entry ≡ Some [])
       → IsUnsaidName folder alias name → IsName folder alias entry name
 
--- the package in a folder, which is neither the root nor a link, and has a version
+-- the package in a folder, which is neither the root nor a link
 pub record IsInstalledAs (texts_at : (folder : List ℕ) → List (List ℕ)) (alias_at : (folder : List ℕ) → Option (List ℕ))
     (folder : List ℕ) (entry : Data) (one : InstalledValue) : Type 0 where
   pub no_root : folder ≢ []
   pub no_link : is_link entry ≡ false
   pub name : IsName folder (alias_at folder) entry one.name
-  pub version : text_of (codes "version") entry ≡ Some one.version
+  pub version : text_of (codes "version") entry ≡ one.version
   pub same : one.folder ≡ folder
   pub asked : one.asked ≡ texts_at folder
 
 -- any other member of `packages`
 abbrev pub IsOther : (folder : List ℕ) → (entry : Data) → Type 0
-IsOther folder entry =
-    (folder ≡ []) ⊎ (is_link entry ≡ true) ⊎ (text_of (codes "version") entry ≡ None)
+IsOther folder entry = (folder ≡ []) ⊎ (is_link entry ≡ true)
 
 -- the packages of a lock file, in the order of their folders' bytes
 pub data AreInstalled (texts_at : (folder : List ℕ) → List (List ℕ)) (alias_at : (folder : List ℕ) → Option (List ℕ))

@@ -1,12 +1,14 @@
 //! The audit of installed packages.
-ghost use Rattle.std.specs.Prelude.{◌≡◌, List, IfErr, IfOk, None, OnOk, Option, map};
+ghost use Rattle.std.specs.Prelude.{◌≡◌, [], List, IfErr, IfOk, None, OnOk, Option, map};
 ghost use Rattle.std.specs.List.{AllZip};
 ghost use Rattle.std.specs.Option.{MatchOption};
 ghost use Rattle.serde_json.specs.View.{view};
-ghost use Rattle.npm_advisories.specs.Advisories.{AdvisoryValue, about_name};
-ghost use Rattle.npm_advisories.specs.Audit.{IsAudit, IsSpared, found_value, installed_value, names_of};
+ghost use Rattle.node_semver.specs.Ranges.{IsRangeEnd};
+ghost use Rattle.npm_advisories.specs.Advisories.{AdvisoryValue, about_name, about_value};
+ghost use Rattle.npm_advisories.specs.Audit.{IsAudit, IsSpared, found_value, installed_value, names_of, version_or_least};
 ghost use Rattle.npm_advisories.specs.Files.{IsAuditError, IsFileFault, advisories_of, is_among};
-ghost use Rattle.npm_advisories.specs.Private.Auditing.{IsFoundOf};
+ghost use Rattle.npm_advisories.specs.Private.Auditing.{IsFoundOf, IsFoundWith};
+ghost use Rattle.npm_advisories.specs.Private.Covering.{AreSteps};
 ghost use Rattle.npm_advisories.specs.Index.{IsAdvisory, IsIndex, at_name};
 ghost use Rattle.npm_advisories.specs.Private.Unions.{IsKnown};
 
@@ -17,7 +19,8 @@ use crate::read::read_file;
 use crate::unions::Unions;
 use crate::version::read_version;
 use crate::{About, AuditError, Result, Severity};
-use node_semver::Version;
+use node_semver::{Version, VersionRef};
+use semver_cuts::Span;
 use serde_json::Value;
 use std::alloc::Global;
 use toml_datetime::Date;
@@ -28,7 +31,8 @@ pub struct Installed<'v> {
     /// Where it is. The audit only repeats it.
     pub folder: &'v str,
     pub name: &'v str,
-    pub version: &'v str,
+    /// `None`: the package has none, as one in a folder or in a repository may have none.
+    pub version: Option<&'v str>,
     /// The range texts of its dependents.
     pub asked: Vec<&'v str>,
 }
@@ -38,7 +42,7 @@ pub struct Installed<'v> {
 pub struct Found<'f, 'v> {
     pub folder: &'v str,
     pub name: &'v str,
-    pub version: &'v str,
+    pub version: Option<&'v str>,
     /// The advisories that hit it, in the order of the file.
     pub hits: Vec<About<'f>>,
     /// The least release above its version that no advisory about its name hits.
@@ -57,7 +61,8 @@ pub struct Found<'f, 'v> {
 /// An advisory in OSV's form that is withdrawn today or earlier hits nothing. One that is withdrawn on a later day counts until then.
 ///
 /// A version is read as npm reads it: `=1.2.3` is 1.2.3. A version that is none is hit by each advisory about the name, since
-/// nobody knows which one it is. Then the least releases of all are offered.
+/// nobody knows which one it is. Then the least releases of all are offered. A package without a version is hit by those that are
+/// about each release, and no version is offered.
 ///
 /// # Errors
 ///
@@ -114,7 +119,7 @@ fn found_in<'f, 'v>(
 fn found_of<'f, 'v>(
     alloc: Global,
     index: &Index<'f>,
-    unions: &Unions<'v>,
+    unions: &Unions<'f, 'v>,
     level: Severity,
     installed: &Installed<'v>,
 ) -> Result<Option<Found<'f, 'v>>>
@@ -131,12 +136,37 @@ fn found_of<'f, 'v>(
     let Some(union) = unions.at(installed.name) else {
         return Ok(None);
     };
-    let version = read_version(installed.version);
-    let hits = union.hits(alloc, advisories, level, &version)?;
+    match installed.version {
+        Some(text) => {
+            let version = read_version(text);
+            let hits = union.hits(alloc, advisories, level, &version)?;
+            found_with(alloc, installed, union.covered(), &version, hits)
+        }
+        None => {
+            let hits = union.hits_of_each(alloc, level)?;
+            found_with(alloc, installed, union.covered(), &None, hits)
+        }
+    }
+}
+
+/// What is found of an installed package that these advisories hit, if there are some. The spans are the releases that any advisory about
+/// its name is about.
+fn found_with<'f, 'v>(
+    alloc: Global,
+    installed: &Installed<'v>,
+    covered: &[Span<Version>],
+    version: &Option<VersionRef<'_>>,
+    hits: Vec<About<'f>>,
+) -> Result<Option<Found<'f, 'v>>>
+    requires end { IsRangeEnd (version_or_least version.now) }
+    requires covered { AreSteps covered.now }
+    ensures { IfOk result (λ found. MatchOption found (map about_value hits.entry.items ≡ [])
+        (λ found. IsFoundWith covered.now (installed_value installed.now) version.now (map about_value hits.entry.items) (found_value found))) }
+{
     if hits.as_slice().is_empty() {
         return Ok(None);
     }
-    let offer = offer_above(alloc, &version, union.covered(), &installed.asked)?;
+    let offer = offer_above(alloc, version, covered, &installed.asked)?;
     Ok(Some(Found {
         folder: installed.folder,
         name: installed.name,

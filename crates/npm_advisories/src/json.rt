@@ -19,7 +19,7 @@ impl<'f, 'v> Found<'f, 'v> {
         let mut members = Map::new(alloc);
         put_text(&mut members, alloc, "folder", Some(self.folder))?;
         put_text(&mut members, alloc, "name", Some(self.name))?;
-        put_text(&mut members, alloc, "version", Some(self.version))?;
+        put_text(&mut members, alloc, "version", self.version)?;
         put(
             &mut members,
             alloc,

@@ -43,7 +43,7 @@ fn is_id(value: &Value, id: &str) -> bool
         return text.eq_ignore_ascii_case(id);
     }
     match value.as_u64() {
-        Some(number) => Buffer::new().format(number) == id,
+        Some(number) => Buffer::new().format(number).eq_ignore_ascii_case(id),
         None => false,
     }
 }

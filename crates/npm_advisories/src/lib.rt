@@ -3,6 +3,7 @@
 
 mod advisory;
 mod covered;
+mod each;
 mod fault;
 mod found;
 mod halves;

@@ -33,9 +33,9 @@ pub enum LockError<'f> {
 
 /// Returns the installed packages of a lock file that an advisory hits, in the order of their folders' bytes.
 ///
-/// Each member of `packages` counts that is neither the root nor a link, and has a version. The name is `name`, which an
-/// alias has as npm writes it. Where that is missing it is the name by which an alias asks for the package, or else the last part of the
-/// folder with its scope: `w` for `packages/w`. [`audit`] says which are hit.
+/// Each member of `packages` counts that is neither the root nor a link. The name is `name`, which an alias has as npm writes it.
+/// Where that is missing it is the name by which an alias asks for the package, or else the last part of the folder with its scope: `w`
+/// for `packages/w`. [`audit`] says which are hit.
 ///
 /// # Errors
 ///
@@ -159,14 +159,11 @@ fn installed_as<'v>(
     if folder.is_empty() || is_link(entry) {
         return Ok(None);
     }
-    let Some(version) = text_at(entry, "version") else {
-        return Ok(None);
-    };
     let asked = asked_at(alloc, dependents, folder)?;
     Ok(Some(Installed {
         folder,
         name: name_in(folder, aliases, entry),
-        version,
+        version: text_at(entry, "version"),
         asked,
     }))
 }

@@ -1,13 +1,15 @@
 //! All versions that the advisories about one package are about, merged once: copies of the package are searched in them.
-ghost use Rattle.std.specs.Prelude.{◌≡◌, IfOk, OnOk, map, option_map};
+ghost use Rattle.std.specs.Prelude.{◌≡◌, IfOk, OnOk, filter, map, option_map};
 ghost use Rattle.npm_advisories.specs.Advisories.{about_value};
 ghost use Rattle.npm_advisories.specs.Hits.{AreKept};
 ghost use Rattle.npm_advisories.specs.Private.Spans.{IsHitBy};
 ghost use Rattle.npm_advisories.specs.Private.Unions.{AreUnions, IsKnown, IsUnion, union_at};
+ghost use Rattle.npm_advisories.specs.Severities.{is_at_least};
 ghost use Rattle.npm_advisories.specs.declared.index.Index.{Index};
 
 use crate::advisory::Advisory;
 use crate::covered::covered_by;
+use crate::each::{about_each, of_level};
 use crate::halves::Halves;
 use crate::index::Index;
 use crate::spans::sets_of;
@@ -19,32 +21,39 @@ use std::collections::BTreeMap;
 
 /// All versions that advisories are about.
 #[derive(Drop)]
-pub(crate) struct Union {
+pub(crate) struct Union<'f> {
     /// The versions of the list and of its halves.
     halves: Halves,
     /// All releases among them.
     covered: Vec<Span<Version>>,
+    /// What the advisories that are about each release say of themselves.
+    each: Vec<About<'f>>,
 }
 
-impl Union {
+impl<'f> Union<'f> {
     /// Those of the advisories of a list.
-    fn of(alloc: Global, advisories: &[Advisory<'_>]) -> Result<Union>
+    fn of(alloc: Global, advisories: &[Advisory<'f>]) -> Result<Union<'f>>
         ensures { IfOk result (IsUnion advisories.now) }
     {
         let halves = Halves::of(alloc, advisories)?;
         let sets = sets_of(alloc, advisories)?;
         let covered = covered_by(alloc, &sets)?;
-        Ok(Union { halves, covered })
+        let each = about_each(alloc, advisories, &covered)?;
+        Ok(Union {
+            halves,
+            covered,
+            each,
+        })
     }
 
     /// What the advisories of the list that hit a version say of themselves; all of the level if there is no version.
-    pub(crate) fn hits<'v>(
+    pub(crate) fn hits(
         &self,
         alloc: Global,
-        advisories: &[Advisory<'v>],
+        advisories: &[Advisory<'f>],
         level: Severity,
         version: &Option<VersionRef<'_>>,
-    ) -> Result<Vec<About<'v>>>
+    ) -> Result<Vec<About<'f>>>
         requires { IsUnion advisories.now self.now }
         ensures { IfOk result (λ hits. AreKept (IsHitBy level version.now) (λ advisory. about_value advisory.about)
             advisories.now (map about_value hits.items)) }
@@ -53,6 +62,14 @@ impl Union {
         self.halves
             .add_hits(alloc, advisories, level, version, &mut hits)?;
         Ok(hits)
+    }
+
+    /// What the advisories of the list that are about each release say of themselves: they hit a package without a version.
+    pub(crate) fn hits_of_each(&self, alloc: Global, level: Severity) -> Result<Vec<About<'f>>>
+        ensures { IfOk result (λ hits. map about_value hits.items
+            ≡ filter (λ about. is_at_least level about.severity) (map about_value self.now.each.items)) }
+    {
+        of_level(alloc, &self.each, level)
     }
 
     /// All releases among the versions, as spans.
@@ -65,12 +82,12 @@ impl Union {
 
 /// The unions by the names of packages.
 #[derive(Drop)]
-pub(crate) struct Unions<'v> {
-    by_name: BTreeMap<&'v str, Union>,
+pub(crate) struct Unions<'f, 'v> {
+    by_name: BTreeMap<&'v str, Union<'f>>,
 }
 
-impl<'v> Unions<'v> {
-    pub(crate) fn new(alloc: Global) -> Unions<'v>
+impl<'f, 'v> Unions<'f, 'v> {
+    pub(crate) fn new(alloc: Global) -> Unions<'f, 'v>
         ensures { (index : Index) → AreUnions index result }
     {
         Unions {
@@ -79,7 +96,7 @@ impl<'v> Unions<'v> {
     }
 
     /// Adds the union of the advisories about a package, unless it is there.
-    pub(crate) fn add(&mut self, alloc: Global, index: &Index<'_>, name: &'v str) -> Result<()>
+    pub(crate) fn add(&mut self, alloc: Global, index: &Index<'f>, name: &'v str) -> Result<()>
         ensures all { OnOk result (AreUnions index.now self.old → AreUnions index.now self.new) }
         ensures here { OnOk result (AreUnions index.now self.old → IsKnown index.now self.new name.now) }
     {
@@ -95,7 +112,7 @@ impl<'v> Unions<'v> {
     }
 
     /// The union of the advisories about a package, if it was added.
-    pub(crate) fn at(&self, name: &str) -> Option<&Union>
+    pub(crate) fn at(&self, name: &str) -> Option<&Union<'f>>
         ensures { option_map (λ union. union.now) result ≡ union_at self.now name.now }
     {
         self.by_name.get(name)

@@ -114,7 +114,7 @@ fn hit(alloc: Global, file: &Value, name: &str, version: &str) -> Answer {
     let one = Installed {
         folder: "",
         name,
-        version,
+        version: Some(version),
         asked: Vec::new(alloc),
     };
     is_hit(alloc, audit(alloc, file, TODAY, Severity::Info, &[one]))

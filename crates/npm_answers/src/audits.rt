@@ -2,13 +2,13 @@
 use crate::answer;
 use crate::answer::Answer;
 use crate::lists::push_json;
-use crate::members::{items_in, items_of, text_in, texts_of};
+use crate::members::{items_in, items_of, text_if_any, text_in, texts_of};
 use node_semver::Version;
 use npm_advisories::{AdvisoryId, AuditError, Fault, Found, Installed};
 use serde_json::Value;
 use std::alloc::{AllocError, Global};
 
-/// The packages of a list: each has `folder`, `name`, `version`, and the range texts `asked`.
+/// The packages of a list: each has `folder`, `name`, `version` if it has one, and the range texts `asked`.
 pub(crate) fn installed_of(alloc: Global, list: &Value) -> Result<Vec<Installed<'_>>, AllocError> {
     let mut all = Vec::new(alloc);
     for item in items_of(list) {
@@ -21,7 +21,7 @@ fn installed(alloc: Global, item: &Value) -> Result<Installed<'_>, AllocError> {
     Ok(Installed {
         folder: text_in(item, "folder"),
         name: text_in(item, "name"),
-        version: text_in(item, "version"),
+        version: text_if_any(item, "version"),
         asked: texts_of(alloc, items_in(item, "asked"))?,
     })
 }

@@ -32,7 +32,7 @@ fn title_of<'f>(alloc: Global, file: &'f Value, name: &str, version: &str) -> Op
     let one = Installed {
         folder: "",
         name,
-        version,
+        version: Some(version),
         asked: Vec::new(alloc),
     };
     match &audit(alloc, file, TODAY, Severity::Info, &[one]) {

@@ -22,7 +22,16 @@ pub(crate) fn finding_of(alloc: Global, item: &Value) -> Result<Finding<'_>, All
         file: text_in(item, "file"),
         line: number_in(item, "line"),
         column: number_in(item, "column"),
+        suppression: suppression_in(alloc, item)?,
     })
+}
+
+/// Why a finding does not count, if it says why.
+fn suppression_in(alloc: Global, item: &Value) -> Result<Option<Vec<u8>>, AllocError> {
+    match text_in(item, "suppression") {
+        "" => Ok(None),
+        reason => Ok(Some(Vec::from_slice(alloc, reason.as_bytes())?)),
+    }
 }
 
 fn level_in(item: &Value) -> Level {
@@ -40,10 +49,20 @@ pub(crate) fn rules_of(alloc: Global, list: &[Value]) -> Result<Vec<Rule<'_>>, A
         rules.push(Rule {
             id: text_in(item, "id"),
             description: text_in(item, "description"),
+            help: text_in(item, "help"),
             level: level_in(item),
+            severity: severity_in(item),
         })?;
     }
     Ok(rules)
+}
+
+/// How severe a rule is, if it says so.
+fn severity_in(item: &Value) -> Option<&str> {
+    match text_in(item, "severity") {
+        "" => None,
+        score => Some(score),
+    }
 }
 
 /// The drafts of a list. Each has a list of paths, and a path is a list of names.
@@ -62,6 +81,7 @@ fn draft_of(alloc: Global, item: &Value) -> Result<Draft<'_, '_>, AllocError> {
         level: level_in(item),
         message: Vec::from_slice(alloc, text_in(item, "message").as_bytes())?,
         paths: name_paths(alloc, items_in(item, "paths"))?,
+        suppression: suppression_in(alloc, item)?,
     })
 }
 

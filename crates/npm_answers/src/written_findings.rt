@@ -82,7 +82,7 @@ fn log(
     };
     let findings = findings_of(alloc, findings)?;
     let mut out = Vec::new(alloc);
-    push_log(&mut out, tool, &findings, is_successful)?;
+    push_log(alloc, &mut out, tool, &findings, is_successful)?;
     String::from_str(alloc, text_of(&out))
 }
 

@@ -3,4 +3,6 @@ pub mod CheckedFiles
 pub mod Examples
 pub mod FoundOnDisk
 pub mod LinkedManifests
+pub mod Marking
+pub mod Saying
 pub mod Stopping

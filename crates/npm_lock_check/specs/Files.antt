@@ -35,7 +35,7 @@ IsAdded outcomes outputs (Err error) new_outcomes new_outputs =
 
 -- ---- what is written
 
--- every lock file was checked
+-- every lock file was checked, as a log and a page say
 abbrev pub is_complete : List (Result Report StopError) → Bool
 is_complete [] = true
 is_complete (Ok report ∷ outcomes) = is_complete outcomes
@@ -47,12 +47,12 @@ abbrev pub IsRunText : Format → PathsValue → (outer : List ℕ) → (files :
     → List (Result Report StopError) → List Output → (text : List ℕ) → Type 0
 IsRunText format asked outer files outcomes outputs text = (refusals : List RefusalValue)
     × (map place_of refusals ≡ refused_in asked outer files outcomes)
-    × IsWritten format outputs refusals (is_complete outcomes) text
+    × IsWritten format outputs refusals text
 
 -- the same where a file that all lock files need was refused: no lock file was checked
 abbrev pub IsStopText : Format → PathsValue → (outer : List ℕ) → StopError → (text : List ℕ) → Type 0
 IsStopText format asked outer error text = (refusals : List RefusalValue)
-    × (map place_of refusals ≡ refused_by asked outer (codes "-") error) × IsWritten format [] refusals false text
+    × (map place_of refusals ≡ refused_by asked outer (codes "-") error) × IsWritten format [] refusals text
 
 -- ---- the status
 

@@ -12,6 +12,6 @@ pub mod Refused  -- the files that were refused, and where
 pub mod Outputs  -- the output for all lock files
 pub mod Files  -- a run over several lock files
 pub mod PageLaws  -- no text in a page of them is read as markup
-pub mod Exceptions  -- what is said of an exception
+pub mod Exceptions  -- what is said of exceptions
 -- ---- not part of any public contract: what private functions compute
 pub mod Private

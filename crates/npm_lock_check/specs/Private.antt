@@ -1,3 +1,4 @@
 -- What private functions are said to compute.
 
 pub mod Refusals  -- why values are refused
+pub mod Marks  -- which exceptions may apply

@@ -1,5 +1,5 @@
 -- The report of a lock file.
-use Rattle.std.specs.Prelude.{◌≡◌, ◌&&◌, ℕ, List, [], ◌∷◌, ◌++◌, Bool, Option, Some, None, filter}
+use Rattle.std.specs.Prelude.{◌≡◌, ◌&&◌, ◌||◌, ℕ, List, [], ◌∷◌, ◌++◌, Bool, Option, Some, None, filter}
 use Rattle.std.specs.Prelude.{if◌then◌else◌}
 use Rattle.std.specs.Prelude.{codes, is_some, length, map, not, option_and_then, option_map}
 use Rattle.std.specs.Prelude.{string_bytes, true, Result, Ok, Err}
@@ -16,9 +16,9 @@ use Rattle.npm_lock.specs.FoundWorkspaces.{workspace_problem}
 use Rattle.npm_lock.specs.ManifestPlace.{with_manifest, without_overrides}
 use Rattle.npm_lock.specs.Mismatches.{AreMismatches}
 use Rattle.npm_lock.specs.OtherFolders.{IsFirstAnotherOf}
-use Rattle.npm_lock.specs.Outcomes.{ProblemValue, problem_value}
+use Rattle.npm_lock.specs.Outcomes.{DependencyValue, ProblemValue, dependency_value, problem_value}
 use Rattle.npm_lock.specs.Sources.{source_value, suspicious_sources}
-use Rattle.npm_lock.specs.VersionOne.{converted}
+use Rattle.npm_lock.specs.VersionOne.{converted, is_version_one}
 use Rattle.npm_lock.specs.declared.mismatch.Mismatch.{Mismatch}
 use Rattle.npm_lock.specs.declared.problem.Problem.{Problem}
 use Rattle.npm_lock.specs.declared.problem.Problems.{Problems}
@@ -30,6 +30,7 @@ use Rattle.npm_lock_reports.specs.Unread.{UnreadValue, root_of_file, unread_valu
 use Rattle.npm_lock_reports.specs.declared.report.Report.{Report}
 use Rattle.npm_lock_reports.specs.Count.{count_of}
 use Rattle.npm_lock_reports.specs.LeftOut.{problems_kept, sources_kept, unchecked_kept}
+use Rattle.npm_lock_reports.specs.Needed.{AreNeeded}
 use Rattle.npm_lock_reports.specs.declared.omissions.Omissions.{Omissions}
 use Rattle.npm_lock_reports.specs.Excepted.{excepted_value}
 use Rattle.npm_lock_reports.specs.Exceptions.{ExceptionsValue, exceptions_value}
@@ -185,11 +186,23 @@ abbrev pub AreCounted : (lock : Data) → WantedValue → CountedValue → Type 
 AreCounted lock wanted counted = (all : List FoundValue) × AreHit wanted.today lock wanted.advisories wanted.level all
     × (counted ≡ counted_hits wanted.omissions wanted.exceptions lock all)
 
+-- The groups by which a needed package may be left out. `requires` of a file of version 1 have optional dependencies too, so that what is
+-- needed is not known of these.
+abbrev pub told_omissions : (lock : Data) → Omissions → Omissions
+told_omissions lock omissions = record {
+  dev = omissions.dev;
+  optional = omissions.optional && not (is_version_one lock);
+}
+
+-- what is needed, but left out, if a group is
+abbrev pub AreNeededIf : Omissions → (lock : Data) → List DependencyValue → Type 0
+AreNeededIf omissions lock list = MatchBool (omissions.dev || omissions.optional) (AreNeeded omissions lock list) (list ≡ [])
+
 -- ---- all of it
 
 -- npm reads no member as another folder of the project; the mismatches of the manifests, what was not looked at, the problems of the lock file
--- that is checked, the packages of it that are hit, what is excepted, what is suspicious in where packages come from, and how many
--- packages are left out
+-- that is checked, the packages of it that are hit, what is excepted, what is suspicious in where packages come from, what is needed
+-- and left out, and how many packages are left out
 pub record IsReportOf (lock : Data) (loaded : LoadedValue) (wanted : WantedValue) (report : Report)
     (found : List FoundValue) : Type 0 where
   pub own : IsFirstAnotherOf (checked_lock lock wanted.manifest loaded.linked) wanted.project None
@@ -205,6 +218,8 @@ pub record IsReportOf (lock : Data) (loaded : LoadedValue) (wanted : WantedValue
       (record { found = found; excepted = map excepted_value report.excepted.items })
   pub sources : map source_value report.sources.items ≡ sources_kept wanted.omissions
       (checked_lock lock wanted.manifest loaded.linked) wanted.sources (suspicious_sources wanted.registries lock)
+  pub needed : AreNeededIf (told_omissions lock wanted.omissions) (checked_lock lock wanted.manifest loaded.linked)
+      (map dependency_value report.needed.items)
   pub audited : report.audited ≡ is_some wanted.advisories
   pub hits : report.hits ≡ length found
   pub omitted : report.omitted ≡ count_of wanted.omissions (checked_lock lock wanted.manifest loaded.linked)

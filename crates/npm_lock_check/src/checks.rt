@@ -8,6 +8,7 @@ mod format;
 mod hits;
 mod kinds;
 mod list_name;
+mod needed;
 mod output;
 mod own_folder;
 mod run_error;

@@ -1,6 +1,6 @@
 //! The lines on standard error.
 
-use crate::runs::{lock_subject, sentence_of, subject_of};
+use crate::runs::{lock_subject, sentences_of, subject_of};
 use crate::{Arguments, StopError};
 use npm_lock_reports::{ExceptedSentence, Exceptions, Report};
 
@@ -73,13 +73,14 @@ fn write_unused(
     outcomes: &[Result<Report, StopError>],
     exceptions: Exceptions<'_>,
 ) -> bool {
+    let Ok(sentences) = sentences_of(rt.alloc(), exceptions.list, exceptions.today, outcomes) else {
+        return false;
+    };
     let mut is_said = true;
-    for (place, exception) in exceptions.list.iter().enumerate() {
-        if let Some(sentence) = sentence_of(exception, place, exceptions.today, outcomes) {
-            let line = eprintln!(rt; "{sentence}");
-            if line.is_err() {
-                is_said = false;
-            }
+    for sentence in &sentences {
+        let line = eprintln!(rt; "{sentence}");
+        if line.is_err() {
+            is_said = false;
         }
     }
     is_said

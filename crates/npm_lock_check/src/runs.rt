@@ -2,18 +2,19 @@
 //! status.
 //!
 //! [`run`] checks lock files and writes the output of all, [`stop_text`] is what is written if none can be checked. [`subject_of`] and
-//! [`lock_subject`] begin a line on standard error, [`sentence_of`] is the line of an exception, and [`status_of`] returns the exit status.
+//! [`lock_subject`] begin a line on standard error, [`sentences_of`] are the lines of exceptions, and [`status_of`] returns the exit status.
 //! [`laws::pages_are_no_markup`] does nothing: its contract says that no text in a page is read as markup.
 
 mod exceptions;
 pub mod laws;
 mod lock_files;
+mod marks;
 mod outputs;
 mod refused;
 mod status;
 mod subject;
 
-pub use exceptions::sentence_of;
+pub use exceptions::sentences_of;
 pub use lock_files::{Writing, run, stop_text};
 pub use status::status_of;
 pub use subject::{Subject, lock_subject, subject_of};

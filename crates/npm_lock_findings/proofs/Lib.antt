@@ -1,4 +1,3 @@
 pub mod Examples
 mod More
-mod MorePieces
 mod NameParts

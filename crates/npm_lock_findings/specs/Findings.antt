@@ -1,24 +1,27 @@
 -- The report of a lock file as findings.
-use Rattle.std.specs.Prelude.{◌≡◌, ◌++◌, ℕ, List, [], Bool, if◌then◌else◌, Vec, codes, length, map}
+use Rattle.std.specs.Prelude.{◌≡◌, ◌++◌, ℕ, List, [], Bool, true, false, if◌then◌else◌, Vec, codes, length, map}
 use Rattle.std.specs.Global.{Global}
 use Rattle.std.specs.List.{flat_map}
 use denote.Ref.{Bor}
-use Rattle.findings.specs.Findings.{FindingValue, ToolValue}
+use Rattle.findings.specs.Findings.{FindingValue}
 use Rattle.findings.specs.Github.{annotation}
-use Rattle.findings.specs.Sarif.{log}
+use Rattle.findings.specs.Log.{IsLog}
 use Rattle.findings.specs.declared.finding.Finding.{Finding}
-use Rattle.findings.specs.declared.finding.Level.TheVariants.{Error}
+use Rattle.findings.specs.declared.finding.Rule.{Rule}
+use Rattle.findings.specs.declared.finding.Level.TheVariants.{Error, Note}
 use Rattle.findings.specs.Drafts.{AreFindingsOf, DraftValue, draft_value}
 use Rattle.findings.specs.declared.draft.Draft.{Draft}
 use Rattle.npm_advisories.specs.Audit.{FoundValue}
-use Rattle.npm_lock.specs.Outcomes.{ProblemValue, UncheckedValue, problem_value, unchecked_value}
+use Rattle.npm_lock.specs.Outcomes.{DependencyValue, ProblemValue, UncheckedValue, dependency_value, problem_value, unchecked_value}
 use Rattle.npm_lock.specs.Mismatches.{MismatchValue, group_text, mismatch_value}
 use Rattle.npm_lock.specs.Sources.{SourceValue, source_value}
+use Rattle.npm_lock_reports.specs.Excepted.{ExceptedValue, excepted_value}
 use Rattle.npm_lock_reports.specs.Unread.{UnreadValue, unread_folder, unread_value}
 use Rattle.npm_lock_reports.specs.declared.report.Report.{Report}
 use Rattle.npm_lock_findings.specs.Members.{dependency_paths, mismatch_paths, package_paths, problem_paths}
-use Rattle.npm_lock_findings.specs.Rules.{advisory_place, mismatch_level, mismatch_place, refused_place, rule_place}
-use Rattle.npm_lock_findings.specs.Rules.{rule_word, rule_words, source_place, unchecked_level, unchecked_place}
+use Rattle.npm_lock_findings.specs.PageParts.{hit_part}
+use Rattle.npm_lock_findings.specs.Rules.{advisory_place, left_out_place, mismatch_level, mismatch_place, other_advisory_place, refused_place}
+use Rattle.npm_lock_findings.specs.Rules.{rule_place, rule_word, rule_words, source_place, unchecked_level, unchecked_place}
 use Rattle.npm_lock_findings.specs.declared.annotations.format.AnnotationFormat.{AnnotationFormat}
 use Rattle.npm_lock_findings.specs.declared.annotations.format.AnnotationFormat.TheVariants.{Github, Sarif}
 
@@ -38,6 +41,7 @@ problem_draft problem = record {
   level = Error;
   message = [];
   paths = problem_paths problem.kind problem.dependency.from problem.dependency.name;
+  suppressed = false;
 }
 
 -- a mismatch
@@ -48,16 +52,29 @@ mismatch_draft exact mismatch = record {
   level = mismatch_level exact;
   message = [];
   paths = mismatch_paths mismatch.from (group_text mismatch.group) mismatch.name;
+  suppressed = false;
 }
 
 -- a package that an advisory hits, at the package
 abbrev pub hit_draft : FoundValue → DraftValue
 hit_draft found = record {
   rule = codes "advisory";
-  rule_index = advisory_place;
+  rule_index = advisory_place (hit_part found.hits);
   level = Error;
   message = [];
   paths = package_paths found.folder;
+  suppressed = false;
+}
+
+-- a package that an advisory hits which is excepted for it, at the package: it does not count
+abbrev pub excepted_draft : ExceptedValue → DraftValue
+excepted_draft excepted = record {
+  rule = codes "advisory";
+  rule_index = other_advisory_place;
+  level = Note;
+  message = [];
+  paths = package_paths excepted.folder;
+  suppressed = true;
 }
 
 -- what is suspicious in where a package comes from, at the package
@@ -68,6 +85,18 @@ source_draft source = record {
   level = Error;
   message = [];
   paths = package_paths source.folder;
+  suppressed = false;
+}
+
+-- what is needed and left out, at the dependency
+abbrev pub left_out_draft : DependencyValue → DraftValue
+left_out_draft dependency = record {
+  rule = codes "left-out";
+  rule_index = left_out_place;
+  level = Error;
+  message = [];
+  paths = dependency_paths dependency.from dependency.name;
+  suppressed = false;
 }
 
 -- what is not checked; it is an error if it counts for the status
@@ -78,6 +107,7 @@ note_draft strict paths = record {
   level = unchecked_level strict;
   message = [];
   paths = paths;
+  suppressed = false;
 }
 
 -- a dependency that is not checked, at the dependency
@@ -99,7 +129,9 @@ listed_drafts report = if report.listed
 abbrev pub all_drafts : Report → List FoundValue → List DraftValue
 all_drafts report found = map (mismatch_draft report.exact) (map mismatch_value report.mismatches.items)
     ++ (map problem_draft (map problem_value report.problems.list.items)
-    ++ (map hit_draft found ++ (map source_draft (map source_value report.sources.items) ++ listed_drafts report)))
+    ++ (map hit_draft found ++ (map source_draft (map source_value report.sources.items)
+    ++ (map left_out_draft (map dependency_value report.needed.items) ++ (listed_drafts report
+    ++ map excepted_draft (map excepted_value report.excepted.items))))))
 
 -- One finding for each of these, in their order, in the lock file at this path with this text. The place of each is that
 -- of a member that it is about, or of the beginning of the text.
@@ -119,22 +151,19 @@ refused_finding message file line column = record {
   file = file;
   line = line;
   column = column;
+  suppressed = false;
 }
 
 -- ---- how findings are written
 
--- the tool that a log names: this version of the program, with all rules
-pub record IsTool (version : List ℕ) (tool : ToolValue) : Type 0 where
-  pub named : tool.name ≡ codes "npm_lock_check"
-  pub of_version : tool.version ≡ version
-  pub ruled : map (λ rule. rule.id) tool.rules ≡ rule_words
+-- one log of the rules and of these findings, of whose texts none leaves its string
+abbrev pub IsOwnLog : List FindingValue → (text : List ℕ) → Type 0
+IsOwnLog findings text = (rules : List Rule) × (map (λ rule. rule.id.now) rules ≡ rule_words) × IsLog rules findings text
 
--- a line for each, for GitHub Actions; or one log, which also says whether the run was successful
-abbrev pub IsFindingsText : AnnotationFormat → (version : List ℕ) → List FindingValue → (is_successful : Bool)
-    → (text : List ℕ) → Type 0
-IsFindingsText Github version findings is_successful text = text ≡ flat_map annotation findings
-IsFindingsText Sarif version findings is_successful text =
-    (tool : ToolValue) × IsTool version tool × (text ≡ log tool findings is_successful)
+-- a line for each that counts, for GitHub Actions; or one log
+abbrev pub IsFindingsText : AnnotationFormat → List FindingValue → (text : List ℕ) → Type 0
+IsFindingsText Github findings text = text ≡ flat_map annotation findings
+IsFindingsText Sarif findings text = IsOwnLog findings text
 
 -- ---- what contracts see
 

@@ -9,4 +9,4 @@ mod annotations;
 mod pages;
 
 pub use annotations::{AnnotationFormat, findings_of, push_findings, refused_finding};
-pub use pages::{PageFormat, part_of, push_page};
+pub use pages::{CheckedFile, PageFormat, part_of, push_page};

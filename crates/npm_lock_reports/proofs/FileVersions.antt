@@ -221,7 +221,7 @@ module _ (lock : Data) (node : Option VersionValue) (whole : Members)
   -- ---- packages that are hit
 
   abbrev OfInstalled : InstalledValue → Type 0
-  OfInstalled one = version_in lock one.folder ≡ Some one.version
+  OfInstalled one = version_in lock one.folder ≡ one.version
 
   of_installed : (texts_at : (folder : List ℕ) → List (List ℕ)) (alias_at : (folder : List ℕ) → Option (List ℕ))
       (some : Members) (all : List InstalledValue) → Has whole some → AreInstalled texts_at alias_at some all
@@ -234,9 +234,9 @@ module _ (lock : Data) (node : Option VersionValue) (whole : Members)
       of_installed texts_at alias_at others all has.1 rest
 
 of_hits : (lock : Data) (level : Severity) (advisories : List AdvisoryValue) (installed : List InstalledValue)
-    (found : List FoundValue) → AllByRecursion (λ one. version_in lock one.folder ≡ Some one.version) installed
+    (found : List FoundValue) → AllByRecursion (λ one. version_in lock one.folder ≡ one.version) installed
     → IsAudit level advisories installed found
-    → AllByRecursion (λ one. version_in lock one.folder ≡ Some one.version) found
+    → AllByRecursion (λ one. version_in lock one.folder ≡ one.version) found
 of_hits lock level advisories [] [] all Audit.none = tt
 of_hits lock level advisories [] (entry ∷ found) all are = elim are [ ]
 of_hits lock level advisories (one ∷ others) found all (Audit.spared _ _ _ such rest) =
@@ -270,7 +270,7 @@ module _ (lock : Data) (node : Option VersionValue) (problems : Problems) (is : 
 
   pub hits_have : (level : Severity) (advisories : List AdvisoryValue) (installed : List InstalledValue)
       (found : List FoundValue) → AreInstalledOf lock installed → IsAudit level advisories installed found
-      → AllByRecursion (λ one. version_in lock one.folder ≡ Some one.version) found
+      → AllByRecursion (λ one. version_in lock one.folder ≡ one.version) found
   hits_have level advisories installed found are audit =
       let whole : Some (object is.members) ≡ Some (object are.members) = sym is.packages ∙ are.packages in
       let same : is.members ≡ are.members = cc whole in

@@ -10,7 +10,7 @@ use Rattle.npm_lock_reports.specs.declared.excepted.Excepted.{Excepted}
 pub record ExceptedValue : Type 0 where
   pub folder : List ℕ
   pub name : List ℕ
-  pub version : List ℕ
+  pub version : Option (List ℕ)
   pub place : ℕ
 
 -- what a contract sees of it
@@ -18,7 +18,7 @@ abbrev pub excepted_value : Excepted → ExceptedValue
 excepted_value excepted = record {
   folder = string_bytes excepted.folder;
   name = string_bytes excepted.name;
-  version = string_bytes excepted.version;
+  version = option_map string_bytes excepted.version;
   place = excepted.place;
 }
 

@@ -14,3 +14,5 @@ pub mod Needed  -- which dependencies are needed although they are
 pub mod LeftOut  -- what is found of the packages and dependencies that are not
 pub mod Count  -- how many packages are
 pub mod Counted  -- the hits that count
+-- ---- not part of any public contract: what private functions compute
+pub mod Private

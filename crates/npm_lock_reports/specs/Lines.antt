@@ -19,8 +19,9 @@ abbrev pub listed_count : Report → ℕ
 listed_count report =
     if report.listed then length report.problems.unchecked.items + length report.unread.items else 0
 
--- how many things have a line: each mismatch, each problem, each package that is hit, each suspicious source, and what is listed
+-- how many things have a line: each mismatch, each problem, each package that is hit, each suspicious source, each dependency that is
+-- needed and left out, and what is listed
 abbrev pub thing_count : Report → (found : List FoundValue) → ℕ
 thing_count report found =
     length report.mismatches.items + length report.problems.list.items + length found + length report.sources.items
-    + listed_count report
+    + length report.needed.items + listed_count report

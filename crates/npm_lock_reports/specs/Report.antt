@@ -12,5 +12,6 @@ pub record IsClean (report : Report) : Type 0 where
   pub mismatches : report.exact ≡ true → report.mismatches.items ≡ []
   pub problems : report.problems.list.items ≡ []
   pub sources : report.sources.items ≡ []
+  pub needed : report.needed.items ≡ []
   pub hits : report.hits ≡ 0
   pub checked : IsChecked report

@@ -1,5 +1,5 @@
 -- A sentence says no version but those that the lock file has, Node's, and those that are offered.
-use Rattle.std.specs.Prelude.{◌≡◌, ℕ, List, Option, Some, codes, map, option_and_then, option_map}
+use Rattle.std.specs.Prelude.{◌≡◌, ℕ, List, Option, codes, map, option_and_then, option_map}
 use Rattle.std.specs.List.{AllByRecursion}
 use Rattle.serde_json.specs.Data.{Data}
 use Rattle.serde_json.specs.Find.{get}
@@ -47,4 +47,4 @@ abbrev pub HitsHaveVersions : (lock : Data) → (node : Option VersionValue) →
 HitsHaveVersions lock node problems found = IsChecked lock node problems → (level : Severity)
     → (advisories : List AdvisoryValue) → (installed : List InstalledValue) → AreInstalledOf lock installed
     → IsAudit level advisories installed found
-    → AllByRecursion (λ one. version_in lock one.folder ≡ Some one.version) found
+    → AllByRecursion (λ one. version_in lock one.folder ≡ one.version) found

@@ -26,9 +26,22 @@ impl fmt::Display for ExceptedSentence<'_> {
 fn write_package<W: fmt::Write>(f: &mut fmt::Formatter<W>, excepted: &Excepted) -> fmt::Result {
     f.write_str("excepted: ")?;
     write_shown(f, excepted.name.as_bytes())?;
-    f.write_str(" ")?;
-    write_shown(f, excepted.version.as_bytes())?;
+    write_version(f, &excepted.version)?;
     f.write_str(" is hit by ")
+}
+
+/// Prints the version of the package, if it has one.
+fn write_version<W: fmt::Write>(
+    f: &mut fmt::Formatter<W>,
+    version: &Option<String>,
+) -> fmt::Result {
+    match version {
+        Some(version) => {
+            f.write_str(" ")?;
+            write_shown(f, version.as_bytes())
+        }
+        None => Ok(()),
+    }
 }
 
 /// Prints what the exception is.

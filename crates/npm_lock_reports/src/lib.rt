@@ -9,7 +9,7 @@
 //!
 //! [`Report`] has the mismatches and the problems, and prints their counts. [`lines_of`] writes a line for each, in a
 //! [`LineStyle`]: a sentence, or a JSON object, and either with the lock file or without. [`push_sentence`] and others write one
-//! sentence. No text of a file divides a line.
+//! sentence, for a [`Reading`]. No text of a file divides a line.
 #![tactic(auto)]
 
 mod count;
@@ -20,9 +20,11 @@ mod folder_name;
 mod format;
 mod hit_sentence;
 mod hits;
+mod indexed;
 pub mod laws;
 mod left;
 mod left_out;
+mod left_out_json;
 mod lines;
 mod needed;
 mod omissions;
@@ -34,6 +36,7 @@ mod sentence;
 mod source_sentence;
 mod style;
 mod unread;
+mod vague;
 mod workspace;
 
 pub use count::count_of;
@@ -42,17 +45,22 @@ pub use exception_sentence::{ExceptedSentence, ExceptionSentence};
 pub use exceptions::Exceptions;
 pub use folder_name::FolderName;
 pub use format::ReportFormat;
-pub use hit_sentence::push_hit_sentence;
+pub use hit_sentence::{push_excepted_sentence, push_hit_sentence};
 pub use hits::{CountedHits, counted_hits};
 pub use left::leave_out_excepted;
 pub use left_out::{leave_out_hits, leave_out_problems, leave_out_sources, leave_out_unchecked};
 pub use lines::lines_of;
 pub use needed::left_out_but_needed;
 pub use omissions::Omissions;
+pub use piece::Reading;
 pub use problems::leave_out_omitted;
 pub use read::{count_read, has_no_advisory};
 pub use report::Report;
-pub use sentence::{push_mismatch_sentence, push_sentence, push_unchecked_sentence};
+pub use sentence::{
+    last_name, push_left_out_sentence, push_mismatch_sentence, push_sentence,
+    push_unchecked_sentence,
+};
 pub use source_sentence::push_source_sentence;
 pub use style::LineStyle;
 pub use unread::{Unread, push_unread_sentence, unread_json};
+pub use vague::Vague;

@@ -6,17 +6,22 @@ ghost use Rattle.npm_lock_reports.specs.Lines.{line_count, thing_count};
 
 use crate::format::ReportFormat;
 use crate::hit_sentence::push_hit_sentence;
+use crate::left_out_json::left_out_json;
+use crate::piece::Reading;
 use crate::report::Report;
-use crate::sentence::{push_mismatch_sentence, push_sentence, push_unchecked_sentence};
+use crate::sentence::{
+    push_left_out_sentence, push_mismatch_sentence, push_sentence, push_unchecked_sentence,
+};
 use crate::source_sentence::push_source_sentence;
 use crate::style::{LineStyle, push_file, push_object};
 use crate::unread::{Unread, push_unread_sentence, unread_json};
+use crate::vague::Vague;
 use npm_advisories::Found;
-use npm_lock::{Mismatch, Problem, Source, Unchecked};
+use npm_lock::{Dependency, Mismatch, Problem, Source, Unchecked};
 use std::alloc::{AllocError, Global};
 
 /// Returns the lines of a report, and of the packages that are hit: of the mismatches, of the problems, of the packages, of
-/// what is suspicious in where packages come from, and if they are listed of the dependencies that are not checked and of what was not looked at.
+/// what is suspicious in where packages come from, of what is needed and left out, and if they are listed of the dependencies that are not checked and of what was not looked at.
 ///
 /// # Errors
 ///
@@ -24,7 +29,7 @@ use std::alloc::{AllocError, Global};
 ///
 /// # Memory
 ///
-/// Allocates the lines, and for each line its text, and in JSON the object.
+/// Allocates the lines, and for each line its text, and in JSON the object; and for the time of the call a list of what is not checked.
 pub fn lines_of(
     alloc: Global,
     report: &Report,
@@ -36,8 +41,10 @@ pub fn lines_of(
     let mut lines = Vec::new(alloc);
     push_mismatches(alloc, &mut lines, &report.mismatches, style)?;
     push_problems(alloc, &mut lines, &report.problems.list, style)?;
-    push_hits(alloc, &mut lines, found, style)?;
+    let vague = Vague::of(alloc, report)?;
+    push_hits(alloc, &mut lines, found, &vague, style)?;
     push_sources(alloc, &mut lines, &report.sources, style)?;
+    push_all_left_out(alloc, &mut lines, &report.needed, style)?;
     if report.listed {
         push_all_unchecked(alloc, &mut lines, &report.problems.unchecked, style)?;
         push_all_unread(alloc, &mut lines, &report.unread, style)?;
@@ -82,12 +89,13 @@ fn push_hits(
     alloc: Global,
     lines: &mut Vec<u8>,
     found: &[Found<'_, '_>],
+    vague: &Vague<'_>,
     style: LineStyle<'_>,
 ) -> Result<(), AllocError>
     ensures { OnOk result (line_count lines.new.items ≡ line_count lines.old.items + length found.now) }
 {
     for one in found {
-        let line = hit_line(alloc, one, style)?;
+        let line = hit_line(alloc, one, vague, style)?;
         push_line(lines, &line)?;
     }
     Ok(())
@@ -104,6 +112,22 @@ fn push_sources(
 {
     for source in sources {
         let line = source_line(alloc, source, style)?;
+        push_line(lines, &line)?;
+    }
+    Ok(())
+}
+
+/// Adds a line for each dependency that is needed and left out.
+fn push_all_left_out(
+    alloc: Global,
+    lines: &mut Vec<u8>,
+    all: &[Dependency],
+    style: LineStyle<'_>,
+) -> Result<(), AllocError>
+    ensures { OnOk result (line_count lines.new.items ≡ line_count lines.old.items + length all.now) }
+{
+    for dependency in all {
+        let line = left_out_line(alloc, dependency, style)?;
         push_line(lines, &line)?;
     }
     Ok(())
@@ -169,7 +193,7 @@ fn mismatch_line(
     match style.format {
         ReportFormat::Text => {
             push_file(&mut line, style.file)?;
-            push_mismatch_sentence(&mut line, mismatch)?;
+            push_mismatch_sentence(&mut line, Reading::Terminal, mismatch)?;
         }
         ReportFormat::Json => {
             push_object(alloc, &mut line, mismatch.to_json(alloc)?, style.file)?;
@@ -188,7 +212,7 @@ fn problem_line(
     match style.format {
         ReportFormat::Text => {
             push_file(&mut line, style.file)?;
-            push_sentence(&mut line, problem)?;
+            push_sentence(&mut line, Reading::Terminal, problem)?;
         }
         ReportFormat::Json => {
             push_object(alloc, &mut line, problem.to_json(alloc)?, style.file)?;
@@ -201,13 +225,14 @@ fn problem_line(
 fn hit_line(
     alloc: Global,
     found: &Found<'_, '_>,
+    vague: &Vague<'_>,
     style: LineStyle<'_>,
 ) -> Result<Vec<u8>, AllocError> {
     let mut line = Vec::new(alloc);
     match style.format {
         ReportFormat::Text => {
             push_file(&mut line, style.file)?;
-            push_hit_sentence(alloc, &mut line, found)?;
+            push_hit_sentence(alloc, &mut line, Reading::Terminal, found, vague)?;
         }
         ReportFormat::Json => push_object(alloc, &mut line, found.to_json(alloc)?, style.file)?,
     }
@@ -224,9 +249,33 @@ fn source_line(
     match style.format {
         ReportFormat::Text => {
             push_file(&mut line, style.file)?;
-            push_source_sentence(&mut line, source)?;
+            push_source_sentence(&mut line, Reading::Terminal, source)?;
         }
         ReportFormat::Json => push_object(alloc, &mut line, source.to_json(alloc)?, style.file)?,
+    }
+    Ok(line)
+}
+
+/// The line of a dependency that is needed and left out.
+fn left_out_line(
+    alloc: Global,
+    dependency: &Dependency,
+    style: LineStyle<'_>,
+) -> Result<Vec<u8>, AllocError> {
+    let mut line = Vec::new(alloc);
+    match style.format {
+        ReportFormat::Text => {
+            push_file(&mut line, style.file)?;
+            push_left_out_sentence(&mut line, Reading::Terminal, dependency)?;
+        }
+        ReportFormat::Json => {
+            push_object(
+                alloc,
+                &mut line,
+                left_out_json(alloc, dependency)?,
+                style.file,
+            )?;
+        }
     }
     Ok(line)
 }
@@ -241,7 +290,7 @@ fn unchecked_line(
     match style.format {
         ReportFormat::Text => {
             push_file(&mut line, style.file)?;
-            push_unchecked_sentence(&mut line, unchecked)?;
+            push_unchecked_sentence(&mut line, Reading::Terminal, unchecked)?;
         }
         ReportFormat::Json => {
             push_object(alloc, &mut line, unchecked.to_json(alloc)?, style.file)?;
@@ -260,7 +309,7 @@ fn unread_line(
     match style.format {
         ReportFormat::Text => {
             push_file(&mut line, style.file)?;
-            push_unread_sentence(&mut line, unread)?;
+            push_unread_sentence(&mut line, Reading::Terminal, unread)?;
         }
         ReportFormat::Json => {
             push_object(alloc, &mut line, unread_json(alloc, unread)?, style.file)?;

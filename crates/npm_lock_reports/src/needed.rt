@@ -1,4 +1,6 @@
 //! What is needed, but left out.
+//!
+//! See docs/DECISIONS.md, "A package that is left out asks for nothing".
 ghost use Rattle.std.specs.Prelude.{◌≡◌, ◌||◌, ◌++◌, IfOk, OnOk, map, option_and_then, option_map};
 ghost use Rattle.serde_json.specs.View.{view};
 ghost use Rattle.npm_lock.specs.Outcomes.{dependency_value};
@@ -7,6 +9,7 @@ ghost use Rattle.npm_packages.specs.Packages.{version_of};
 ghost use Rattle.npm_lock_reports.specs.Exceptions.{some_list};
 ghost use Rattle.npm_lock_reports.specs.Needed as Needed;
 ghost use Rattle.npm_lock_reports.specs.Needed.{AreNeeded};
+ghost use Rattle.npm_lock_reports.specs.Private.Askers.{IsAsker};
 
 use crate::omissions::{Omissions, member_at};
 use crate::workspace::is_in_project;
@@ -42,36 +45,76 @@ pub fn left_out_but_needed(
     told_of(lock.packages().alloc, lock.file(), omissions, &edges)
 }
 
-/// Those of these dependencies that are needed and left out.
-fn told_of(
-    alloc: Global,
-    lock: &Value,
+/// A package that asks, which is looked up once for all of its dependencies.
+#[derive(Clone, Copy)]
+struct Asker<'v> {
+    folder: &'v str,
+    member: Option<&'v Value>,
+    /// It has a mark by which packages are left out.
+    is_marked: bool,
+}
+
+/// The package in a folder.
+fn asker_in<'v>(omissions: Omissions, lock: &'v Value, folder: &'v str) -> Asker<'v>
+    ensures { IsAsker omissions (view lock.now) folder.now result }
+{
+    Asker {
+        folder,
+        member: member_at(lock, folder),
+        is_marked: is_marked_at(omissions, lock, folder),
+    }
+}
+
+/// The package in a folder, which may be the one that asked last.
+fn next_asker<'v>(
     omissions: Omissions,
-    edges: &[Edge<'_>],
+    lock: &'v Value,
+    last: Asker<'v>,
+    folder: &'v str,
+) -> Asker<'v>
+    requires { IsAsker omissions (view lock.now) last.folder.now last }
+    ensures { IsAsker omissions (view lock.now) folder.now result }
+{
+    if last.folder == folder {
+        return last;
+    }
+    asker_in(omissions, lock, folder)
+}
+
+/// Those of these dependencies that are needed and left out.
+fn told_of<'v>(
+    alloc: Global,
+    lock: &'v Value,
+    omissions: Omissions,
+    edges: &[Edge<'v>],
 ) -> Result<Vec<Dependency>, AllocError>
     ensures { IfOk result (λ list. map dependency_value list.items
         ≡ Needed.told_in omissions (view lock.now) (map edge_value edges.now)) }
 {
     let mut list = Vec::new(alloc);
+    let mut asker = asker_in(omissions, lock, "");
     for edge in edges {
-        push_told(alloc, &mut list, lock, omissions, edge)?;
+        asker = next_asker(omissions, lock, asker, edge.from);
+        push_told(alloc, &mut list, lock, omissions, asker, edge)?;
     }
     Ok(list)
 }
 
-/// Adds a dependency that is needed and left out.
+/// Adds a dependency of this package, if it is needed and left out.
 fn push_told(
     alloc: Global,
     list: &mut Vec<Dependency>,
     lock: &Value,
     omissions: Omissions,
+    asker: Asker<'_>,
     edge: &Edge<'_>,
 ) -> Result<(), AllocError>
+    requires { IsAsker omissions (view lock.now) edge.now.from.now asker }
     ensures { OnOk result (map dependency_value list.new.items ≡ map dependency_value list.old.items
         ++ some_list (Needed.told_if omissions (view lock.now) (edge_value edge.now))) }
 {
-    if is_needed(omissions, lock, edge) && is_left_out(omissions, lock, edge) {
-        list.push(told(alloc, member_at(lock, edge.from), edge)?)?;
+    if is_needed(omissions, lock, asker, edge) && is_left_out(omissions, lock, edge) {
+        list.push(told(alloc, asker.member, edge)?)?;
     }
     Ok(())
 }
@@ -113,10 +156,11 @@ fn is_marked(asker: Option<&Value>, mark: &str, is_so: bool) -> bool
 }
 
 /// Returns `true` if the dependency is needed.
-fn is_needed(omissions: Omissions, lock: &Value, edge: &Edge<'_>) -> bool
+fn is_needed(omissions: Omissions, lock: &Value, asker: Asker<'_>, edge: &Edge<'_>) -> bool
+    requires { IsAsker omissions (view lock.now) edge.now.from.now asker }
     ensures { result ≡ Needed.is_needed omissions (view lock.now) (edge_value edge.now) }
 {
-    edge.is_needed && !(omissions.dev && edge.is_dev) && !is_marked_at(omissions, lock, edge.from)
+    edge.is_needed && !(omissions.dev && edge.is_dev) && !asker.is_marked
 }
 
 /// Returns `true` if the package that is found for a dependency is left out.

@@ -4,7 +4,7 @@ ghost use Rattle.npm_lock_reports.specs.Report.{IsChecked, IsClean};
 
 use crate::Excepted;
 use crate::unread::Unread;
-use npm_lock::{Mismatch, Problems, Source};
+use npm_lock::{Dependency, Mismatch, Problems, Source};
 use std::fmt;
 
 /// The report of a lock file.
@@ -24,6 +24,8 @@ pub struct Report {
     pub problems: Problems,
     /// What is suspicious in where packages come from, if it counts.
     pub sources: Vec<Source>,
+    /// What is needed, but left out.
+    pub needed: Vec<Dependency>,
     /// Advisories were looked up.
     pub audited: bool,
     /// How many advisories were read.
@@ -47,6 +49,7 @@ impl Report {
         is_same
             && self.problems.list.is_empty()
             && self.sources.is_empty()
+            && self.needed.is_empty()
             && self.hits == 0
             && self.is_checked()
     }
@@ -84,7 +87,7 @@ impl Report {
 
 /// Prints the counts. Those of mismatches and of packages that are hit are left out if nothing was looked for. If dependencies
 /// that are not checked were not listed, names the option that lists them. Says so if workspaces were not looked for, if the lock
-/// file has no root, and if something is suspicious in where packages come from. Last are the number of exceptions that applied, if one did, and that of packages that are left out, if a group is.
+/// file has no root, if something is suspicious in where packages come from, and if something is needed, but left out. Last are the number of exceptions that applied, if one did, and that of packages that are left out, if a group is.
 impl fmt::Display for Report {
     fn fmt<W: fmt::Write>(&self, f: &mut fmt::Formatter<W>) -> fmt::Result {
         let problems = &self.problems;
@@ -119,6 +122,9 @@ impl fmt::Display for Report {
         }
         if !self.sources.is_empty() {
             write!(f, ", {} suspicious sources", self.sources.len())?;
+        }
+        if !self.needed.is_empty() {
+            write!(f, ", {} needed but omitted", self.needed.len())?;
         }
         if self.audited {
             write!(

@@ -1,30 +1,75 @@
 //! A problem, a dependency that is not checked, or a mismatch, as a sentence for a person.
 
-use crate::piece::{Piece, before, push_pieces, text_or_empty};
+use crate::piece::{Piece, Reading, before, push_pieces, text_or_empty};
 use npm_lock::{Dependency, Kind, Mismatch, Problem, Reason, Unchecked};
 use std::alloc::AllocError;
 
 /// Adds the sentence of a problem: `a 1.0.0 does not satisfy ^2, which b 3.0.0 asks for (node_modules/b)`.
-pub fn push_sentence(line: &mut Vec<u8>, problem: &Problem) -> Result<(), AllocError> {
-    push_said(line, verdict(problem.kind), &problem.dependency, "")
+pub fn push_sentence(
+    line: &mut Vec<u8>,
+    reading: Reading,
+    problem: &Problem,
+) -> Result<(), AllocError> {
+    push_said(
+        line,
+        reading,
+        verdict(problem.kind),
+        &problem.dependency,
+        "",
+    )
 }
 
 /// Adds the sentence of a dependency that is not checked: `a 1.0.0 is not checked against latest, which the root asks for: a tag`.
 pub fn push_unchecked_sentence(
     line: &mut Vec<u8>,
+    reading: Reading,
     unchecked: &Unchecked,
 ) -> Result<(), AllocError> {
     let reason = reason(unchecked.reason);
     push_said(
         line,
+        reading,
         " is not checked against ",
         &unchecked.dependency,
         reason,
     )
 }
 
+/// Adds the sentence of a dependency that is needed and left out:
+/// `a 1.0.0 is left out, though the root asks for it by ^1: the lock file marks it (node_modules/a)`.
+pub fn push_left_out_sentence(
+    line: &mut Vec<u8>,
+    reading: Reading,
+    dependency: &Dependency,
+) -> Result<(), AllocError> {
+    let version = dependency.version.as_ref();
+    let asker = asker_of(dependency);
+    let pieces = [
+        Piece::First(dependency.name.as_str()),
+        Piece::Fixed(before(version, " ")),
+        Piece::Text(text_or_empty(version)),
+        Piece::Fixed(" is left out, though "),
+        asker.name,
+        Piece::Fixed(before(asker.version, " ")),
+        Piece::Text(text_or_empty(asker.version)),
+        Piece::Fixed(asker.open),
+        Piece::Text(asker.folder),
+        Piece::Fixed(asker.close),
+        Piece::Fixed(" asks for it by "),
+        spec_piece(dependency.spec.as_str()),
+        Piece::Fixed(": the lock file marks it ("),
+        Piece::Text(text_or_empty(dependency.to.as_ref())),
+        Piece::Fixed(")"),
+    ];
+    push_pieces(line, reading, &pieces)
+}
+
 /// Adds the sentence of a mismatch: `a in dependencies is "^2" in package.json, and "^1" in the lock file`.
-pub fn push_mismatch_sentence(line: &mut Vec<u8>, mismatch: &Mismatch) -> Result<(), AllocError> {
+pub fn push_mismatch_sentence(
+    line: &mut Vec<u8>,
+    reading: Reading,
+    mismatch: &Mismatch,
+) -> Result<(), AllocError> {
     let spec = mismatch.spec.as_ref();
     let locked = mismatch.locked.as_ref();
     let folder = mismatch.from.as_str();
@@ -45,7 +90,7 @@ pub fn push_mismatch_sentence(line: &mut Vec<u8>, mismatch: &Mismatch) -> Result
         Piece::Fixed(before(locked, "\"")),
         Piece::Fixed(" in the lock file"),
     ];
-    push_pieces(line, &pieces)
+    push_pieces(line, reading, &pieces)
 }
 
 /// What stands before the spec of one side, or that there is none.
@@ -68,6 +113,7 @@ fn manifest_words(folder: &str) -> &'static str {
 /// Adds a dependency, this verdict on the version that is installed, and what stands at the end.
 fn push_said(
     line: &mut Vec<u8>,
+    reading: Reading,
     verdict: &'static str,
     dependency: &Dependency,
     end: &'static str,
@@ -90,7 +136,7 @@ fn push_said(
         Piece::Fixed(asker.close),
         Piece::Fixed(end),
     ];
-    push_pieces(line, &pieces)
+    push_pieces(line, reading, &pieces)
 }
 
 /// A spec, which is written `""` if it is empty.
@@ -162,7 +208,7 @@ fn reason(reason: Reason) -> &'static str {
 }
 
 /// The part of a folder after the last `node_modules/`.
-pub(crate) fn last_name(folder: &str) -> Option<&str> {
+pub fn last_name(folder: &str) -> Option<&str> {
     match folder.rsplit_once("node_modules/") {
         Some((_, name)) => Some(name),
         None => None,

@@ -1,12 +1,16 @@
 //! What is suspicious in where a package comes from, as a sentence for a person.
 
-use crate::piece::{Piece, before, push_pieces, text_or_empty};
+use crate::piece::{Piece, Reading, before, push_pieces, text_or_empty};
 use crate::sentence::last_name;
 use npm_lock::{Source, SourceKind};
 use std::alloc::AllocError;
 
 /// Adds the sentence of a suspicious source: `the address of a 1.0.0 is not encrypted: http://r/a/-/a-1.0.0.tgz (node_modules/a)`.
-pub fn push_source_sentence(line: &mut Vec<u8>, source: &Source) -> Result<(), AllocError> {
+pub fn push_source_sentence(
+    line: &mut Vec<u8>,
+    reading: Reading,
+    source: &Source,
+) -> Result<(), AllocError> {
     let folder = source.folder.as_str();
     let version = source.version.as_ref();
     let address = address_of(source);
@@ -22,7 +26,7 @@ pub fn push_source_sentence(line: &mut Vec<u8>, source: &Source) -> Result<(), A
         Piece::Text(folder),
         Piece::Fixed(")"),
     ];
-    push_pieces(line, &pieces)
+    push_pieces(line, reading, &pieces)
 }
 
 /// The address, if the sentence is about it.

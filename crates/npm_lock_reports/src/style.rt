@@ -1,7 +1,7 @@
 //! How the lines of a report are written.
 
 use crate::format::ReportFormat;
-use crate::piece::{Piece, push_pieces};
+use crate::piece::{Piece, Reading, push_pieces};
 use serde_json::{Value, put};
 use std::alloc::{AllocError, Global};
 
@@ -16,7 +16,11 @@ pub struct LineStyle<'a> {
 /// Adds the words before a sentence: `a/package-lock.json: `.
 pub fn push_file(line: &mut Vec<u8>, file: Option<&str>) -> Result<(), AllocError> {
     match file {
-        Some(file) => push_pieces(line, &[Piece::First(file), Piece::Fixed(": ")]),
+        Some(file) => push_pieces(
+            line,
+            Reading::Terminal,
+            &[Piece::First(file), Piece::Fixed(": ")],
+        ),
         None => Ok(()),
     }
 }

@@ -4,7 +4,7 @@ ghost use Rattle.npm_lock_reports.specs.Unread as UnreadThings;
 ghost use Rattle.npm_lock_reports.specs.Unread.{unread_value};
 
 use crate::folder_name::FolderName;
-use crate::piece::{Piece, push_pieces};
+use crate::piece::{Piece, Reading, push_pieces};
 use serde_json::{Map, Value, put};
 use std::alloc::{AllocError, Global};
 
@@ -63,8 +63,12 @@ impl Unread {
 }
 
 /// Adds the sentence of what was not looked at.
-pub fn push_unread_sentence(line: &mut Vec<u8>, unread: &Unread) -> Result<(), AllocError> {
-    push_pieces(line, &unread.sentence())
+pub fn push_unread_sentence(
+    line: &mut Vec<u8>,
+    reading: Reading,
+    unread: &Unread,
+) -> Result<(), AllocError> {
+    push_pieces(line, reading, &unread.sentence())
 }
 
 /// The JSON object of what was not looked at.

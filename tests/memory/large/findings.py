@@ -2,18 +2,26 @@
 import json
 import re
 
+DEPENDENCIES = "https://docs.npmjs.com/cli/configuring-npm/package-json#dependencies"
+AUDIT = "https://docs.npmjs.com/cli/commands/npm-audit"
+LOCK = "https://docs.npmjs.com/cli/configuring-npm/package-lock-json"
+# The level of each rule, its description and its page.
 RULES = {
-    "missing": ("error", "A dependency is not installed."),
-    "invalid": ("error", "An installed version does not satisfy what a package asks for."),
-    "peer-local": ("error", "A peer dependency is installed inside the package that has it as a peer."),
-    "engine": ("error", "The version of Node does not satisfy engines.node of a package."),
-    "mismatch": ("warning", "A manifest and the lock file do not ask for the same."),
-    "advisory": ("error", "A security advisory hits an installed package."),
-    "unchecked": ("note", "A dependency is not checked, a manifest was not read, or workspaces were not looked for."),
-    "refused": ("error", "A file is not read, or has a fault."),
+    "missing": ("error", "A dependency is not installed.", DEPENDENCIES),
+    "invalid": ("error", "An installed version does not satisfy what a package asks for.", DEPENDENCIES),
+    "peer-local": ("error", "A peer dependency is installed inside the package that has it as a peer.", DEPENDENCIES.replace("dep", "peerdep")),
+    "engine": ("error", "The version of Node does not satisfy engines.node of a package.", DEPENDENCIES.replace("dependencies", "engines")),
+    "mismatch": ("warning", "A manifest and the lock file do not ask for the same.", "https://docs.npmjs.com/cli/commands/npm-ci"),
+    "advisory": ("error", "A security advisory hits an installed package.", AUDIT),
+    "unchecked": ("note", "A dependency is not checked, a manifest was not read, or workspaces were not looked for.", DEPENDENCIES),
+    "refused": ("error", "A file is not read, or has a fault.", LOCK),
     "source": ("error", "Where a package comes from is suspicious: its address is that of another version or package, is not encrypted or is below "
-                        "no registry that was given, or it has no integrity."),
+                        "no registry that was given, or it has no integrity.", LOCK),
 }
+# GitHub's `security-severity` of the severities that have a rule of their own.
+SCORES = {"critical": "9.5", "high": "8.0", "moderate": "5.5", "low": "2.0"}
+RULES |= {f"advisory-{it}": ("error", f"A security advisory of {it} severity hits an installed package.", AUDIT) for it in SCORES}
+RULES["left-out"] = ("error", "A package that is needed is left out, since the lock file marks it.", LOCK)
 COMMANDS = {"error": "error", "warning": "warning", "note": "notice"}
 
 
@@ -74,6 +82,12 @@ class Finding:
         return next((known[path] for path in self.paths if path in known), 1)
 
 
+def advisory_rule(one):
+    """The rule of a package that is hit: that of its most severe advisory."""
+    said = {it["severity"] for it in one["advisories"]}
+    return next((f"advisory-{it}" for it in SCORES if it in said), "advisory")
+
+
 def github(lock, findings):
     """The lines of annotations, for the file `-`."""
     known = columns(lock)
@@ -88,7 +102,9 @@ def plain(text):
 def sarif(lock, findings):
     """The log, for the file `-`."""
     known = columns(lock)
-    rules = [{"id": rule, "shortDescription": {"text": text}, "defaultConfiguration": {"level": level}} for rule, (level, text) in RULES.items()]
+    rules = [{"id": rule, "shortDescription": {"text": text}, "helpUri": page, "defaultConfiguration": {"level": level},
+              **({"properties": {"security-severity": SCORES[rule[9:]], "tags": ["security"]}} if rule[9:] in SCORES else {})}
+             for rule, (level, text, page) in RULES.items()]
     results = [{
         "ruleId": one.rule, "ruleIndex": list(RULES).index(one.rule), "level": one.level, "message": {"text": plain(one.message)},
         "locations": [{"physicalLocation": {"artifactLocation": {"uri": "-"}, "region": {"startLine": 1, "startColumn": one.column(known)}}}],

@@ -2,7 +2,7 @@
 import json
 import os
 
-from large.findings import Finding, at_dependency, at_mismatch, at_package, github, sarif
+from large.findings import Finding, advisory_rule, at_dependency, at_mismatch, at_package, github, sarif
 from large.lock_files import GROUPS, LEVELS, NAMES, NESTED, asked, at_root, audits, cases, lock_of, mismatch, osv_audits, text_of
 from large.rows import LONG, MANY, alternatives
 
@@ -64,7 +64,7 @@ def sentence(lock, one):
 
 def hit_sentence(one):
     advisories = ", and by ".join(f"{it['id']} ({it['severity']}): {it['title']}" for it in one["advisories"])
-    offer = f"{one['least']} is not, but may not satisfy all that ask for it"
+    offer = f"{one['least']} is not, but does not satisfy all that ask for it"
     if "admitted" in one:
         offer = f"{one['admitted']} is not, and satisfies all that ask for it"
     return f"{one['name']} {one['version']} is hit by {advisories}; {offer} ({one['folder']})"
@@ -135,7 +135,7 @@ def audit_runs():
             lines = [text_of(one) if form == "json" else hit_sentence(one) for one in hits]
             words = ["--format", form, "--severity", level]
             yield Run(lock, words, lines, error, {"advisories": advisories})
-        found = [Finding("advisory", hit_sentence(one), at_package(one["folder"])) for one in hits]
+        found = [Finding(advisory_rule(one), hit_sentence(one), at_package(one["folder"])) for one in hits]
         yield from annotated(lock, ["--severity", level], found, [], error, {"advisories": advisories})
 
 

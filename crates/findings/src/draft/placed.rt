@@ -1,5 +1,5 @@
 //! Drafts with their places.
-ghost use Rattle.std.specs.Prelude.{◌<◌, All, IfOk, length};
+ghost use Rattle.std.specs.Prelude.{◌≡◌, ◌<◌, All, IfOk, is_some, length};
 ghost use Rattle.json_places.specs.Places.{AreChoices};
 ghost use Rattle.findings.specs.Drafts.{AreFindingsOf, IsFindingAt};
 ghost use Rattle.findings.specs.Private.DraftPaths.{IsPathOf};
@@ -7,12 +7,14 @@ ghost use Rattle.findings.specs.Private.DraftPaths.{IsPathOf};
 use crate::draft::Draft;
 use crate::draft::paths::paths_of;
 use crate::finding::Finding;
+use crate::visible::visible;
 use json_places::{Path, Place, chosen_places};
 use std::alloc::{AllocError, Global};
 
 /// Returns a finding for each draft, in their order, in this file with this JSON text. Of the draft's paths, the first one that leads
 /// to a member gives the line and the column: those of the member's name. If no path does, they are those of the beginning of the
-/// text. The text is read once, and not at all if there is no draft.
+/// text. The text is read once, and not at all if there is no draft. In the messages, control characters and those that are not seen are
+/// written by their numbers.
 ///
 /// # Errors
 ///
@@ -90,9 +92,20 @@ fn finding_at<'f>(
         rule: draft.rule,
         rule_index: draft.rule_index,
         level: draft.level,
-        message: Vec::from_slice(alloc, &draft.message)?,
+        message: visible(alloc, &draft.message)?,
         file,
         line: place.line,
         column: place.column,
+        suppression: suppression_of(alloc, draft)?,
     })
+}
+
+/// Why a draft does not count, if it does not.
+fn suppression_of(alloc: Global, draft: &Draft<'_, '_>) -> Result<Option<Vec<u8>>, AllocError>
+    ensures { IfOk result (λ reason. is_some reason ≡ is_some draft.now.suppression) }
+{
+    match &draft.suppression {
+        Some(reason) => Ok(Some(visible(alloc, reason)?)),
+        None => Ok(None),
+    }
 }

@@ -1,25 +1,31 @@
 //! Texts in HTML and in XML.
 ghost use Rattle.std.specs.Prelude.{◌≡◌, ◌<◌, ◌++◌, OnOk};
-ghost use Rattle.std.specs.List.{flat_map};
 ghost use Rattle.findings.specs.PageEscapes as Escapes;
 
+use crate::visible::left_of;
 use std::alloc::AllocError;
 
-/// Adds a text: what HTML and XML would read as markup is written as a reference, and a byte that is no printable ASCII by its number.
+/// Adds a text: what HTML and XML would read as markup is written as a reference, and the bytes of control characters and of those that
+/// are not seen by their numbers.
 pub fn push_text(out: &mut Vec<u8>, text: &[u8]) -> Result<(), AllocError>
-    ensures { OnOk result (out.new.items ≡ out.old.items ++ flat_map Escapes.text_byte text.now) }
+    ensures { OnOk result (out.new.items ≡ out.old.items ++ Escapes.escaped text.now) }
 {
-    for byte in text {
-        push_text_byte(out, *byte)?;
+    let mut left: usize = 0;
+    for index in 0..text.len() {
+        left = left_of(left, &text[index..]);
+        push_text_byte(out, text[index], 0 < left)?;
+        left = left.saturating_sub(1);
     }
     Ok(())
 }
 
-/// Adds a byte of a text.
-fn push_text_byte(out: &mut Vec<u8>, byte: u8) -> Result<(), AllocError>
-    ensures { OnOk result (out.new.items ≡ out.old.items ++ Escapes.text_byte byte) }
+/// Adds a byte of a text, which may be one of a hidden character.
+fn push_text_byte(out: &mut Vec<u8>, byte: u8, is_hidden: bool) -> Result<(), AllocError>
+    ensures { OnOk result (out.new.items ≡ out.old.items ++ Escapes.text_byte is_hidden byte) }
 {
-    if byte == b'&' {
+    if is_hidden {
+        push_numbered(out, byte)
+    } else if byte == b'&' {
         out.extend_from_slice(b"&amp;")
     } else if byte == b'<' {
         out.extend_from_slice(b"&lt;")
@@ -30,19 +36,26 @@ fn push_text_byte(out: &mut Vec<u8>, byte: u8) -> Result<(), AllocError>
     } else if byte == b'\'' {
         out.extend_from_slice(b"&#39;")
     } else {
-        push_other_byte(out, byte)
+        push_other_byte(out, byte, false)
     }
 }
 
-/// Adds a byte that is no markup.
-fn push_other_byte(out: &mut Vec<u8>, byte: u8) -> Result<(), AllocError>
-    ensures { OnOk result (out.new.items ≡ out.old.items ++ Escapes.other_byte byte) }
+/// Adds a byte that is no markup, which may be one of a hidden character.
+pub fn push_other_byte(out: &mut Vec<u8>, byte: u8, is_hidden: bool) -> Result<(), AllocError>
+    ensures { OnOk result (out.new.items ≡ out.old.items ++ Escapes.other_byte is_hidden byte) }
 {
-    if byte < 32 || 126 < byte {
-        out.extend_from_slice(&[b'\\', b'x', digit(byte / 16), digit(byte % 16)])
+    if is_hidden || byte < 32 || byte == 127 {
+        push_numbered(out, byte)
     } else {
         out.extend_from_slice(&[byte])
     }
+}
+
+/// Adds a byte by its number.
+fn push_numbered(out: &mut Vec<u8>, byte: u8) -> Result<(), AllocError>
+    ensures { OnOk result (out.new.items ≡ out.old.items ++ Escapes.numbered byte) }
+{
+    out.extend_from_slice(&[b'\\', b'x', digit(byte / 16), digit(byte % 16)])
 }
 
 /// The hexadecimal digit of a number.

@@ -1,22 +1,25 @@
 -- All versions that advisories are about, by the names of packages.
-use Rattle.std.specs.Prelude.{◌≡◌, ℕ, List, [], Option}
+use Rattle.std.specs.Prelude.{◌≡◌, ℕ, List, [], Option, map}
 use Rattle.std.specs.BTreeMap.{get_by}
 use Rattle.std.specs.Cmp.Lexicographic.{slice_cmp}
 use Rattle.std.specs.Option.{MatchOption}
 use Rattle.std.specs.Ordering.{nat_cmp}
 use Rattle.npm_advisories.specs.Private.Covering.{AreCovered}
 use Rattle.npm_advisories.specs.Private.Halves.{AreHalves}
+use Rattle.npm_advisories.specs.Advisories.{about_value}
+use Rattle.npm_advisories.specs.Hits.{AreKept}
 use Rattle.npm_advisories.specs.Index.{at_name}
-use Rattle.npm_advisories.specs.Private.Spans.{IsInRange}
+use Rattle.npm_advisories.specs.Private.Spans.{IsInRange, IsOfEach}
 use Rattle.npm_advisories.specs.declared.advisory.Advisory.{Advisory}
 use Rattle.npm_advisories.specs.declared.index.Index.{Index}
 use Rattle.npm_advisories.specs.declared.unions.Union.{Union}
 use Rattle.npm_advisories.specs.declared.unions.Unions.{Unions}
 
--- these are the versions that the advisories are about, and the releases among them
+-- these are the versions that the advisories are about, the releases among them, and the advisories about each release
 pub record IsUnion (advisories : List Advisory) (union : Union) : Type 0 where
   pub halves : AreHalves advisories union.halves
   pub covered : AreCovered union.covered.items (IsInRange advisories)
+  pub each : AreKept IsOfEach (λ advisory. about_value advisory.about) advisories (map about_value union.each.items)
 
 -- the union at a name
 abbrev pub union_at : Unions → (name : List ℕ) → Option Union

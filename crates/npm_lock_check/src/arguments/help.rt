@@ -40,7 +40,8 @@ Example: npm_lock_check --ignore peer-local --ignore engine package-lock.json";
 pub const OMIT: &str = "\
 Leave out the packages that npm ci --omit GROUP does not install, and what is in that group of
 dependencies: dev or optional. What npm installs below a linked folder that is no workspace
-counts, whatever its group. May be given several times.
+counts, whatever its group. Also write each package that is left out, though it is needed. May
+be given several times.
 Example: npm_lock_check --omit dev --omit optional package-lock.json";
 
 pub const SOURCES: &str = "\
@@ -78,7 +79,7 @@ pub const FORMAT: &str = "\
 text: write each problem as a sentence. json: write it as a JSON object. github: write it as an
 annotation of GitHub Actions. sarif: write all of them as one SARIF 2.1.0 log, of all lock files.
 html: write one page for a browser, which also lists what is not checked. junit: write one JUnit
-report, for Jenkins and GitLab. These four have the line and the column in FILE.
+report, for Jenkins and GitLab. These four have the line in FILE, and all but junit the column.
 The default is text if standard output is a terminal, and json if not.
 Example: npm_lock_check --format text package-lock.json > problems.txt";
 

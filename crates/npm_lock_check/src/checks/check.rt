@@ -13,6 +13,7 @@ ghost use Rattle.npm_manifest_files.specs.Linked.{loaded_value, workspace_value}
 
 use crate::checks::hits::counted_of;
 use crate::checks::kinds::Kinds;
+use crate::checks::needed::{needed_of, told_omissions};
 use crate::checks::output::Output;
 use crate::checks::own_folder::check_folders;
 use crate::checks::run_error::{RunError, StopError};
@@ -33,7 +34,7 @@ use std::io::Read;
 use std::mem::forget;
 
 /// Reads a lock file to the end, and returns its report and its output: the mismatches of the manifests, the problems but those of
-/// ignored kinds, the packages that an advisory hits which is not excepted, what is suspicious in where packages come from, and the dependencies that are not checked if they are
+/// ignored kinds, the packages that an advisory hits which is not excepted, what is suspicious in where packages come from, what is needed and left out, and the dependencies that are not checked if they are
 /// listed. Packages that are left out have neither problems nor hits.
 ///
 /// `load` is called with the lock file if that is compared with a manifest, and not otherwise. It returns the manifests of
@@ -99,6 +100,7 @@ fn report_of<'f>(
         workspaces,
     } = loaded;
     let compared = is_compared(&lock, wanted.manifest);
+    let groups = told_omissions(&lock, wanted.omissions);
     let Ok(sources) = suspicious_sources(alloc, &lock, wanted.registries) else {
         return Err(RunError::Memory);
     };
@@ -123,6 +125,10 @@ fn report_of<'f>(
     };
     let mut sources = sources;
     leave_out_sources(&mut sources, wanted.omissions, sound.file(), wanted.sources);
+    let needed = match needed_of(alloc, &sound, groups) {
+        Ok(needed) => needed,
+        Err(_) => return Err(RunError::Memory),
+    };
     let report = Report {
         compared,
         mismatches,
@@ -131,6 +137,7 @@ fn report_of<'f>(
         unread,
         problems,
         sources,
+        needed,
         audited: wanted.advisories.is_some(),
         advisories: count_in(wanted.advisories),
         hits: found.len(),

@@ -1,66 +1,57 @@
-//! What is said of an exception after all lock files are checked.
-ghost use Rattle.std.specs.Prelude.{◌≡◌, IfSome, option_map};
+//! What is said of exceptions after all lock files are checked.
+ghost use Rattle.std.specs.Prelude.{◌≡◌, IfOk, map, option_map};
 ghost use Rattle.advisory_exceptions.specs.Exceptions.{exception_value};
 ghost use Rattle.npm_lock_check.specs.Exceptions as Told;
+ghost use Rattle.npm_lock_check.specs.Exceptions.{said_of, said_value};
 
 use crate::StopError;
+use crate::runs::marks::marks_of;
 use advisory_exceptions::{Date, Exception};
-use npm_lock_reports::{Excepted, ExceptionSentence, Report};
+use npm_lock_reports::{ExceptionSentence, Report};
+use std::alloc::{AllocError, Global};
 
-/// Returns what is said of the exception at this place: that it is over, or that it applied to nothing. `None`: it applied, or it may
-/// apply to a lock file that was not checked.
+/// Returns what is said of each exception that is over, or that applied to nothing, in their order. Nothing is said of one that may apply
+/// to a lock file that was not checked, unless it is over.
+///
+/// # Errors
+///
+/// An allocation failed.
 ///
 /// # Memory
 ///
-/// Does not allocate.
-pub fn sentence_of<'a>(
-    exception: &'a Exception,
-    place: usize,
+/// Allocates the list, and for the time of the call a mark for each exception.
+pub fn sentences_of<'a>(
+    alloc: Global,
+    exceptions: &'a [Exception],
     today: Date,
     outcomes: &[Result<Report, StopError>],
+) -> Result<Vec<ExceptionSentence<'a>>, AllocError>
+    ensures { IfOk result (λ said. map said_value said.items
+        ≡ Told.all_told today 0 (map exception_value exceptions.now) outcomes.now) }
+{
+    let marks = marks_of(alloc, exceptions.len(), outcomes)?;
+    let mut said = Vec::new(alloc);
+    for place in 0..exceptions.len() {
+        if let Some(sentence) = sentence_of(&exceptions[place], today, marks[place]) {
+            said.push(sentence)?;
+        }
+    }
+    Ok(said)
+}
+
+/// What is said of an exception that may apply to something, or that applied to nothing.
+fn sentence_of<'a>(
+    exception: &'a Exception,
+    today: Date,
+    may_apply: bool,
 ) -> Option<ExceptionSentence<'a>>
-    ensures told { option_map (λ said. said.is_over) result
-        ≡ Told.told_of today (exception_value exception.now) place outcomes.now }
-    ensures same { IfSome result (λ said. said.exception.now ≡ exception.now) }
+    ensures { option_map said_value result ≡ said_of (exception_value exception.now)
+        (Told.told_if today (exception_value exception.now) may_apply) }
 {
     let is_over = exception.is_over(today);
-    if is_over || !may_apply(outcomes, place) {
+    if is_over || !may_apply {
         Some(ExceptionSentence { exception, is_over })
     } else {
         None
     }
-}
-
-/// Returns `true` if the exception at this place applied, or a lock file was not checked.
-fn may_apply(outcomes: &[Result<Report, StopError>], place: usize) -> bool
-    ensures { result ≡ Told.may_apply place outcomes.now }
-{
-    for outcome in outcomes {
-        if may_apply_to(outcome, place) {
-            return true;
-        }
-    }
-    false
-}
-
-/// Returns `true` if the exception at this place applied to a package of a lock file, or the lock file was not checked.
-fn may_apply_to(outcome: &Result<Report, StopError>, place: usize) -> bool
-    ensures { result ≡ Told.may_apply_to place outcome.now }
-{
-    match outcome {
-        Ok(report) => has_applied(&report.excepted, place),
-        Err(_) => true,
-    }
-}
-
-/// Returns `true` if one of these is excepted by the exception at this place.
-fn has_applied(excepted: &[Excepted], place: usize) -> bool
-    ensures { result ≡ Told.has_applied place excepted.now }
-{
-    for one in excepted {
-        if one.place == place {
-            return true;
-        }
-    }
-    false
 }

@@ -10,8 +10,10 @@ ghost use Rattle.npm_lock_check.specs.declared.checks.output.Output.{Output};
 
 use crate::runs::outputs::text_of;
 use crate::runs::refused::{push_refusal, refusals_of};
+use crate::runs::status::one_status;
 use crate::{Format, Output, Paths, RunError, StopError};
 use command_lines::Watched;
+use npm_lock_findings::CheckedFile;
 use npm_lock_reports::Report;
 use std::alloc::{AllocError, Global};
 use std::io::Write;
@@ -96,7 +98,15 @@ pub fn stop_text(
         "-",
         error,
     )?;
-    let text = text_of(alloc, writing.format, Vec::new(alloc), &refusals, false)?;
+    let checked = Vec::new(alloc);
+    let text = text_of(
+        alloc,
+        writing.format,
+        Vec::new(alloc),
+        &refusals,
+        &checked,
+        false,
+    )?;
     Ok(text)
 }
 
@@ -112,9 +122,33 @@ fn run_text(
         writing.entry.outer.now (map (λ file. file.now) files.now) outcomes.now outputs.entry.items text.items) }
 {
     let refusals = refusals_of(alloc, writing.asked, writing.outer, files, outcomes)?;
+    let checked = checked_files(alloc, files, outcomes)?;
     let is_complete = is_complete(outcomes);
-    let text = text_of(alloc, writing.format, outputs, &refusals, is_complete)?;
+    let text = text_of(
+        alloc,
+        writing.format,
+        outputs,
+        &refusals,
+        &checked,
+        is_complete,
+    )?;
     Ok(text)
+}
+
+/// Returns how the check of each lock file ended.
+fn checked_files<'f>(
+    alloc: Global,
+    files: &[&'f str],
+    outcomes: &[Result<Report, StopError>],
+) -> Result<Vec<CheckedFile<'f>>, AllocError> {
+    let mut checked = Vec::new(alloc);
+    for index in 0..files.len().min(outcomes.len()) {
+        checked.push(CheckedFile {
+            file: files[index],
+            status: one_status(&outcomes[index]),
+        })?;
+    }
+    Ok(checked)
 }
 
 /// Returns `true` if every lock file was checked.

@@ -7,11 +7,11 @@ ghost use Rattle.npm_lock_check.specs.Outputs.{IsTextOf, IsWritten};
 
 use crate::runs::refused::{Refusal, push_findings_of};
 use crate::{Format, NUMBER, Output};
-use npm_lock_findings::{push_findings, push_page};
+use npm_lock_findings::{CheckedFile, push_findings, push_page};
 use std::alloc::{AllocError, Global};
 
 /// Returns the text that is written for lock files: their lines, or all their findings and then those of the files that were refused. A
-/// log also says whether every lock file was checked.
+/// log and a page also say whether every lock file was checked, and a page how each check ended.
 ///
 /// # Memory
 ///
@@ -21,14 +21,14 @@ pub(crate) fn text_of<'f>(
     format: Format,
     outputs: Vec<Output<'f>>,
     refusals: &'f [Refusal],
+    checked: &[CheckedFile<'_>],
     is_complete: bool,
 ) -> Result<Vec<u8>, AllocError>
-    ensures { IfOk result (λ text. IsWritten format outputs.entry.items (map refusal_value refusals.now) is_complete
-        text.items) }
+    ensures { IfOk result (λ text. IsWritten format outputs.entry.items (map refusal_value refusals.now) text.items) }
 {
     let mut all = joined(alloc, outputs)?;
     push_findings_of(alloc, &mut all.findings, refusals)?;
-    let text = all_text(alloc, format, all, is_complete)?;
+    let text = all_text(alloc, format, all, checked, is_complete)?;
     Ok(text)
 }
 
@@ -37,25 +37,28 @@ fn all_text(
     alloc: Global,
     format: Format,
     all: Output<'_>,
+    checked: &[CheckedFile<'_>],
     is_complete: bool,
 ) -> Result<Vec<u8>, AllocError>
     ensures { IfOk result (λ text. IsTextOf format all.entry.lines.items (map finding_value all.entry.findings.items)
-        is_complete text.items) }
+        text.items) }
 {
     match format {
         Format::Report(_) => Ok(all.lines),
         Format::Annotations(format) => {
             let mut text = Vec::new(alloc);
-            push_findings(&mut text, format, NUMBER, &all.findings, is_complete)?;
+            push_findings(alloc, &mut text, format, NUMBER, &all.findings, is_complete)?;
             Ok(text)
         }
         Format::Pages(format) => {
             let mut text = Vec::new(alloc);
             push_page(
+                alloc,
                 &mut text,
                 format,
                 NUMBER,
                 &all.lines,
+                checked,
                 &all.findings,
                 is_complete,
             )?;

@@ -28,7 +28,7 @@ fn worst_of(outcomes: &[Result<Report, StopError>]) -> u8
 }
 
 /// Returns the status of one lock file: 0 if nothing was found, 1 if something was, and 2 if the file was not checked.
-fn one_status(outcome: &Result<Report, StopError>) -> u8
+pub(crate) fn one_status(outcome: &Result<Report, StopError>) -> u8
     ensures { IsStatus outcome.now result }
 {
     match outcome {

@@ -1,18 +1,21 @@
 //! The report of a lock file as findings without places.
 ghost use Rattle.std.specs.Prelude.{◌≡◌, ◌++◌, OnOk, map};
 ghost use Rattle.npm_advisories.specs.Audit.{found_value};
-ghost use Rattle.npm_lock.specs.Outcomes.{problem_value, unchecked_value};
+ghost use Rattle.npm_lock.specs.Outcomes.{dependency_value, problem_value, unchecked_value};
+ghost use Rattle.npm_lock_reports.specs.Excepted.{excepted_value};
 ghost use Rattle.npm_lock_reports.specs.Unread.{unread_value};
 ghost use Rattle.npm_lock.specs.Mismatches.{mismatch_value};
-ghost use Rattle.npm_lock_findings.specs.Findings.{hit_draft, listed_drafts, mismatch_draft, problem_draft, seen_draft, unchecked_draft};
 ghost use Rattle.npm_lock.specs.Sources.{source_value};
-ghost use Rattle.npm_lock_findings.specs.Findings.{source_draft, unread_draft};
+ghost use Rattle.npm_lock_findings.specs.Findings.{excepted_draft, hit_draft, listed_drafts, mismatch_draft, problem_draft, seen_draft, unchecked_draft};
+ghost use Rattle.npm_lock_findings.specs.Findings.{left_out_draft, source_draft, unread_draft};
 
-use crate::annotations::draft_of::{hit, mismatched, problematic, sourced, unchecked, unread};
+use crate::annotations::draft_of::{
+    excepted, hit, left_out, mismatched, problematic, sourced, unchecked, unread,
+};
 use findings::Draft;
 use npm_advisories::Found;
-use npm_lock::{Mismatch, Problem, Source, Unchecked};
-use npm_lock_reports::{Report, Unread};
+use npm_lock::{Dependency, Mismatch, Problem, Source, Unchecked};
+use npm_lock_reports::{Excepted, Report, Unread, Vague};
 use std::alloc::{AllocError, Global};
 
 /// Adds the drafts of mismatches.
@@ -51,12 +54,13 @@ pub fn push_hits<'a>(
     alloc: Global,
     drafts: &mut Vec<Draft<'static, 'a>>,
     found: &'a [Found<'_, '_>],
+    vague: &Vague<'_>,
 ) -> Result<(), AllocError>
     ensures { OnOk result (map seen_draft drafts.new.items
         ≡ map seen_draft drafts.old.items ++ map hit_draft (map found_value found.now)) }
 {
     for one in found {
-        drafts.push(hit(alloc, one)?)?;
+        drafts.push(hit(alloc, one, vague)?)?;
     }
     Ok(())
 }
@@ -72,6 +76,21 @@ pub fn push_sources<'a>(
 {
     for source in sources {
         drafts.push(sourced(alloc, source)?)?;
+    }
+    Ok(())
+}
+
+/// Adds the drafts of dependencies that are needed and left out.
+pub fn push_all_left_out<'a>(
+    alloc: Global,
+    drafts: &mut Vec<Draft<'static, 'a>>,
+    all: &'a [Dependency],
+) -> Result<(), AllocError>
+    ensures { OnOk result (map seen_draft drafts.new.items
+        ≡ map seen_draft drafts.old.items ++ map left_out_draft (map dependency_value all.now)) }
+{
+    for one in all {
+        drafts.push(left_out(alloc, one)?)?;
     }
     Ok(())
 }
@@ -120,6 +139,21 @@ fn push_all_unread<'a>(
 {
     for one in all {
         drafts.push(unread(alloc, one, strict)?)?;
+    }
+    Ok(())
+}
+
+/// Adds the drafts of packages that an advisory hits which is excepted for them.
+pub fn push_all_excepted<'a>(
+    alloc: Global,
+    drafts: &mut Vec<Draft<'static, 'a>>,
+    all: &'a [Excepted],
+) -> Result<(), AllocError>
+    ensures { OnOk result (map seen_draft drafts.new.items
+        ≡ map seen_draft drafts.old.items ++ map excepted_draft (map excepted_value all.now)) }
+{
+    for one in all {
+        drafts.push(excepted(alloc, one)?)?;
     }
     Ok(())
 }

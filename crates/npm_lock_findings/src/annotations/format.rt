@@ -1,14 +1,13 @@
 //! How findings are written.
 ghost use Rattle.std.specs.Prelude.{◌≡◌, ◌++◌, ℕ, List, OnOk, map};
 ghost use Rattle.std.specs.List.{flat_map};
-ghost use Rattle.findings.specs.Findings.{ToolValue, finding_value};
+ghost use Rattle.findings.specs.Findings.{finding_value};
 ghost use Rattle.findings.specs.Github.{annotation};
-ghost use Rattle.findings.specs.Sarif.{log};
-ghost use Rattle.npm_lock_findings.specs.Findings.{IsFindingsText, IsTool};
+ghost use Rattle.npm_lock_findings.specs.Findings.{IsFindingsText, IsOwnLog};
 
 use crate::annotations::rules::rules;
 use findings::{Finding, Tool, push_annotation, push_log};
-use std::alloc::AllocError;
+use std::alloc::{AllocError, Global};
 
 /// How findings are written.
 #[derive(Clone, Copy, Debug, PartialEq, Eq, Drop)]
@@ -28,33 +27,34 @@ pub enum AnnotationFormat {
 ///
 /// # Memory
 ///
-/// Allocates the text that is added.
+/// Allocates the text that is added, and for a log for the time of the call a list of its pieces.
 pub fn push_findings(
+    alloc: Global,
     out: &mut Vec<u8>,
     format: AnnotationFormat,
     version: &str,
     findings: &[Finding<'_>],
     is_successful: bool,
 ) -> Result<(), AllocError>
-    ensures { OnOk result ((text : List ℕ)
-        × IsFindingsText format version.now (map finding_value findings.now) is_successful text
+    ensures { OnOk result ((text : List ℕ) × IsFindingsText format (map finding_value findings.now) text
         × (out.new.items ≡ out.old.items ++ text)) }
 {
     match format {
         AnnotationFormat::Github => push_annotations(out, findings),
-        AnnotationFormat::Sarif => push_own_log(out, version, findings, is_successful),
+        AnnotationFormat::Sarif => push_own_log(alloc, out, version, findings, is_successful),
     }
 }
 
 /// Adds the log of this version of the tool.
 fn push_own_log(
+    alloc: Global,
     out: &mut Vec<u8>,
     version: &str,
     findings: &[Finding<'_>],
     is_successful: bool,
 ) -> Result<(), AllocError>
-    ensures { OnOk result ((tool : ToolValue) × IsTool version.now tool
-        × (out.new.items ≡ out.old.items ++ log tool (map finding_value findings.now) is_successful)) }
+    ensures { OnOk result ((text : List ℕ) × IsOwnLog (map finding_value findings.now) text
+        × (out.new.items ≡ out.old.items ++ text)) }
 {
     let rules = rules();
     let tool = Tool {
@@ -62,7 +62,7 @@ fn push_own_log(
         version,
         rules: &rules,
     };
-    push_log(out, tool, findings, is_successful)
+    push_log(alloc, out, tool, findings, is_successful)
 }
 
 /// Adds a line for each finding.

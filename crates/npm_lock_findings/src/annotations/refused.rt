@@ -23,5 +23,6 @@ pub fn refused_finding<'f>(
         file,
         line,
         column,
+        suppression: None,
     }
 }

@@ -4,17 +4,19 @@ ghost use Rattle.npm_advisories.specs.Audit.{found_value};
 ghost use Rattle.npm_lock_findings.specs.Findings.{AreFindings};
 
 use crate::annotations::drafts::{
-    push_hits, push_listed, push_mismatches, push_problems, push_sources,
+    push_all_excepted, push_all_left_out, push_hits, push_listed, push_mismatches, push_problems,
+    push_sources,
 };
 use findings::{Finding, findings_in};
 use npm_advisories::Found;
-use npm_lock_reports::Report;
+use npm_lock_reports::{Report, Vague};
 use std::alloc::{AllocError, Global};
 
 /// Returns the findings of a lock file at this path, with this text, in the order of the report's lines: the mismatches, the problems,
-/// the packages that an advisory hits, what is suspicious in where packages come from, and if the report lists them the dependencies that
-/// are not checked and what was not looked at.
-/// A mismatch is an error if it counts for the status, and else a warning. What is not checked is a note.
+/// the packages that an advisory hits, what is suspicious in where packages come from, the dependencies that are needed and left out, if
+/// the report lists them the dependencies that are not checked and what was not looked at, and the packages that an advisory hits which is
+/// excepted for them. A mismatch is an error if it counts for the status, and else a warning. What is not checked is a note if it does not
+/// count, and so is what is excepted, which is suppressed by the reason of its exception.
 ///
 /// The line and the column are those of the dependency in the group of its dependent, of `engines.node` of a package, or of a package.
 /// In a lock file of version 1 they are those of the dependency in `requires` of its dependent, or of a package. If none of these is in
@@ -40,8 +42,11 @@ pub fn findings_of<'f, 'a>(
     let mut drafts = Vec::new(alloc);
     push_mismatches(alloc, &mut drafts, &report.mismatches, report.exact)?;
     push_problems(alloc, &mut drafts, &report.problems.list)?;
-    push_hits(alloc, &mut drafts, found)?;
+    let vague = Vague::of(alloc, report)?;
+    push_hits(alloc, &mut drafts, found, &vague)?;
     push_sources(alloc, &mut drafts, &report.sources)?;
+    push_all_left_out(alloc, &mut drafts, &report.needed)?;
     push_listed(alloc, &mut drafts, report)?;
+    push_all_excepted(alloc, &mut drafts, &report.excepted)?;
     findings_in(alloc, text, file, &drafts)
 }

@@ -1,16 +1,17 @@
 //! The page or the report of all lock files.
 ghost use Rattle.std.specs.Prelude.{◌≡◌, ◌++◌, ℕ, List, OnOk, map};
 ghost use Rattle.findings.specs.Findings.{finding_value};
-ghost use Rattle.npm_lock_findings.specs.Whole.{IsPage};
+ghost use Rattle.npm_lock_findings.specs.Texts.{IsPage};
 
 use crate::pages::format::PageFormat;
-use crate::pages::whole::{push_begin, push_end, push_stops};
-use findings::Finding;
+use crate::pages::whole::{CheckedFile, begin_pieces, end_pieces};
 use findings::pages::laws;
-use std::alloc::AllocError;
+use findings::{Finding, push_pieces};
+use std::alloc::{AllocError, Global};
 
 /// Adds the page or the report that this version of the program `npm_lock_check` writes: what is said of the files that were refused, and
-/// then these parts of lock files, one after the other. A page also says whether every lock file was checked.
+/// then these parts of lock files, one after the other. A page says first whether the check failed, and whether every lock file was
+/// checked, and has a list of the lock files.
 ///
 /// # Errors
 ///
@@ -18,22 +19,23 @@ use std::alloc::AllocError;
 ///
 /// # Memory
 ///
-/// Allocates the text that is added.
+/// Allocates the text that is added, and for the time of the call a list of pieces.
 pub fn push_page(
+    alloc: Global,
     out: &mut Vec<u8>,
     format: PageFormat,
     version: &str,
     parts: &[u8],
+    checked: &[CheckedFile<'_>],
     refused: &[Finding<'_>],
     is_complete: bool,
 ) -> Result<(), AllocError>
-    ensures { OnOk result ((text : List ℕ)
-        × IsPage format version.now parts.now (map finding_value refused.now) is_complete text
+    ensures { OnOk result ((text : List ℕ) × IsPage parts.now (map (λ finding. finding.message) (map finding_value refused.now)) text
         × (out.new.items ≡ out.old.items ++ text)) }
 {
     laws::texts_are_no_markup();
-    push_begin(out, format, version, is_complete)?;
-    push_stops(out, format, refused)?;
+    let begin = begin_pieces(alloc, format, checked, refused, is_complete)?;
+    push_pieces(out, &begin)?;
     out.extend_from_slice(parts)?;
-    push_end(out, format)
+    push_pieces(out, &end_pieces(format, version))
 }

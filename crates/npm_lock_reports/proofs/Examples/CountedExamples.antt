@@ -24,7 +24,7 @@ abbrev hit : (name : List ℕ) → List AboutValue → FoundValue
 hit name hits = record {
   folder = codes "node_modules/" ++ name;
   name = name;
-  version = codes "1.0.0";
+  version = Some (codes "1.0.0");
   hits = hits;
   least = None;
   admitted = None;
@@ -59,7 +59,7 @@ without_development = refl
 -- the other advisory counts, and so does the same one for another package
 pub one_is_excepted : counted_hits nothing (excepting (codes "b")) file hits ≡ record {
   found = hit (codes "a") (known (codes "GHSA-1") ∷ []) ∷ hit (codes "b") (known (codes "GHSA-2") ∷ []) ∷ [];
-  excepted = record { folder = codes "node_modules/b"; name = codes "b"; version = codes "1.0.0"; place = 0 } ∷ [];
+  excepted = record { folder = codes "node_modules/b"; name = codes "b"; version = Some (codes "1.0.0"); place = 0 } ∷ [];
 }
 one_is_excepted = refl
 

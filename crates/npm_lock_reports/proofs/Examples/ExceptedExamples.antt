@@ -40,7 +40,7 @@ abbrev hit_by : List AboutValue → FoundValue
 hit_by hits = record {
   folder = codes "node_modules/lodash";
   name = codes "lodash";
-  version = codes "4.17.20";
+  version = Some (codes "4.17.20");
   hits = hits;
   least = None;
   admitted = None;
@@ -73,5 +73,5 @@ on_the_last_day = refl
 -- the first exception that applies is told
 pub the_place : excepted_in (on_that_day (excepting (codes "GHSA-1") (codes "lodash") (Some over)
     ∷ excepting (codes "GHSA-1") (codes "lodash") (Some last) ∷ excepting (codes "GHSA-1") (codes "lodash") None ∷ [])) (hit_by (one ∷ two ∷ []) ∷ [])
-    ≡ record { folder = codes "node_modules/lodash"; name = codes "lodash"; version = codes "4.17.20"; place = 1 } ∷ []
+    ≡ record { folder = codes "node_modules/lodash"; name = codes "lodash"; version = Some (codes "4.17.20"); place = 1 } ∷ []
 the_place = refl

@@ -1,31 +1,30 @@
 -- The advisories of the index about the name were read of those of the file.
-use Rattle.std.proofs.Common.{◌≡◌, ◌∙◌, [], map, refl, subst, sym}
+use Rattle.std.proofs.Common.{◌≡◌, ◌∙◌, Some, None, ap, map, option_map, subst, sym}
+use Rattle.std.proofs.lemmas.Result.{IfOk-weaker}
 use Rattle.std.specs.List.{AllZip}
 use Rattle.npm_advisories.specs.Advisories.{about_name, about_value}
-use Rattle.npm_advisories.specs.Audit.{version_or_least}
-use Rattle.npm_advisories.specs.Hits.{AreHits, none}
-use Rattle.npm_advisories.specs.Private.Covering.{AreCovered}
+use Rattle.npm_advisories.specs.Audit.{IsKnownAs}
+use Rattle.npm_advisories.specs.Hits.{AreHits, Known, said, unsaid}
 use Rattle.npm_advisories.specs.Index.{IsAdvisory}
+use Rattle.npm_advisories.specs.Private.Covering.{AreCovered}
 use Rattle.npm_advisories.specs.Private.Spans.{IsInRange}
-use Rattle.npm_advisories.proofs.Auditing.{empty-of, some-of}
-use Rattle.npm_advisories.proofs.LeastVersion.{end-or_least}
-use Rattle.npm_advisories.proofs.Keeping.{admitted-same, hits-same, unhit-same}
-use Rattle.npm_advisories.proofs.Results.{same-offer}
+use Rattle.npm_advisories.proofs.EachRelease.{each-hits, found-or_spared, none-spared, only-said, only-unsaid}
+use Rattle.npm_advisories.proofs.Keeping.{hits-same}
+use Rattle.npm_advisories.proofs.LeastVersion.{end-or_least, least-end}
 use Rattle.npm_advisories.proofs.Uniting.{known-empty, known-union}
 use Rattle.npm_advisories.proofs.found.found_of.Goals as goal
 
 pub returns-in_default : goal.returns-in_default
-returns-in_default c = λ values are v text.
+returns-in_default c = λ values are known text.
     let name = c.args.installed.now.name.now in
-    hits-same c.args.level v (about_name name values) [] []
-    (subst (AllZip IsAdvisory (about_name name values)) (sym c.in_default.ensures) are) none
+    none-spared c.args.level (about_name name values)
+    (subst (AllZip IsAdvisory (about_name name values)) (sym c.in_default.ensures) are) known
 
 pub returns-in_default-at : goal.returns-in_default-at
-returns-in_default-at c = λ values are v text.
+returns-in_default-at c = λ values are known text.
     let name = c.args.installed.now.name.now in
     let empty = known-empty c.args.index.now name _ (sym c.in_default-at.ensures) c.requires in
-    hits-same c.args.level v (about_name name values) [] [] (subst (AllZip IsAdvisory (about_name name values)) empty are)
-    none
+    none-spared c.args.level (about_name name values) (subst (AllZip IsAdvisory (about_name name values)) empty are) known
 
 pub hits-requires : goal.hits-requires
 hits-requires c =
@@ -33,48 +32,41 @@ hits-requires c =
     rw c.in-Some.ensures
     (known-union c.args.index.now name _ c.in-Some-at.union.now (sym c.in-Some-at.ensures) c.requires)
 
-pub returns-then-is_empty : goal.returns-then-is_empty
-returns-then-is_empty c = λ values are v text.
+pub found_with-requires-clause-end : goal.found_with-requires-clause-end
+found_with-requires-clause-end c = end-or_least c.read_version-version.result c.read_version-version.ensures.end
+
+pub found_with-requires-in-None-clause-end : goal.found_with-requires-in-None-clause-end
+found_with-requires-in-None-clause-end c = least-end
+
+pub returns-in_ok-hits-in-Some-version : goal.returns-in_ok-hits-in-Some-version
+returns-in_ok-hits-in-Some-version c = IfOk-weaker c.found_with.result _ _ (λ found made values are.
     let name = c.args.installed.now.name.now in
     let version = c.read_version-version.result in
+    let text : option_map (λ t. t.now) c.args.installed.now.version ≡ Some c.in-Some-version.text.now =
+    ap (option_map (λ t. t.now)) c.in-Some-version.is in
     let read = subst (AllZip IsAdvisory (about_name name values)) (sym c.in-Some.ensures) are in
-    let none : c.in_ok-hits.hits.items ≡ [] =
-    sym c.as_slice.ensures.value ∙ empty-of c.as_slice.result.now (sym c.is_empty.ensures ∙ c.if-is_empty.true) in
-    subst (λ w. AreHits c.args.level w (about_name name values) []) (sym (c.read_version-version.ensures.only v text))
-    (hits-same c.args.level version (about_name name values) c.in-Some.advisories.now [] read
-    (rw none at c.in_ok-hits.ensures))
+    let union = known-union c.args.index.now name _ c.in-Some-at.union.now (sym c.in-Some-at.ensures) c.requires in
+    let same : AreCovered c.covered.result.now (IsInRange c.in-Some.advisories.now) =
+    rw (c.covered.ensures, c.in-Some.ensures) union.covered in
+    found-or_spared c.args.level values c.args.installed.now c.in-Some.advisories.now read c.covered.result.now same
+    (said version) (subst (λ t. IsKnownAs t (said version)) (sym text) c.read_version-version.ensures.read)
+    (subst (λ t. (other : Known) → IsKnownAs t other → other ≡ said version) (sym text)
+    (only-said c.in-Some-version.text.now version c.read_version-version.ensures.only)) (map about_value c.in_ok-hits-in-Some-version.hits.items)
+    (hits-same c.args.level version (about_name name values) c.in-Some.advisories.now _ read c.in_ok-hits-in-Some-version.ensures) found made)
+    c.found_with.ensures
 
-pub offer_above-requires : goal.offer_above-requires
-offer_above-requires c =
+pub returns-in_ok-hits-in-None : goal.returns-in_ok-hits-in-None
+returns-in_ok-hits-in-None c = IfOk-weaker c.found_with-in-None.result _ _ (λ found made values are.
     let name = c.args.installed.now.name.now in
-    let known = known-union c.args.index.now name _ c.in-Some-at.union.now (sym c.in-Some-at.ensures) c.requires in
-    record { end = end-or_least c.read_version-version.result c.read_version-version.ensures.end; covered = rw c.covered.ensures known.covered.steps }
-
-pub returns : goal.returns
-returns c = λ values are.
-    let name = c.args.installed.now.name.now in
-    let version = c.read_version-version.result in
-    let advisories = about_name name values in
+    let text : option_map (λ t. t.now) c.args.installed.now.version ≡ None = ap (option_map (λ t. t.now)) c.in-None.is in
     let read = subst (AllZip IsAdvisory (about_name name values)) (sym c.in-Some.ensures) are in
-    let known = known-union c.args.index.now name _ c.in-Some-at.union.now (sym c.in-Some-at.ensures) c.requires in
-    let covered = c.covered.result.now in
-    let same : AreCovered covered (IsInRange c.in-Some.advisories.now) =
-    rw (c.covered.ensures, c.in-Some.ensures) known.covered in
-    let some = some-of about_value c.as_slice.result.now (sym c.is_empty.ensures ∙ c.if-is_empty.false) in
-    record {
-      version = version;
-      is = record {
-        folder = refl;
-        name = refl;
-        version = refl;
-        read = c.read_version-version.ensures.read;
-        hits = hits-same c.args.level version advisories c.in-Some.advisories.now _ read c.in_ok-hits.ensures;
-        some = rw c.as_slice.ensures.value at some;
-        least = same-offer (unhit-same advisories c.in-Some.advisories.now read covered same
-            (version_or_least version))
-            c.in_ok-offer.offer.least c.in_ok-offer.ensures.least;
-        admitted = same-offer (admitted-same advisories c.in-Some.advisories.now read covered same
-            (version_or_least version) (map (λ text. text.now) c.args.installed.now.asked.items)) c.in_ok-offer.offer.admitted
-            (rw c.deref.ensures.value at c.in_ok-offer.ensures.admitted);
-      };
-    }
+    let union = known-union c.args.index.now name _ c.in-Some-at.union.now (sym c.in-Some-at.ensures) c.requires in
+    let same : AreCovered c.covered-in-None.result.now (IsInRange c.in-Some.advisories.now) =
+    rw (c.covered-in-None.ensures, c.in-Some.ensures) union.covered in
+    found-or_spared c.args.level values c.args.installed.now c.in-Some.advisories.now read c.covered-in-None.result.now same
+    unsaid (subst (λ t. IsKnownAs t unsaid) (sym text) tt)
+    (subst (λ t. (other : Known) → IsKnownAs t other → other ≡ unsaid) (sym text) only-unsaid)
+    (map about_value c.in_ok-hits-in-None.hits.items)
+    (subst (AreHits c.args.level unsaid (about_name name values)) (sym c.in_ok-hits-in-None.ensures)
+    (each-hits c.args.level (about_name name values) c.in-Some.advisories.now _ read (rw c.in-Some.ensures union.each))) found made)
+    c.found_with-in-None.ensures

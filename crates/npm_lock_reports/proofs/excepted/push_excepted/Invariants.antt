@@ -8,6 +8,6 @@ use Rattle.npm_lock_reports.proofs.excepted.push_excepted.Given as goal
 
 abbrev pub invariant-loop-about : goal.invariant-loop-about
 invariant-loop-about l = map excepted_value l.list.items
-    ++ excepted_among (exceptions_value l.exceptions) (found_value l.one) (map about_value (drop l.about-index l.one.hits.items))
+    ++ excepted_among (exceptions_value l.exceptions.exceptions) (found_value l.one) (map about_value (drop l.about-index l.one.hits.items))
     ≡ map excepted_value l.initial.list.items
-    ++ excepted_among (exceptions_value l.exceptions) (found_value l.one) (map about_value l.one.hits.items)
+    ++ excepted_among (exceptions_value l.exceptions.exceptions) (found_value l.one) (map about_value l.one.hits.items)

@@ -1,8 +1,9 @@
 -- The draft at the index, at its place.
-use Rattle.std.proofs.Common.{◌≡◌, ◌<◌, Some, arith, length, refl}
+use Rattle.std.proofs.Common.{◌≡◌, ◌∙◌, ◌<◌, Some, ap, arith, length, refl}
 use Rattle.std.specs.Prelude.{slice_get}
 use Rattle.std.proofs.lemmas.Grind.{common_steps}
 use Rattle.std.proofs.lemmas.Option.{gets, slice_get-get_or}
+use Rattle.findings.specs.PageEscapes.{visible}
 use Rattle.findings.proofs.Shown.{shown}
 use Rattle.findings.proofs.draft.placed.finding_at.Goals as goal
 
@@ -21,11 +22,12 @@ returns c =
         rule = refl;
         rule_index = refl;
         level = refl;
-        message = rw (c.in_ok-from_slice.ensures.items, c.deref.ensures.value) refl;
+        message = c.in_ok-visible.ensures ∙ ap visible c.deref.ensures.value;
         in_file = refl;
         place = _;
         shown = at;
         line = refl;
         column = refl;
+        suppressed = c.in_ok-suppression_of.ensures;
       };
     }

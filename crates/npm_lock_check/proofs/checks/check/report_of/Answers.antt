@@ -59,6 +59,7 @@ returns-in-Ok-output-clause-found c =
         hit = rw made at (rw c.in-Ok-sound_lock.ensures.file at c.in-Ok-counted_of.ensures.found);
         own = rw made at (rw c.in-Ok-sound_lock.ensures.file at c.in_default-check_folders.ensures.own);
         sources = rw made at (rw (c.in-Ok.ensures, c.file.ensures.file, c.in-Ok-sound_lock.ensures.file) at c.leave_out_sources.ensures);
+        needed = rw made at (rw (c.told_omissions-groups.ensures, c.in-Ok-sound_lock.ensures.file) at c.in-Ok-needed_of.ensures);
         audited = c.is_some.ensures ∙ some_same (λ file. view file.now) c.args.wanted.advisories;
         hits = c.len.ensures ∙ sym (rw c.deref-2.ensures.value at c.deref-2.ensures.len) ∙ length_same found_value
             c.in-Ok-counted_of.counted.found.items;

@@ -7,5 +7,5 @@ pub returns : goal.returns
 returns c = (
   map refusal_value c.in_ok-refusals.refusals.items,
   c.in_ok-refusals.ensures,
-  rw (c.deref.ensures.value, c.is_complete-is_complete.ensures) at c.in_ok-text.ensures,
+  rw c.deref.ensures.value at c.in_ok-text.ensures,
 )

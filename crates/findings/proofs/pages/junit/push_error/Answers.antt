@@ -1,9 +1,0 @@
--- The pieces have these texts.
-use Rattle.findings.proofs.pages.junit.push_error.Goals as goal
-
-pub returns : goal.returns
-returns c = rw (
-  c.as_bytes.ensures.value,
-  c.as_bytes-2.ensures.value,
-  c.as_bytes-3.ensures.value,
-) at c.push_pieces.ensures

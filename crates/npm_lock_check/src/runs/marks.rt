@@ -1,0 +1,50 @@
+//! Which exceptions may apply to something: each excepted hit marks its exception, so that no exception is looked up among all hits.
+ghost use Rattle.std.specs.Prelude.{◌≡◌, IfOk, replicate, slice_set, true};
+ghost use Rattle.npm_lock_check.specs.Private.Marks.{AreMarks, marked};
+
+use crate::StopError;
+use npm_lock_reports::{Excepted, Report};
+use std::alloc::{AllocError, Global};
+
+/// For each of so many exceptions, whether it applied to a package of a lock file, or a lock file was not checked.
+pub fn marks_of(
+    alloc: Global,
+    count: usize,
+    outcomes: &[Result<Report, StopError>],
+) -> Result<Vec<bool>, AllocError>
+    ensures { IfOk result (λ marks. AreMarks count outcomes.now marks.items) }
+{
+    let mut marks = all_alike(alloc, false, count)?;
+    for outcome in outcomes {
+        match outcome {
+            Ok(report) => mark_all(&mut marks, &report.excepted),
+            Err(_) => return all_alike(alloc, true, count),
+        }
+    }
+    Ok(marks)
+}
+
+/// So many marks, all of them set, or none.
+fn all_alike(alloc: Global, are_set: bool, count: usize) -> Result<Vec<bool>, AllocError>
+    ensures { IfOk result (λ marks. marks.items ≡ replicate count are_set) }
+{
+    vec![in alloc; are_set; count]
+}
+
+/// Marks the exceptions by which these are excepted.
+fn mark_all(marks: &mut Vec<bool>, excepted: &[Excepted])
+    ensures { marks.new.items ≡ marked marks.old.items excepted.now }
+{
+    for one in excepted {
+        mark(marks, one.place);
+    }
+}
+
+/// Marks one exception.
+fn mark(marks: &mut Vec<bool>, place: usize)
+    ensures { marks.new.items ≡ slice_set marks.old.items place true }
+{
+    if let Some(mark) = marks.get_mut(place) {
+        *mark = true;
+    }
+}

@@ -1,0 +1,7 @@
+-- No message more.
+use Rattle.std.proofs.Common.{◌≡◌}
+use Rattle.npm_lock_findings.specs.Private.Said.{said_in}
+use Rattle.npm_lock_findings.proofs.pages.section.push_links.Given as goal
+
+abbrev pub invariant-loop-index : goal.invariant-loop-index
+invariant-loop-index l = said_in l.pieces.items ≡ said_in l.initial.pieces.items

@@ -1,0 +1,2 @@
+-- What private functions are said to compute.
+pub mod Said

@@ -94,7 +94,7 @@ typedef struct npm_resolve_options {
  * package.json: its `dependencies`, `devDependencies`, `optionalDependencies` and `peerDependencies` count, and the peers of
  * the versions that are selected; with `flat` their dependencies too. The documents are an object from the name of a package to
  * its document, as a registry serves it. Both are texts in JSON. A package whose name is no member has no document, and so no
- * versions.
+ * versions. A package of `optionalDependencies` that has no version in its range is left out.
  *
  * `overrides` of the manifest count too: in {"a": "1.0.0"} the spec 1.0.0 counts in place of each other spec of `a`. Rules that
  * have a range or `$` in them, and those for one parent, are not read.

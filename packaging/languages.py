@@ -42,19 +42,19 @@ def check_native(path):
 
 
 # The libraries for C, each with its header, and the crates of their exports.
-LIBRARIES = {"node_semver": "node_semver_c", "npm_pick": "npm_pick_c", "npm_resolve": "npm_resolve_c"}
+LIBRARIES = {"node_semver": "node_semver_c", "npm_calls": "npm_c"}
 
 
 def libraries():
     """Builds the libraries for C over the exports that the gate has proved."""
-    run(os.path.join(ROOT, ".ci", "packages", "library"), *LIBRARIES.values())
-    run("make", "-C", os.path.join(BINDINGS, "c"), "all", "pick", "resolve")
+    run(os.path.join(ROOT, "tools", "library"), *LIBRARIES.values())
+    run("make", "-C", os.path.join(BINDINGS, "c"), "all", "calls")
 
 
 def install_c(folder):
     """The libraries for C below a folder that can be moved: pkg-config and CMake find them from where they are."""
     stage = folder + ".stage"
-    targets = ("install", "install-pick", "install-resolve")
+    targets = ("install", "install-calls")
     run("make", "-C", os.path.join(BINDINGS, "c"), *targets, "PREFIX=/usr/local", f"DESTDIR={stage}")
     shutil.copytree(os.path.join(stage, "usr/local"), folder, symlinks=True, dirs_exist_ok=True)
     shutil.rmtree(stage)

@@ -5,7 +5,7 @@ import sys
 
 from versions import ROOT
 
-sys.path.insert(0, os.path.join(ROOT, ".ci", "shared"))
+sys.path.insert(0, os.path.join(ROOT, "tools", "shared"))
 import crates
 
 
@@ -29,7 +29,7 @@ def object_of(crate):
     is proved and compiled once more, over the libraries that the gate has proved."""
     folder = os.path.join(ROOT, "crates", crate)
     made = os.path.join(folder, "out", f"{crate}.o")
-    if not crates.is_built(made, crate):
+    if not crates.is_built(crate, made):
         sources = crates.sum_of_sources(crate)
         known = {it.name: it for it in rtlib.crates_below(ROOT)}
         words = [*known[crate].words(["--jobs", "1"], False), "--toolchain", os.path.join(KIT, "toolchain"), "--backend", "llvm"]
@@ -37,7 +37,7 @@ def object_of(crate):
         ran = subprocess.run(words, cwd=folder, capture_output=True, text=True)
         if ran.returncode:
             sys.exit(f"{ran.stdout[-2000:]}{ran.stderr[-2000:]}\nrelease: {crate} was not compiled")
-        crates.note(sources, made, crate)
+        crates.note(sources, crate, made)
     return made
 
 

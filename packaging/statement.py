@@ -7,7 +7,7 @@ import sys
 
 from versions import ROOT, version
 
-sys.path.insert(0, os.path.join(ROOT, ".ci", "shared"))
+sys.path.insert(0, os.path.join(ROOT, "tools", "shared"))
 import crates
 import files
 import rattle

@@ -8,8 +8,7 @@ ROOT = os.path.dirname(os.path.dirname(os.path.abspath(__file__)))
 # Where the version is written as well, and how it is found there.
 PLACES = (
     ("bindings/c/include/node_semver.h", r'#define NODE_SEMVER_LIBRARY_VERSION "([^"]*)"'),
-    ("bindings/c/include/npm_pick.h", r'#define NPM_PICK_LIBRARY_VERSION "([^"]*)"'),
-    ("bindings/c/include/npm_resolve.h", r'#define NPM_RESOLVE_LIBRARY_VERSION "([^"]*)"'),
+    ("bindings/c/include/npm_calls.h", r'#define NPM_CALLS_LIBRARY_VERSION "([^"]*)"'),
     ("bindings/python/src/node_semver/__init__.py", r'^__version__ = "([^"]*)"'),
     ("bindings/node/package.json", r'^  "version": "([^"]*)"'),
     ("crates/npm_lock_check/src/arguments/command.rt", r'NUMBER: &str = "([^"]*)"'),

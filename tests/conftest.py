@@ -1,34 +1,13 @@
-"""Makes a test of each row of `programs/`, `rows/` and `memory/`, picks those that words name, and writes what ran to the file DENIMSCREE_REPORT."""
+"""Makes a test of each row of `programs/`, `rows/` and `memory/`, and counts the tests of each kind, a kind being a folder."""
 import collections
-import json
+import hashlib
 import os
 import shlex
 
 import pytest
 
-from support import answers, call_rows, documents, programs, refused_calls, refused_programs, rows
-
-try:
-    from xdist.scheduler import LoadScheduling
-except ImportError:  # (all tests run in one process then)
-    LoadScheduling = object
-
-
-class FewAtATime(LoadScheduling):
-    """Gives each process two tests at a time. xdist gives hundreds at once, and the tests that take a minute stand side by side: one process
-    had them all, and the others ended long before it."""
-
-    def check_schedule(self, node, duration=0):
-        if not self.pending or len(self.node2pending[node]) < 2:
-            super().check_schedule(node, duration)
-
-    def _send_tests(self, node, num):
-        super()._send_tests(node, min(num, 2))
-
-
-@pytest.hookimpl(optionalhook=True)
-def pytest_xdist_make_scheduler(config, log):
-    return FewAtATime(config, log) if config.getvalue("dist") == "load" else None
+from support import call_rows, programs, refused_calls, refused_programs, rows
+import gate
 
 
 class Wrong(Exception):
@@ -38,20 +17,19 @@ class Wrong(Exception):
 class Row(pytest.Item):
     """A row of any kind of file."""
 
-    def __init__(self, *, case, faults, **more):
+    def __init__(self, *, case, **more):
         super().__init__(**more)
-        self.case, self.faults = case, faults
+        self.case = case
 
     def runtest(self):
-        if told := list(self.faults()):
+        if told := list(self.case.faults()):
             raise Wrong("\n".join(told))
 
     def repr_failure(self, excinfo, style=None):
         if not isinstance(excinfo.value, Wrong):
             return super().repr_failure(excinfo, style)
-        place = os.path.relpath(self.path)
-        return (f"{place}:{self.case.line}: {self.name}\n{excinfo.value}\n    the row alone:\n"
-                f"        /usr/bin/python3 -m pytest {shlex.quote(f'{place}::{self.name}')}")
+        place = os.path.relpath(self.path, programs.ROOT)
+        return f"{place}:{self.case.line}: {self.name}\n{excinfo.value}\n    the row alone:\n        ./check {shlex.quote(f'{place}::{self.name}')}"
 
     def reportinfo(self):
         return self.path, self.case.line - 1, self.name
@@ -61,40 +39,29 @@ class Rows(pytest.File):
     """A file of rows, by its ending and its folder."""
 
     def collect(self):
-        names, read = set(), READERS[self.path.suffix, self.path.parent.name if self.path.name != "programs.tsv" else "runs"]
-        for case in read(self.path):
+        names, reader = set(), rows if self.path.suffix == ".rows" else READERS[self.path.parent.name]
+        for case in (refused_programs if self.path.name == "programs.tsv" else reader).read(self.path):
             if case.name in names:
                 raise rows.Malformed(f"{self.path}:{case.line}: there are two rows of the name {case.name}")
             names.add(case.name)
-            faults = case.faults if hasattr(case, "faults") else lambda case=case: rows.fault(case, self.path.parent.name)
-            yield Row.from_parent(self, name=case.name, case=case, faults=faults)
+            yield Row.from_parent(self, name=case.name, case=case)
 
 
-READERS = collections.defaultdict(lambda: rows.read, {
-    (".tsv", "rows"): call_rows.read, (".calls", "rows"): documents.read, (".tsv", "runs"): refused_programs.read,
-    (".tsv", "memory"): refused_calls.read, (".calls", "memory"): refused_calls.read})
+READERS = {"rows": call_rows, "memory": refused_calls}
 
 
 def pytest_collect_file(parent, file_path):
-    if file_path.suffix in (".rows", ".calls") or file_path.suffix == ".tsv" and file_path.parent.name in ("rows", "memory"):
-        return Rows.from_parent(parent, path=file_path)
-    return None
-
-
-def pytest_ignore_collect(collection_path):
-    """Where lines are gathered, only tests that ask calls are looked for."""
-    name = os.path.relpath(collection_path, programs.TESTS)
-    return True if answers.is_gathering() and name != "." and not name.startswith(answers.ASKING) and name not in ("memory", "models") else None
-
-
-def pytest_addoption(parser):
-    parser.addoption("--word", action="append", default=[], help="runs only tests whose name has it, or of a crate that uses the one of this name")
+    return Rows.from_parent(parent, path=file_path) if file_path.suffix in (".rows", ".calls", ".tsv") else None
 
 
 def pytest_collection_modifyitems(config, items):
-    if words := config.getoption("word"):
+    """Side by side tests run in an order of no meaning: those that take a minute stand together, and one process would get them all."""
+    if words := config.option.word:
         above = {f"[{name}]" for name, (uses, _) in programs.crates.listed().items() for word in words if word in (name, *uses)}
-        items[:] = [it for it in items if any(word in it.nodeid for word in words) or it.nodeid.startswith("crates/") and any(name in it.nodeid for name in above)]
+        items[:] = [it for it in items if any(word in it.nodeid for word in words)
+                    or it.nodeid.startswith("crates/") and any(name in it.nodeid for name in above)]
+    if hasattr(config, "workerinput"):
+        items.sort(key=lambda it: hashlib.md5(it.nodeid.encode()).digest())
 
 
 @pytest.hookimpl(tryfirst=True)
@@ -105,31 +72,49 @@ def pytest_runtest_makereport(call):
         call.excinfo = pytest.ExceptionInfo.from_exc_info((type(skipped), skipped, call.excinfo.tb))
 
 
-class Report:
-    """What ran: how many tests of each kind passed, a kind being a folder, and how many made cases; which failed or were skipped, and why."""
+# ---- what ran
 
-    def __init__(self):
-        self.kinds, self.failures, self.skipped = collections.Counter(), [], collections.defaultdict(list)
-
-    def pytest_runtest_logreport(self, report):
-        if report.failed:
-            self.failures.append((report.nodeid, report.longreprtext))
-        elif report.skipped:
-            self.skipped[report.longrepr[2].removeprefix("Skipped: ")].append(report.nodeid)
-        elif report.when == "call":
-            self.kinds[report.nodeid.split("/")[0]] += 1
-            self.kinds["made"] += sum(value for name, value in report.user_properties if name == "made")
-
-    def pytest_collectreport(self, report):
-        if report.failed:
-            self.failures.append((report.nodeid, report.longreprtext))
-
-    def pytest_unconfigure(self):
-        made = self.kinds.pop("made", 0)
-        with open(os.environ["DENIMSCREE_REPORT"], "w", encoding="utf-8") as file:
-            json.dump({"kinds": self.kinds, "made": made, "failures": self.failures, "skipped": self.skipped}, file)
+def pytest_addoption(parser):
+    parser.addoption("--word", action="append", default=[], help="runs only tests whose name has it, or of a crate that uses the one of this name")
+    parser.addoption("--whole", default="", help="no test may be left out, and of these kinds there are as many as tests/least says")
 
 
-def pytest_configure(config):
-    if not hasattr(config, "workerinput") and os.environ.get("DENIMSCREE_REPORT"):
-        config.pluginmanager.register(Report())
+def summary(stats, whole):
+    """The last lines of a run, and how many tests failed. `whole`: the kinds of which no test may be left out."""
+    kinds, skipped = collections.Counter(), collections.defaultdict(list)
+    for report in stats.get("passed", []):
+        counted = dict(report.user_properties)
+        kinds[report.nodeid.split("/")[0]] += counted.get("checks", 1)
+        kinds["made"] += counted.get("made", 0)
+    for report in stats.get("skipped", []):
+        skipped[report.longrepr[2].removeprefix("Skipped: ")].append(report.nodeid)
+    failed, left = sum(len(stats.get(it, [])) for it in ("failed", "error")), sum(map(len, skipped.values()))
+    passed = sum(kinds.values()) - kinds["made"]
+    lines = [", ".join(f"{kind} {'ok' if kind == 'lints' and not failed else f'{count:,}'}" for kind, count in sorted(kinds.items())
+                       if kind != "made")]
+    unbuilt = sorted(name.removeprefix("not built: ") for name in skipped if name.startswith("not built: "))
+    if unbuilt:
+        count = sum(len(skipped.pop(f"not built: {name}")) for name in unbuilt)
+        lines.append(f"{count:,} of {passed + failed + left:,} need proved programs: ./check --prove {' '.join(unbuilt)}")
+    lines += [f"not run: {', '.join(names) if len(names) < 5 else f'{len(names)} tests'}: {why}" for why, names in skipped.items()]
+    if whole:
+        least = gate.least()
+        few = [f"WRONG: {kind}: wanted: {least[kind]} at least, as tests/least says, got: {kinds[kind]}"
+               for kind in whole if kinds[kind] < least[kind]]
+        lines, failed = lines + few, failed + left + len(few)
+    return [*lines, f"{passed} passed, {failed} failed{f', {left} skipped' if left and not whole else ''}"], failed
+
+
+SUMMARY = pytest.StashKey()
+
+
+def pytest_sessionfinish(session, exitstatus):
+    shown = session.config.pluginmanager.get_plugin("terminalreporter")
+    if not hasattr(session.config, "workerinput") and exitstatus in (0, 1) and not session.config.option.collectonly:
+        session.config.stash[SUMMARY], failed = summary(shown.stats, session.config.option.whole.split())
+        session.exitstatus = int(failed > 0)
+
+
+def pytest_unconfigure(config):
+    for line in filter(None, config.stash.get(SUMMARY, [])):
+        print(line, flush=True)

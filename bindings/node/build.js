@@ -9,7 +9,7 @@ const { spawnSync } = require('node:child_process');
 const fs = require('node:fs');
 const path = require('node:path');
 
-const MODULES = ['node_semver', 'npm_pick', 'npm_resolve'];
+const MODULES = ['node_semver', 'npm_calls'];
 const at = (...names) => path.join(__dirname, ...names);
 
 function build() {

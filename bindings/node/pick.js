@@ -1,16 +1,11 @@
 // SPDX-License-Identifier: Apache-2.0
-// The version of a package that npm would install: npm's `npm-pick-manifest`, over the proved library npm_pick.
+// The version of a package that npm would install: npm's `npm-pick-manifest`, over the proved library npm_calls.
 'use strict';
 
 const { withPlainBins } = require('./internal/pick/bins.js');
 const { errorOf } = require('./internal/pick/errors.js');
-const { keyOf, STATUS } = require('./internal/pick/key.js');
+const { keyOf, PICKED } = require('./internal/pick/key.js');
 const { own } = require('./internal/pick/members.js');
-
-// The marks of a version, whose sum the library returns.
-const IS_AVOIDED = 1;
-const IS_OUTSIDE = 2;
-const IS_MAJOR = 4;
 
 // The options, with npm's defaults.
 function optionsOf({
@@ -20,13 +15,13 @@ function optionsOf({
     return { defaultTag, before, nodeVersion, npmVersion, includeStaged, avoid, avoidStrict };
 }
 
-// The manifest of a key; a copy if it has marks, as in npm.
-function manifestOf({ packument, staged, restricted }, key, marks) {
-    const manifest = own(packument.versions, key) || own(staged, key) || own(restricted, key);
-    if (marks & IS_OUTSIDE) {
-        return { ...manifest, _outsideDependencyRange: true, _isSemVerMajor: (marks & IS_MAJOR) !== 0 };
+// The manifest of a version; a copy if it has marks, as in npm.
+function manifestOf({ packument, staged, restricted }, { version, avoided, outside, major }) {
+    const manifest = own(packument.versions, version) || own(staged, version) || own(restricted, version);
+    if (outside) {
+        return { ...manifest, _outsideDependencyRange: true, _isSemVerMajor: major };
     }
-    return marks & IS_AVOIDED ? { ...manifest, _shouldAvoid: true } : manifest;
+    return avoided ? { ...manifest, _shouldAvoid: true } : manifest;
 }
 
 // pick(packument, wanted, opts): the manifest of the version that npm would install.
@@ -42,11 +37,11 @@ function pick(packument, wanted, opts = {}) {
         staged: options.includeStaged ? packument.stagedVersions?.versions : undefined,
         restricted: packument.policyRestrictions?.versions,
     };
-    const { status, key, marks } = keyOf(asked);
-    if (status !== STATUS.OK) {
-        throw errorOf(status, asked);
+    const picked = keyOf(asked);
+    if (picked.outcome !== PICKED) {
+        throw errorOf(picked.outcome, asked);
     }
-    return withPlainBins(manifestOf(asked, key, marks));
+    return withPlainBins(manifestOf(asked, picked));
 }
 
 module.exports = pick;

@@ -146,11 +146,23 @@ declare namespace resolve {
         overrides: string[];
     }
 
+    /** Names that an answer is about. */
+    interface Names {
+        /** Optional dependencies of which no version is in the range: they are left out. */
+        left_out: string[];
+        /** Packages without a document: versions that need them are left out. */
+        missing: string[];
+        /** Dependencies that ask no registry, as a folder or a repository: they are left out. */
+        refused: string[];
+        /** Packages whose rule in `overrides` is not read. */
+        unread: string[];
+    }
+
     /** The answer. An object may have more members than these. The packages are in the order in which they are first needed. */
-    type Resolution = { outcome: 'selected'; packages: Chosen[] } | NoSelection | Undecided;
+    type Resolution = ({ outcome: 'selected'; packages: Chosen[] } | NoSelection | Undecided) & Names;
 
     /** The answer with `lockfile: true`: the text of a package-lock.json of version 3, if versions fit together. */
-    type LockResolution = { outcome: 'selected'; lockfile: string } | Unread | NoSelection | Undecided;
+    type LockResolution = ({ outcome: 'selected'; lockfile: string } | Unread | NoSelection | Undecided) & Names;
 
     interface ResolveError extends Error {
         code?: 'EINVALIDMANIFEST' | 'EINVALIDDOCUMENTS' | 'EINVALIDLOCK' | 'EINVALIDOPTION' | 'ERR_MEMORY_ALLOCATION_FAILED';

@@ -1,8 +1,8 @@
 # SPDX-License-Identifier: Apache-2.0
-"""Builds the three extension modules on Python's limited API; pyproject.toml says the rest.
+"""Builds the two extension modules on Python's limited API; pyproject.toml says the rest.
 
-NODE_SEMVER_LIBRARY names the static libraries to link, with `:` between. If it does not name libnpm_pick.a or
-libnpm_resolve.a, that is taken from the folder of the first. Their headers are in the folder `include` beside that one, or in
+NODE_SEMVER_LIBRARY names the static libraries to link, with `:` between. If it does not name libnpm_calls.a,
+that is taken from the folder of the first. Their headers are in the folder `include` beside that one, or in
 NODE_SEMVER_INCLUDE.
 
 Without NODE_SEMVER_LIBRARY they are those of ../c, which `make` builds where a source has changed. That is in a clone of the
@@ -25,15 +25,15 @@ from setuptools.errors import SetupError
 HERE = os.path.dirname(os.path.abspath(__file__))
 ROOT = os.path.dirname(os.path.dirname(HERE))
 C_PACKAGE = os.path.join(os.path.dirname(HERE), "c")
-OTHERS = ("libnpm_pick.a", "libnpm_resolve.a")
-HEADERS = ("node_semver.h", "npm_pick.h", "npm_resolve.h")
+OTHERS = ("libnpm_calls.a",)
+HEADERS = ("node_semver.h", "npm_calls.h")
 
 HELP = """
-This package links the proved libraries for C, libnode_semver.a, libnpm_pick.a and libnpm_resolve.a of version {version}. The
+This package links the proved libraries for C, libnode_semver.a and libnpm_calls.a of version {version}. The
 source distribution does not have them. There are two ways to get them:
 - From a release: unpack denimscree-{version}-linux-x86_64.tar.gz, and set NODE_SEMVER_LIBRARY to the absolute path of its
   lib/libnode_semver.a.
-- From a clone of the repository, with the Rattle toolchain: run `make -C bindings/c all pick resolve`, and set
+- From a clone of the repository, with the Rattle toolchain: run `make -C bindings/c all calls`, and set
   NODE_SEMVER_LIBRARY to the absolute path of its bindings/c/build/libnode_semver.a.
 The wheel of a release needs neither these libraries nor a compiler."""
 
@@ -73,7 +73,7 @@ def build_c_library() -> str:
             before = file.read()
     all_anew = ["-B"] if before not in (None, content) else []
     try:
-        subprocess.run(["make", "-C", C_PACKAGE, *all_anew, "all", "pick", "resolve"], check=True)
+        subprocess.run(["make", "-C", C_PACKAGE, *all_anew, "all", "calls"], check=True)
     except (OSError, subprocess.CalledProcessError) as error:
         raise SetupError(f"the libraries for C are not built: {error}") from error
     with open(stamp, "w") as file:
@@ -169,8 +169,7 @@ setup(
     license="Apache-2.0",
     ext_modules=[
         extension("node_semver._native", "native"),
-        extension("node_semver._pick", "native/pick"),
-        extension("node_semver._resolve", "native/resolve"),
+        extension("node_semver._calls", "native/calls"),
     ],
     cmdclass={"build_ext": BuildAnew, "sdist": NamedSources},
     options={

@@ -1,12 +1,11 @@
 """What scripts find in the sources and the pages: each prints a line for each fault."""
-import os
 import subprocess
 
 import pytest
 
 from support import programs
 
-LINTS = [".ci/borders", ".ci/pages", ".ci/trusted", ".ci/shared/clauses.py", "docs/speed_chart --check"]
+LINTS = ["tools/trusted", "docs/speed_chart --check"]
 
 
 @pytest.mark.parametrize("lint", LINTS)

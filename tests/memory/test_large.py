@@ -11,8 +11,9 @@ import os
 import subprocess
 
 import pytest
+import public_calls
 from large import exports, lock_files, picks, resolutions, rows, runs
-from support import call_rows, programs, public_calls
+from support import call_rows, programs
 from support.refused_calls import AFTER
 from support.refused_programs import told
 
@@ -61,8 +62,7 @@ def called():
 
 
 def test_each_public_call_that_can_run_out_of_memory_has_a_row():
-    libraries = [name for name in public_calls.libraries() if not programs.crates.listed()[name][1]]
-    assert list(public_calls.lacking(called(), libraries)) == []
+    assert list(public_calls.lacking(called())) == []
 
 
 # ---- the exports for C, on the rows of the calls that they make
@@ -71,11 +71,11 @@ def test_each_public_call_that_can_run_out_of_memory_has_a_row():
 def libraries():
     """The exports for C, as their package builds them."""
     build = os.path.join(programs.room(), "c")
-    for crate in ("node_semver_c", "npm_pick_c", "npm_resolve_c"):
-        programs.library(crate)
-    subprocess.run(["make", "-s", "-C", os.path.join(programs.ROOT, "bindings", "c"), f"BUILD={build}", "all", "pick", "resolve"], check=True)
-    return (exports.Exports(os.path.join(build, "libnode_semver.so")), picks.Picks(os.path.join(build, "libnpm_pick.so")),
-            resolutions.Resolutions(os.path.join(build, "libnpm_resolve.so")))
+    for crate in ("node_semver_c", "npm_c"):
+        programs.built(crate)
+    subprocess.run(["make", "-s", "-C", os.path.join(programs.ROOT, "bindings", "c"), f"BUILD={build}", "all", "calls"], check=True)
+    return (exports.Exports(os.path.join(build, "libnode_semver.so")), picks.Picks(os.path.join(build, "libnpm_calls.so")),
+            resolutions.Resolutions(os.path.join(build, "libnpm_calls.so")))
 
 
 def fault_of_export(library, row):
@@ -97,7 +97,7 @@ def test_exports_for_c(record_property):
     found = [fault for fault in (fault_of_export(*row) for row in asked) if fault is not None]
     record_property("made", len(found))
     assert list(filter(None, found)) == []
-    assert list(public_calls.lacking(called() | semver.called | picking.called | resolving.called, public_calls.libraries())) == []
+    assert list(public_calls.lacking(called() | semver.called | picking.called | resolving.called, with_exports=True)) == []
 
 
 # ---- programs

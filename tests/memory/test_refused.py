@@ -4,18 +4,17 @@ import os
 import re
 
 import pytest
-from support import programs, public_calls, refused_calls
+import public_calls
+from support import programs, refused_calls
 from support.call_rows import Case
 
 HERE = os.path.dirname(os.path.abspath(__file__))
 ROWS = [case for path in sorted(glob.glob(os.path.join(HERE, "refused.*")) + glob.glob(os.path.join(HERE, "takes_none.*")))
         for case in refused_calls.read(path)]
-UNCALLED = ["SemverError::out_of_memory"]  # It is what other calls return, and has no other result.
 
 
 def test_each_public_call_that_can_run_out_of_memory_has_a_row():
-    libraries = [name for name in public_calls.libraries() if not programs.crates.listed()[name][1]]
-    assert list(public_calls.lacking({case.row.call for case in ROWS} | set(UNCALLED), libraries)) == []
+    assert list(public_calls.lacking({case.row.call for case in ROWS})) == []
 
 
 def test_a_tree_of_depth_50():

@@ -1,6 +1,6 @@
 """Instances of version_solving that grow: for each family a maker, and what makes its instances hard.
 
-An instance is as the program solving_answers reads it: the demands of the root, for each name its candidates with their
+An instance is as the program npm_answers reads it: the demands of the root, for each name its candidates with their
 demands, and the ranges.
 """
 import random
@@ -75,6 +75,21 @@ def mixed(names, candidates, demands, width, seed):
             packages[-1].append(list(drawn(name)) if is_new else packages[-1][-1])
     root = [ranges.demand(name, range(candidates)) for name in r.sample(range(names), max(1, names // 4))]
     return root, packages, ranges.rows
+
+
+def neighbours(names, seed, candidates=8):
+    """Each version, of one major version each, needs two other packages in the same major version or one beside it; the root wants new versions,
+    and of one package an old one. What each pair of packages allows each other rules that out, without any choice."""
+    r, ranges = random.Random(seed), Ranges(candidates)
+
+    def near(name, major):
+        allowed = [candidates - it for it in {max(1, major - r.randint(0, 1)), min(candidates, major + 1)}]
+        return [ranges.demand(other, allowed) for other in r.sample(range(names), 2) if other != name]
+
+    packages = [[near(name, major) for major in range(candidates, 0, -1)] for name in range(names)]
+    wrong = names // 2
+    wishes = sorted(set(r.sample(range(names), names // 4)) - {wrong})
+    return [*(ranges.demand(name, range(candidates - 3)) for name in wishes), ranges.demand(wrong, [candidates - 1])], packages, ranges.rows
 
 
 def clauses(case):

@@ -161,21 +161,42 @@ def compare(program, make, fault_of, count, seed):
 
 
 def said_of_all(program, cases):
-    """The line that a program writes of each case."""
-    ran = subprocess.run([program], input="".join(map(line_of, cases)), capture_output=True, encoding="utf-8")
+    """What a program says of each case."""
+    ran = subprocess.run([program], input="".join(map(line_of, cases)), capture_output=True, encoding="utf-8", timeout=600)
     lines = ran.stdout.splitlines()
     assert (ran.returncode, len(lines)) == (0, len(cases)), ran.stderr
-    return lines
+    return list(map(answer_of, lines))
 
 
 def said_of(program, case):
     """What a program says of an instance: what is selected or whom it blames, and the lines of reasons."""
     ran = subprocess.run([program], input=line_of(case), capture_output=True, encoding="utf-8", timeout=60)
     assert ran.returncode == 0, ran.stderr
-    said, *lines = ran.stdout.removesuffix("\n").split(" | ")
+    said, *lines = answer_of(ran.stdout).split(" | ")
     return said, lines
 
 
+def text_of(case):
+    return json.dumps(case, separators=(",", ":"))
+
+
 def line_of(case):
-    """A line of the input of a program."""
-    return json.dumps(case, separators=(",", ":")) + "\n"
+    """A line of the input of a program: the call of an instance, or of a problem of a manifest, packuments, groups that are left out, and
+    maybe other members of the call."""
+    if not case or not isinstance(case[0], dict):
+        return json.dumps(["version_solving::solve", text_of(case)]) + "\n"
+    manifest, packuments, omit, *given = case
+    members = {"manifest": manifest, "packuments": packuments, "omit": omit}
+    return json.dumps(["npm_calls::call", "resolve", text_of(members | dict(*given))]) + "\n"
+
+
+def answer_of(line):
+    """What a line of a program says. Of a problem it is `selected` and the versions `name@version` in the order in which they are chosen,
+    `none` and the culprits `name:spec`, or `undecided`, with tabs between."""
+    said = json.loads(line)
+    if not said.startswith("{"):
+        return said
+    answer = json.loads(said)
+    shown = {"selected": lambda: [f"{one['name']}@{one['version']}" for one in answer["packages"]],
+             "none": lambda: [f"{one['name']}:{one['spec']}" for one in answer["culprits"]], "undecided": lambda: []}
+    return "\t".join([answer["outcome"], *shown[answer["outcome"]]()])

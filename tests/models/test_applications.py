@@ -1,6 +1,6 @@
 """npm_resolve on a large application: 500 packages with 100 versions each, of which one version each is selected."""
-# Culprits are sought among the demands that reasons name, which are few: two culprits of 167 demands took 17 seconds. It costs a second
-# search of the root; where that takes too many steps, all demands are searched.
+# Culprits are sought among the demands from which the search found that nothing fits, which are few: two culprits of 167 demands took 17
+# seconds. It costs a second search of the root.
 import json
 import resource
 import subprocess

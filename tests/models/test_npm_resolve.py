@@ -248,7 +248,7 @@ def fault(problem, line):
         return "neither selected nor none"
     blamed = []
     for one in shown:
-        found = [at for at, (name, text, _) in enumerate(root) if f"{name}:{text}" == one]
+        found = [at for at, (name, text, _) in enumerate(root) if f"{name}:{text or '*'}" == one]
         if not found:
             return f"no ask {one}"
         blamed.append(case[0][found[0]])
@@ -256,10 +256,10 @@ def fault(problem, line):
 
 
 def test_is_the_answer_of_the_model(record_property):
-    program = programs.built("solving_answers")
+    program = programs.built("npm_answers")
     record_property("made", solving.compare(program, problem, fault, 2000, 1))
 
 
 def test_is_the_answer_of_the_model_if_dependencies_count(record_property):
-    program = programs.built("solving_answers")
+    program = programs.built("npm_answers")
     record_property("made", solving.compare(program, lambda r: problem(r, True), fault, 500, 2))

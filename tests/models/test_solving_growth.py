@@ -18,7 +18,7 @@ GROWING = {
 
 
 def program():
-    return programs.built("solving_answers")
+    return programs.built("npm_answers")
 
 
 def said_of(case, steps=None):
@@ -45,7 +45,7 @@ def is_decided(said, lines):
 @pytest.mark.parametrize("family", GROWING)
 def test_an_instance_takes_fewer_steps_than_it_has_bytes(family):
     for case in GROWING[family]:
-        steps, size = steps_of(case, is_decided), len(solving.line_of(case))
+        steps, size = steps_of(case, is_decided), len(solving.text_of(case))
         print(f"{family}: {steps} steps of {size} bytes")
         assert steps < size
 
@@ -67,8 +67,7 @@ def cnf_of(case):
 
 def test_is_satisfiable_as_minisat_says(tmp_path, record_property):
     cases = [families.mixed(12 + seed % 9, 8, 2 + seed % 2, 3, seed + made.SEED) for seed in range(300 * made.TIMES)]
-    ran = subprocess.run([program()], input="".join(map(solving.line_of, cases)), capture_output=True, encoding="utf-8", timeout=600)
-    lines = ran.stdout.splitlines()
+    lines = solving.said_of_all(program(), cases)
     found = [line.startswith("selected") for line in lines]
     assert "undecided" not in " ".join(lines) and found == [is_satisfiable(case, tmp_path) for case in cases]
     assert len(found) // 10 <= sum(found) <= len(found) * 9 // 10
@@ -85,20 +84,35 @@ def instructions_of(words, given, room):
         return next(int(line.split()[-1].replace(",", "")) for line in file if "I   refs:" in line)
 
 
-def test_hard_instances_take_at_most_ten_times_the_instructions_of_minisat(tmp_path):
-    """Both read the instance and solve it; of each is taken off what an instance of one name takes."""
-    path = os.path.join(tmp_path, "clauses")
+def beside_minisat(case, steps, room):
+    """The instructions of the program and of minisat: both read the instance and solve it. Of each is taken off what an instance of one name
+    takes."""
+    path = os.path.join(room, "clauses")
 
     def both(case):
         with open(path, "w", encoding="utf-8") as file:
             file.write(cnf_of(case))
-        return instructions_of([program()], solving.line_of(case), tmp_path), instructions_of(["minisat", "-verb=0", path], "", tmp_path)
+        own = instructions_of([program()], solving.line_of([*case, steps]), room)
+        return own, instructions_of(["minisat", "-verb=0", path], "", room)
 
-    least = both(families.chain(1, 1))
+    own, other = (count - least for count, least in zip(both(case), both(families.chain(1, 1))))
+    print(f"{own} instructions, minisat {other}")
+    return own, other
+
+
+def test_hard_instances_take_no_more_instructions_than_minisat(tmp_path):
     for case in [families.mixed(40, 20, 3, 8, seed) for seed in (1, 2, 3)]:
-        own, other = (count - base for count, base in zip(both(case), least))
-        print(f"{own} instructions, minisat {other}")
-        assert own <= 10 * other
+        own, other = beside_minisat(case, MOST, tmp_path)
+        assert own <= other
+
+
+# A search that does not see what names allow each other would not end.
+@pytest.mark.parametrize("names, seed", [(160, 1), (320, 2), (640, 3)])
+def test_a_wrong_wish_among_many_takes_no_more_instructions_than_minisat(names, seed, tmp_path):
+    case = families.neighbours(names, seed)
+    assert said_of(case, [MOST, MOST, 0])[0].startswith("none ")
+    own, other = beside_minisat(case, [MOST, 0, 0], tmp_path)
+    assert own <= other
 
 
 class Provider:

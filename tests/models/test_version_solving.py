@@ -1,20 +1,15 @@
-"""version_solving and solving_reasons beside their definitions on small instances, on long instances, and with each request for memory
-refused."""
-# The search checks what it keeps where it uses it, and its reasons once they are found: so nothing is proved of where a step looks, and the
-# search may change freely. It costs a second reading of all demands, and a second search over the culprits.
-import os
-
+"""version_solving beside its definitions on small instances, and on long instances."""
+# Nothing is proved of the search: it says what its answer rests on, and this is checked, step by step. So the search may change freely; a
+# check that failed would make the answer `undecided`, which none is here where steps are left. It costs a second reading of all demands.
 import pytest
 
 import reasons
 import solving
-from support import programs, refused
-
-STORED = os.path.join(programs.crates.CRATES, "solving_answers")
+from support import programs
 
 
 def test_is_the_answer_of_the_definition(record_property):
-    program = programs.built("solving_answers")
+    program = programs.built("npm_answers")
     record_property("made", solving.compare(program, solving.instance, solving.fault_with_reasons, 5000, 1))
 
 
@@ -32,7 +27,7 @@ def late(names, candidates):
 
 
 def lines_of(case):
-    return solving.said_of(programs.built("solving_answers"), case)
+    return solving.said_of(programs.built("npm_answers"), case)
 
 
 # A search that reads all demands in each step would not end.
@@ -147,17 +142,3 @@ def test_demands_that_cannot_be_met_together_are_blamed(root, blamed):
     assert lines_of(case)[0] == blamed
     assert lines_of([*case, [100, 0, 100]])[0] == "undecided"
     assert lines_of([[[2, 0, True], [0, 0, True]], *case[1:], 100])[0].startswith("selected")
-
-
-def test_refused_requests_end_the_stored_run():
-    """Each request of the stored run is refused, alone and with all later ones: it writes a beginning of its lines, and ends with status 2."""
-    program = programs.built("solving_answers")
-    with open(os.path.join(STORED, "stdin")) as given, open(os.path.join(STORED, "stdout")) as file:
-        given, lines = given.read(), file.read()
-    whole, requests = refused.run([program], given)
-    assert (whole.returncode, whole.stdout) == (0, lines) and requests > 0
-    for number in range(1, requests + 1):
-        for is_all in (False, True):
-            done, _ = refused.run([program], given, number, is_all)
-            is_begun = lines.startswith(done.stdout) and done.stdout[-1:] in ("", "\n") and done.stdout != lines
-            assert done.returncode == 2 and is_begun, f"request {number}: {done.stdout!r} {done.stderr!r}"

@@ -18,7 +18,7 @@ from support import programs, registry, rows
 
 HERE = os.path.dirname(os.path.abspath(__file__))
 PROJECTS = rows.read(os.path.join(HERE, "npm_itself.projects"))
-LIBRARIES = ["node_semver_c", "npm_pick_c", "npm_resolve_c"]
+LIBRARIES = ["node_semver_c", "npm_c"]
 # Packs the package for Node, in a folder, of a copy: other tests may build in its own. Then installs it.
 INSTALL = """
 mkdir -p "$1/bindings/wasm" "$1/install"
@@ -45,7 +45,7 @@ def installed():
 def package(room):
     """The folder of the package for Node, packed and installed."""
     for crate in LIBRARIES:
-        programs.library(crate)
+        programs.built(crate)
     done = subprocess.run(["bash", "-e", "-c", INSTALL, "bash", room], cwd=programs.ROOT, capture_output=True, encoding="utf-8")
     assert done.returncode == 0, done.stdout[-2000:] + done.stderr[-2000:]
     return os.path.join(room, "install", "node_modules", "denimscree-semver")

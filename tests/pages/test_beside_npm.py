@@ -10,7 +10,9 @@ import subprocess
 
 import pytest
 
-from support import answers, calls, pages, programs
+import calls
+import pages
+from support import programs
 
 HERE = os.path.dirname(os.path.abspath(__file__))
 DIFFERENCES = pages.page("docs/DIFFERENCES.md")
@@ -21,7 +23,7 @@ def node():
     """A process that answers for npm, until the tests end."""
     ran = subprocess.Popen(["node", os.path.join(HERE, "npm.js")], env=programs.environment(), stdin=subprocess.PIPE, stdout=subprocess.PIPE,
                            encoding="utf-8")
-    atexit.register(answers.end, ran)
+    atexit.register(ran.communicate)
     return ran
 
 

@@ -3,7 +3,8 @@ import re
 
 import pytest
 
-from support import calls, pages
+import calls
+import pages
 
 PAGE = pages.page("docs/GRAMMAR.md")
 PORT, NPM = PAGE.split("\n## npm's own reading\n")
@@ -66,7 +67,7 @@ def of_operators():
     """Pairs of a range and its reading, of the table of operators and of partials alone."""
     for text, (partial, version, alone) in SHAPES.items():
         yield text, partial.filled(alone, version)
-    for operator, cell, templates, _ in pages.tables(pages.section(PAGE, "## X-Ranges"))[1]:
+    for operator, cell, templates in pages.tables(pages.section(PAGE, "## X-Ranges"))[1]:
         groups, rows = list(texts_of(cell)), templates.split("; ")
         for texts, template in zip(groups, rows if len(rows) == len(groups) else rows * len(groups), strict=True):
             for text in texts:
@@ -74,7 +75,7 @@ def of_operators():
 
 
 def of_tildes():
-    for cell, template, _ in pages.tables(pages.section(PAGE, "## Tilde Ranges"))[0]:
+    for cell, template in pages.tables(pages.section(PAGE, "## Tilde Ranges"))[0]:
         leads = pages.quoted(cell) or ["~", "~>"]
         for lead in leads:
             for texts in texts_of(cell):
@@ -84,7 +85,7 @@ def of_tildes():
 
 def of_carets():
     """Each text also with 0 in place of its major, and then of its minor."""
-    for cell, templates, _ in pages.tables(pages.section(PAGE, "## Caret Ranges"))[0]:
+    for cell, templates in pages.tables(pages.section(PAGE, "## Caret Ranges"))[0]:
         rows = templates.split("; ")
         for texts in texts_of(cell):
             for text in texts:
@@ -98,7 +99,7 @@ def of_carets():
 
 def of_hyphens():
     """The partials on the right, with `0` on the left and with nothing there."""
-    for cell, template, _ in pages.tables(pages.section(PAGE, "## Hyphen Ranges"))[0]:
+    for cell, template in pages.tables(pages.section(PAGE, "## Hyphen Ranges"))[0]:
         if cell == "no number at all":
             yield "1 - *", None
             continue

@@ -4,7 +4,9 @@ import subprocess
 
 import pytest
 
-from support import calls, pages, programs
+import calls
+import pages
+from support import programs
 
 GRAMMAR, USE, DIFFERENCES, README = "docs/GRAMMAR.md", "crates/node_semver/README.md", "docs/DIFFERENCES.md", "README.md"
 SQL, PYTHON = "bindings/sql/README.md", "bindings/python/README.md"
@@ -22,6 +24,11 @@ def is_range(*texts):
 
 def prints(text, print_of_it):
     return calls.range_of(text) == print_of_it
+
+
+def prints_each(*texts):
+    """Texts and prints in turn."""
+    return all(prints(*pair) for pair in zip(texts[::2], texts[1::2], strict=True))
 
 
 def is_npm_range(*texts):
@@ -161,7 +168,11 @@ SENTENCES = [
     (GRAMMAR, "Blanks are allowed before the first number ({}, {}), but not before a `v` or at the end", are_readable),
     (GRAMMAR, "{} admits {} and {}, but not {}", admits_but_the_last),
     (GRAMMAR, "{} admits {}, but not {}", admits_but_the_last),
-    (GRAMMAR, "A hyphen range without a cut is still a comparator: {} is refused", is_refused),
+    (GRAMMAR, "is still a comparator: {} is refused", is_refused),
+    (GRAMMAR, "So {} is {}, and `= *` is ignored", prints),
+    (GRAMMAR, "So {} is {}. ## Caret Ranges", prints),
+    (GRAMMAR, "So {} is {}, {} is {}, and {} is {}. ## Hyphen Ranges", prints_each),
+    (GRAMMAR, "So {} is {}, and {} is {}. A hyphen range without a cut", prints_each),
     (GRAMMAR, "It is divided at each `||`, from the left: {} is {} and {}", is_divided),
     (GRAMMAR, "in the order of the alternatives: {} has two", has_two_sets),
     (GRAMMAR, "If all pieces admit nothing, the range is {}", is_the_range_of_nothing),

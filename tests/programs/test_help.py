@@ -1,4 +1,5 @@
-"""What `--help` says: each option that the definitions know has a line, and each example is a row of `help.rows`, which runs it."""
+"""What `--help` says: each option that a program reads has a line, each example is a row of `help.rows`, which runs it, and each option is in
+a command of a row."""
 import functools
 import os
 import re
@@ -15,15 +16,15 @@ UNLISTED = {"-rev"}  # npm's help does not list it either.
 
 
 def options(program):
-    """The options that `clap` reads, or that the definitions of its crate know, or else of the crates that this one uses."""
-    crate = programs.crate_of(program)
+    """The options that `clap` reads, or that an arm of a `match` of the program names, or that the definitions of the crates that it uses know."""
+    crate = crates.programs()[program]
     sources = "".join(map(files.read, files.sources(crate)))
     if "clap" in crates.listed()[crate][0]:
         named = re.findall(r'\b(?:flag|option|path)\(\s*alloc,\s*"([a-z-]+)"', sources)
         return sorted({f"--{name}" for name in named} | {"--help", "--version", "-V", "-h"})
-    known = [re.findall(r'codes "(--?[a-zA-Z?][a-z-]*)"', "".join(map(files.read, files.matching(*(f"crates/{it}/specs/*.antt" for it in names)))))
-             for names in ([crate], crates.listed()[crate][0])]
-    return sorted(set(known[0] or known[1]) - UNLISTED)
+    known = re.findall(r'"(--?[a-zA-Z?][a-z-]*)"(?= (?:\||=>))', sources)
+    known = known or re.findall(r'codes "(--?[a-zA-Z?][a-z-]*)"', "".join(map(files.read, files.matching(*(f"crates/{it}/specs/*.antt" for it in crates.listed()[crate][0])))))
+    return sorted(set(known) - UNLISTED)
 
 
 @functools.cache
@@ -42,3 +43,10 @@ def test_has_rows_of_the_same_examples(program):
     shown = set(re.findall(r"^ *Example: (.*)$", help_of(program), re.M)) - {f"{program} --help"}
     tried = {case.name for case in rows.read(os.path.join(programs.TESTS, "programs", program, "help.rows"))}
     assert shown and shown - tried == set()
+
+
+@pytest.mark.parametrize("program", [name for name in PROGRAMS if name != "npm_lock_check"])
+def test_has_a_row_with_each_option(program):
+    folder = os.path.join(programs.TESTS, "programs", program)
+    tried = "\n".join(line for name in sorted(os.listdir(folder)) for case in rows.read(os.path.join(folder, name)) for line in case.commands)
+    assert [it for it in options(program) if not re.search(rf"(?<![\w-]){re.escape(it)}(?![\w-])", tried)] == []

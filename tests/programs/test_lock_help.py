@@ -7,8 +7,9 @@ import subprocess
 
 import pytest
 
-from support import programs
+from support import programs, rows
 
+WORDS = rows.words("npm_lock_check")
 OSV = {"type": "SEMVER", "events": [{"introduced": "0"}, {"fixed": "2.0.1"}]}
 LEVELS = ["info", "low", "moderate", "high", "critical"]
 EXCEPTIONS = {"low": ("low", ""), "over": ("low", "until = 2020-01-01"), "until": ("low", "until = 2999-12-31"), "high": ("high", "")}
@@ -52,17 +53,17 @@ def run(words):
 
 
 def gives(status, text, words=""):
-    """A run ends so, and writes a line with this text."""
+    """A run ends so, and writes a line with this text, in which words stand by their names."""
     def check():
         found = run(words)
-        assert found[0] == status and text in found[1], f"{words}: wanted {status} {text}, got {found}"
+        assert found[0] == status and rows.said(text, WORDS) in found[1], f"{words}: wanted {status} {text}, got {found}"
     return check
 
 
 def lacks(text, words=""):
     """A run writes no line with this text."""
     def check():
-        assert text not in run(words)[1], f"{words}: {text}"
+        assert rows.said(text, WORDS) not in run(words)[1], f"{words}: {text}"
     return check
 
 
@@ -81,40 +82,40 @@ def has(count, text, words):
 
 
 SENTENCES = [
-    ("Checks the packages of a package-lock.json against what they depend on.", gives(1, "a 2.0.0 does not satisfy ^1", "--format text lock.json")),
-    ("Usage: npm_lock_check [OPTIONS] [FILE]...", gives(1, "lock.json: a 2.0.0 does not satisfy ^1", "--format text lock.json clean.json")),
+    ("Checks the packages of a package-lock.json against what they depend on.", gives(1, "a 2.0.0 {invalid} ^1", "--format text lock.json")),
+    ("Usage: npm_lock_check [OPTIONS] [FILE]...", gives(1, "lock.json: a 2.0.0 {invalid} ^1", "--format text lock.json clean.json")),
     ("[FILE]... A package-lock.json.", gives(2, "the input is no lock file that is read here", "package.json")),
     ("With no FILE, and if FILE is -, standard input is read.", alike("", "-"), alike("", "lock.json")),
     ("With several each line of the formats text and json names its FILE.",
-     gives(1, "lock.json: gone is not", "--format text lock.json clean.json"), gives(1, '"file":"lock.json"', "--format json lock.json clean.json"),
+     gives(1, "lock.json: gone {missing}", "--format text lock.json clean.json"), gives(1, '"file":"lock.json"', "--format json lock.json clean.json"),
      lacks("lock.json:", "--format text lock.json"), lacks('"file"', "--format json lock.json")),
     ("--node <VERSION> Also check engines.node of each package against this version of Node.",
-     gives(1, "node 20.1.0 does not satisfy >=21", "--node 20.1.0 --format text"), lacks("node 21.0.0", "--node 21.0.0"), lacks(">=21")),
-    ("20 means 20.0.0, and v20.11 means 20.11.0.", gives(1, "node 20.0.0 does", "--node 20 --format text"),
-     gives(1, "node 20.11.0 does", "--node v20.11 --format text")),
+     gives(1, "node 20.1.0 {invalid} >=21", "--node 20.1.0 --format text"), lacks("node 21.0.0", "--node 21.0.0"), lacks(">=21")),
+    ("20 means 20.0.0, and v20.11 means 20.11.0.", gives(1, "node 20.0.0 {invalid}", "--node 20 --format text"),
+     gives(1, "node 20.11.0 {invalid}", "--node v20.11 --format text")),
     ("--manifest <FILE> The package.json of the root: write where it and the lock file do not ask for the same, and check the lock file for what "
      "the package.json asks for.",
-     gives(1, 'a in dependencies is "^2" in package.json, and "^1" in the lock file', "--manifest package.json --format text"),
-     gives(1, "does not satisfy ^1", "--format text"), lacks("does not satisfy ^1", "--manifest package.json --format text")),
+     gives(1, 'a {in} dependencies {is} "^2" {in} package.json{but} "^1" {locked}', "--manifest package.json --format text"),
+     gives(1, "{invalid} ^1", "--format text"), lacks("{invalid} ^1", "--manifest package.json --format text")),
     ("The package.json of each workspace, below the folder of FILE, is checked alike if it is there.",
-     gives(1, 't in dependencies is "1" in w/package.json, and absent in the lock file', "--manifest package.json --format text")),
+     gives(1, 't {in} dependencies {is} "1" {in} w/package.json{but} {absent} {locked}', "--manifest package.json --format text")),
     ("Goes with one lock file.", gives(2, "--manifest goes with one FILE", "--manifest package.json lock.json clean.json")),
     ("--exact The exit status is also 1 if FILE and the lock file do not ask for the same.",
-     gives(1, "a in dependencies is", f"--manifest package.json --exact {OTHERS} --format text")),
-    ("npm ci installs such a lock file, if it has what FILE asks for.", gives(0, "a in dependencies is", f"--manifest package.json {OTHERS} --format text")),
+     gives(1, "a {in} dependencies {is}", f"--manifest package.json --exact {OTHERS} --format text")),
+    ("npm ci installs such a lock file, if it has what FILE asks for.", gives(0, "a {in} dependencies {is}", f"--manifest package.json {OTHERS} --format text")),
     ("--outside Also read a package.json that is not below the folder of FILE, or is no regular file.",
-     gives(1, "in ../outer/package.json", "--manifest package.json --outside --format text"),
-     lacks("in ../outer/package.json", "--manifest package.json --format text")),
+     gives(1, "{in} ../outer/package.json", "--manifest package.json --outside --format text"),
+     lacks("{in} ../outer/package.json", "--manifest package.json --format text")),
     ("--unchecked Also list what is not checked, and why: dependencies, manifests and workspaces.",
-     gives(1, "t 1.0.0 is not checked against latest, which the root asks for: a tag", "--unchecked --format text"),
-     lacks("against latest", "--format text"), gives(1, "../outer/package.json is not read: ", "--manifest package.json --unchecked --format text")),
+     gives(1, "t 1.0.0 {unchecked} latest{by the root}{tag}", "--unchecked --format text"),
+     lacks("{unchecked} latest", "--format text"), gives(1, "../outer/package.json {manifest}", "--manifest package.json --unchecked --format text")),
     ("--strict The exit status is also 1 if something is not checked, which is listed then.",
-     gives(1, "t 1.0.0 is not checked against latest", f"--strict {OTHERS} --format text"), gives(0, "1 not checked", OTHERS)),
-    ("Also --sources.", gives(1, "n 1.0.0 has no integrity", "--strict --format text sources.json")),
+     gives(1, "t 1.0.0 {unchecked} latest", f"--strict {OTHERS} --format text"), gives(0, "1 not checked", OTHERS)),
+    ("Also --sources.", gives(1, "n 1.0.0 {no-integrity}", "--strict --format text sources.json")),
     ("--ignore <KIND> Leave out problems of this kind: group (package.json and the lock file do not ask for the same), missing, invalid, peer-local or engine.",
-     lacks("a in dependencies", "--manifest package.json --ignore group --format text"), lacks("gone is", "--ignore missing --format text"),
-     lacks("satisfy ^1", "--ignore invalid --format text"), lacks("as a peer", "--ignore peer-local --format text"),
-     lacks(">=21", "--node 20 --ignore engine --format text"), gives(1, "as a peer", "--ignore engine --format text")),
+     lacks("a {in} dependencies", "--manifest package.json --ignore group --format text"), lacks("gone {missing}", "--ignore missing --format text"),
+     lacks("{invalid} ^1", "--ignore invalid --format text"), lacks("{peer-local}", "--ignore peer-local --format text"),
+     lacks(">=21", "--node 20 --ignore engine --format text"), gives(1, "{peer-local}", "--ignore engine --format text")),
     ("May be given several times.", gives(0, "0 problems", OTHERS)),
     ("--omit <GROUP> Leave out the packages that npm ci --omit GROUP does not install, and what is in that group of dependencies: dev or optional.",
      gives(1, "2 problems, 0 not checked, 3 hit", "groups.json --advisories all.json"), lacks('"name":"d"', "groups.json --advisories all.json --omit dev"),
@@ -124,49 +125,49 @@ SENTENCES = [
     ("What npm installs below a linked folder that is no workspace counts, whatever its group.",
      gives(0, "0 hit, 3 advisories read, 2 packages omitted", "below.json --advisories all.json --omit dev --ignore missing"),
      gives(1, "1 hit, 3 advisories read, 0 packages omitted", "linked.json --advisories all.json --omit dev --ignore missing")),
-    ("Also write each package that is left out, though it is needed.", gives(1, "d 1.0.0 is left out, though the root asks for it by 1", "needed.json --omit dev --format text"),
-     lacks("is left out", "needed.json --format text")),
+    ("Also write each package that is left out, though it is needed.", gives(1, "d 1.0.0 {left out} {the root} {by} 1", "needed.json --omit dev --format text"),
+     lacks("{left out}", "needed.json --format text")),
     ("May be given several times.", gives(0, "0 problems, 0 not checked, 0 hit, 3 advisories read, 3 packages omitted", "groups.json --advisories all.json --omit dev --omit=optional")),
     ("--sources Also write each package whose address is that of another package or is not encrypted, and each that npm downloads without "
      "integrity.",
      *[gives(1, text, "--sources --format text sources.json") for text in (
-         "the address of p 1.0.0 is that of another package", "the address of h 1.0.0 is not encrypted", "n 1.0.0 has no integrity")],
-     *[lacks(text, "--format text sources.json") for text in ("another package", "not encrypted", "no integrity")]),
+         "{address} p 1.0.0 {other-package}", "{address} h 1.0.0 {insecure}", "n 1.0.0 {no-integrity}")],
+     *[lacks(text, "--format text sources.json") for text in ("{other-package}", "{insecure}", "{no-integrity}")]),
     ("An address of another version is always written.",
-     gives(1, "the address of v 1.0.0 is that of another version", "--format text sources.json"),
-     gives(1, "the address of v 1.0.0 is that of another version", "--sources --format text sources.json")),
+     gives(1, "{address} v 1.0.0 {other-version}", "--format text sources.json"),
+     gives(1, "{address} v 1.0.0 {other-version}", "--sources --format text sources.json")),
     ("--registry <URL> Also --sources, and write each package whose address is below no URL that is given here.",
-     gives(1, "n 1.0.0 has no integrity", "--registry https://r --format text sources.json"),
-     gives(1, "the address of r 1.0.0 is below no registry", "--registry https://r --format text sources.json"),
-     lacks("below no registry", "--sources --format text sources.json")),
-    ("May be given several times.", lacks("the address of r 1.0.0", "--registry https://r --registry=https://s/ --format text sources.json")),
+     gives(1, "n 1.0.0 {no-integrity}", "--registry https://r --format text sources.json"),
+     gives(1, "{address} r 1.0.0 {other-host}", "--registry https://r --format text sources.json"),
+     lacks("{other-host}", "--sources --format text sources.json")),
+    ("May be given several times.", lacks("{address} r 1.0.0", "--registry https://r --registry=https://s/ --format text sources.json")),
     ("--advisories <FILE> Also write each installed package that a security advisory of this file hits, and a version that none hits.",
-     gives(1, "a 2.0.0 is hit by low (low); 2.0.1 is not", "--advisories low.json --format text")),
-    ("The file is in OSV's form, or in that of npm's bulk endpoint.", gives(1, "is hit by O", "--advisories osv.json --format text"),
-     gives(1, "is hit by high", "--advisories high.json --format text")),
+     gives(1, "a 2.0.0 {hit} low (low); 2.0.1 ", "--advisories low.json --format text")),
+    ("The file is in OSV's form, or in that of npm's bulk endpoint.", gives(1, "{hit} O", "--advisories osv.json --format text"),
+     gives(1, "{hit} high", "--advisories high.json --format text")),
     ("--allow-no-advisories The file of advisories may have none.", gives(1, "0 hit, 0 advisories read", "--advisories none.json --allow-no-advisories")),
     ("Without this option such a file is an error.", gives(2, "the file has no advisory", "--advisories none.json")),
     ("--severity <LEVEL> Leave out advisories that are less severe: info, low, moderate, high or critical.",
-     *[lacks(f"hit by {level}", f"--advisories {level}.json --severity {above} --format text") for level, above in zip(LEVELS, LEVELS[1:])],
-     *[gives(1, f"hit by {level}", f"--advisories {level}.json --severity {level} --format text") for level in LEVELS[1:]]),
-    ("The default is info, which leaves none out.", gives(1, "hit by info", "--advisories info.json --format text"),
+     *[lacks(f"{{hit}} {level}", f"--advisories {level}.json --severity {above} --format text") for level, above in zip(LEVELS, LEVELS[1:])],
+     *[gives(1, f"{{hit}} {level}", f"--advisories {level}.json --severity {level} --format text") for level in LEVELS[1:]]),
+    ("The default is info, which leaves none out.", gives(1, "{hit} info", "--advisories info.json --format text"),
      alike("--advisories info.json", "--advisories info.json --severity info")),
     ("--exceptions <FILE> Leave out each advisory that FILE excepts for a package, and write the package and the reason on standard error.",
-     lacks("a 2.0.0 is hit by low (low)", "--advisories low.json --exceptions low.toml --format text"),
-     gives(1, "excepted: a 2.0.0 is hit by low: why (node_modules/a)", "--advisories low.json --exceptions low.toml --format text"),
-     gives(1, "a 2.0.0 is hit by low (low)", "--advisories low.json --exceptions high.toml --format text")),
+     lacks("a 2.0.0 {hit} low (low)", "--advisories low.json --exceptions low.toml --format text"),
+     gives(1, "excepted: a 2.0.0 {hit} low: why (node_modules/a)", "--advisories low.json --exceptions low.toml --format text"),
+     gives(1, "a 2.0.0 {hit} low (low)", "--advisories low.json --exceptions high.toml --format text")),
     ("FILE is in TOML: it has a table [[exceptions]] with id, package and reason for each.",
      gives(1, "1 excepted", "--advisories low.json --exceptions low.toml"), gives(2, "the exceptions are no TOML", "--exceptions low.json")),
     ("A day, as until = 2027-03-01, is the last one, in UTC, on which the exception applies.",
-     gives(1, "is hit by low, until 2999-12-31: why", "--advisories low.json --exceptions until.toml --format text"),
-     gives(1, "a 2.0.0 is hit by low (low)", "--advisories low.json --exceptions over.toml --format text")),
+     gives(1, "{hit} low{until} 2999-12-31: why", "--advisories low.json --exceptions until.toml --format text"),
+     gives(1, "a 2.0.0 {hit} low (low)", "--advisories low.json --exceptions over.toml --format text")),
     ("An exception that is used up, or that applies to nothing, is written there too.",
-     gives(1, "exception: low of a is used up, since its last day was 2020-01-01: why", "--advisories low.json --exceptions over.toml"),
-     gives(1, "exception: high of a applies to nothing: why", "--advisories low.json --exceptions high.toml")),
-    ("--format <FORMAT> text: write each problem as a sentence.", gives(1, "gone is not installed", "--format text")),
+     gives(1, "exception: low of a {used up} 2020-01-01: why", "--advisories low.json --exceptions over.toml"),
+     gives(1, "exception: high of a {idle}: why", "--advisories low.json --exceptions high.toml")),
+    ("--format <FORMAT> text: write each problem as a sentence.", gives(1, "gone {missing}", "--format text")),
     ("json: write it as a JSON object.", gives(1, '"name":"gone","optional":false,"peer":false,"problem":"missing"', "--format json")),
     ("github: write it as an annotation of GitHub Actions.",
-     gives(1, "::error file=lock.json,line=1,col=85::gone is not installed", "--format github lock.json")),
+     gives(1, "::error file=lock.json,line=1,col=85::gone {missing}", "--format github lock.json")),
     ("sarif: write all of them as one SARIF 2.1.0 log, of all lock files.", gives(1, '"version":"2.1.0"', "--format sarif lock.json clean.json"),
      has(1, "$schema", "--format sarif lock.json lock.json")),
     ("html: write one page for a browser, which also lists what is not checked.", gives(1, ">Not checked</h3>", "--format html lock.json"),
@@ -187,8 +188,8 @@ SENTENCES = [
     ("The exit status is 0 if nothing was found, 1 if something was, and 2 if the file was not checked.",
      gives(0, "0 problems", "clean.json"), gives(1, "3 problems", "lock.json"), gives(2, "no such file", "nothing.json")),
     ("With several it is the worst of all: each of the others is checked nevertheless.",
-     gives(2, "lock.json: gone is not installed", "nothing.json lock.json clean.json --format text"), gives(1, "0 problems", "lock.json clean.json")),
-    ("Standard error says how many advisories were read.", gives(1, "1 advisories read", "--advisories low.json")),
+     gives(2, "lock.json: gone {missing}", "nothing.json lock.json clean.json --format text"), gives(1, "0 problems", "lock.json clean.json")),
+    ("Standard error says how many advisories were read.", gives(1, "1 advisory read", "--advisories low.json")),
 ]
 
 

@@ -5,7 +5,9 @@ import subprocess
 
 import pytest
 
-from support import programs
+from support import programs, rows
+
+WORDS = rows.words("npm_lock_check")
 
 
 @pytest.fixture(autouse=True)
@@ -33,7 +35,7 @@ def check(words, status, output, error, command=("npm_lock_check",)):
 
 
 def unmet(name, spec):
-    return f"{name} is not installed, so nothing satisfies {spec}, which the root asks for"
+    return rows.said(f"{name} {{missing}} {spec}{{by the root}}", WORDS)
 
 
 def test_100000_packages_of_version_1():

@@ -3,70 +3,36 @@ for `ababab`. In what is repeated `\#` is 0 at first, then 1 and so on, `\@` is 
 then one less each time; a `\+` after one of them adds one. What follows a `\,` stands only between: `\{3*a\,, }` is `a, a, a`."""
 import re
 
+from support.rows import Malformed
+
 PLAIN = {"t": "\t", "n": "\n", "r": "\r", "\\": "\\"}
-BETWEEN = object()  # The piece that stands for `\,`.
-NUMBERS = {"#": lambda step, times: step, "@": lambda step, times: step + 1, "$": lambda step, times: times - step}
+LETTER = r"u\{([0-9a-fA-F]+)\}"
+TOKEN = re.compile(rf"\\(?:([tnr\\])|{LETTER}|\{{(\d+)\*((?:[^\\}}]|\\{LETTER}|\\.)*)\}}|([#@$])((?:\\\+)*)|(.?))", re.S)
 
 
-class Malformed(Exception):
-    """A cell that has a backslash where none can be."""
+def read(cell, step=None, times=0):
+    """The text that a cell is short for, or at a step of so many what is repeated."""
+    def text_of(found):
+        plain, letter, number, piece, _, mark, more, other = found.groups()
+        if plain or letter:
+            return PLAIN[plain] if plain else chr(int(letter, 16))
+        if number and step is None:
+            return repeated(piece, int(number))
+        if mark and step is not None:
+            return str({"#": step, "@": step + 1, "$": times - step}[mark] + len(more) // 2)
+        raise Malformed(f"no escape begins at character {found.start()}: {cell}")
+
+    return TOKEN.sub(text_of, cell)
 
 
-def read(cell):
-    """The text that a cell is short for."""
-    text, rest = pieces_of(cell, 0, None)
-    if rest != len(cell):
-        raise Malformed(f"a brace ends nothing: {cell}")
-    return repeated(text, None, 1)
-
-
-def repeated(pieces, step, times):
-    return "".join(piece if isinstance(piece, str) else piece(step, times) for piece in pieces)
-
-
-def pieces_of(cell, at, end):
-    """The pieces from a place up to one after the sign that ends them, and that place. A piece is a text or a function of the step."""
-    found = []
-    while at < len(cell) and not (end and cell[at] == end):
-        plain = re.compile(r"[^\\}]+" if end else r"[^\\]+").match(cell, at)
-        if plain:
-            found.append(plain[0])
-            at = plain.end()
-        else:
-            piece, at = escaped(cell, at + 1, end)
-            found.append(piece)
-    return found, at + 1 if end and at < len(cell) else at
-
-
-def escaped(cell, at, end):
-    """The piece after a backslash, and the place after it."""
-    sign = cell[at:at + 1]
-    if sign in PLAIN and sign:
-        return PLAIN[sign], at + 1
-    if sign == "," and end:
-        return BETWEEN, at + 1
-    if sign in NUMBERS and sign and end:
-        more = re.compile(r"(?:\\\+)*").match(cell, at + 1)
-        return (lambda step, times: str(NUMBERS[sign](step, times) + len(more[0]) // 2)), more.end()
-    character = re.compile(r"u\{([0-9a-fA-F]+)\}").match(cell, at)
-    if character:
-        return chr(int(character[1], 16)), character.end()
-    many = re.compile(r"\{(\d+)\*").match(cell, at)
-    if not many or end:
-        raise Malformed(f"no escape begins at byte {at - 1}: {cell}")
-    piece, rest = pieces_of(cell, many.end(), "}")
-    if cell[rest - 1:rest] != "}":
-        raise Malformed(f"nothing ends what is repeated: {cell}")
-    return joined(piece, int(many[1])), rest
-
-
-def joined(pieces, times):
+def repeated(piece, times):
     """What is repeated so many times, with what follows `\\,` between."""
-    at = pieces.index(BETWEEN) if BETWEEN in pieces else len(pieces)
-    whole, last = pieces[:at] + pieces[at + 1:], pieces[:at]
-    if all(isinstance(piece, str) for piece in whole):
-        return "".join(whole) * (times - 1) + "".join(last) * (times > 0)
-    return "".join(repeated(whole if step < times - 1 else last, step, times) for step in range(times))
+    between = next((it for it in TOKEN.finditer(piece) if it[8] == ","), None)
+    last = piece[: between.start()] if between else piece
+    whole = last + piece[between.end() :] if between else piece
+    if not any(it[6] for it in TOKEN.finditer(piece)):
+        return read(whole, 0) * (times - 1) + read(last, 0) * (times > 0)
+    return "".join(read(whole if step < times - 1 else last, step, times) for step in range(times))
 
 
 def written(text):

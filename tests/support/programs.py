@@ -12,7 +12,7 @@ import tempfile
 TESTS = os.path.dirname(os.path.dirname(os.path.abspath(__file__)))
 ROOT = os.path.dirname(TESTS)
 COMMANDS = os.path.join(TESTS, "support", "commands")  # What rows may run beside the programs.
-sys.path.insert(0, os.path.join(ROOT, ".ci", "shared"))
+sys.path.insert(0, os.path.join(ROOT, "tools", "shared"))
 import crates
 
 
@@ -20,33 +20,18 @@ class NotBuilt(Exception):
     """A program is not there, and why."""
 
 
-def crate_of(name):
-    """The crate of a program by the name that users type, or by its own."""
-    return crates.programs().get(name, name)
-
-
-def folder(name):
-    """The folder of the crate of a program."""
-    return os.path.join(crates.CRATES, crate_of(name))
-
-
-def is_proving():
-    """Whether a program that is not built may be proved and built."""
-    return os.environ.get("DENIMSCREE_PROVES") != "no"
-
-
 @functools.cache
 def sought(name):
     """The path of a program or of a library for other languages, and why there is none."""
-    crate, built = crate_of(name), os.environ.get("DENIMSCREE_PROGRAMS")
+    crate, built = crates.programs().get(name, name), os.environ.get("DENIMSCREE_PROGRAMS")
     if built and crates.is_program(crate):
         paths = [os.path.join(os.path.abspath(built), path) for path in (name, crate, f"{crate}/out/{crate}")]
         return next(filter(os.path.isfile, paths), None), f"DENIMSCREE_PROGRAMS={built} has neither {name} nor {crate}"
     with open(os.path.join(ROOT, "crates.txt")) as held:  # (two processes do not build at once)
         fcntl.flock(held, fcntl.LOCK_EX)
-        if not crates.is_built(crates.built_file(crate), crate):
-            if not is_proving():
-                return None, f"{crate} is not built of these sources: ./check --prove {crate}"
+        if not crates.is_built(crate):
+            if os.environ.get("DENIMSCREE_PROVES") == "no":
+                return None, f"not built: {crate}"
             try:
                 crates.build(crate)
             except (Exception, SystemExit) as error:
@@ -61,9 +46,6 @@ def built(name):
     if path is None:
         raise NotBuilt(why)
     return path
-
-
-library = built
 
 
 def tried(crate, words, given=b""):

@@ -23,11 +23,11 @@ static int is_refused(void) {
         is_ready = 1;
     }
     requests++;
-    if (refused == 0 || requests < refused || (requests > refused && !all)) {
-        return 0;
+    if (refused != 0 && (requests == refused || (requests > refused && all))) {
+        errno = ENOMEM;
+        return 1;
     }
-    errno = ENOMEM;
-    return 1;
+    return 0;
 }
 
 void *malloc(size_t size) { return is_refused() ? NULL : __libc_malloc(size); }
@@ -36,10 +36,7 @@ void *realloc(void *block, size_t size) { return is_refused() ? NULL : __libc_re
 void *aligned_alloc(size_t alignment, size_t size) { return is_refused() ? NULL : __libc_memalign(alignment, size); }
 
 int posix_memalign(void **block, size_t alignment, size_t size) {
-    if (is_refused()) {
-        return ENOMEM;
-    }
-    *block = __libc_memalign(alignment, size);
+    *block = is_refused() ? NULL : __libc_memalign(alignment, size);
     return *block ? 0 : ENOMEM;
 }
 

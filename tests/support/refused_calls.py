@@ -8,29 +8,27 @@ after the call. Where the first request of a call is refused, it must return tha
 import os
 from dataclasses import dataclass
 
-from support import call_rows, documents, programs, refused
+from support import call_rows, programs, refused
 
 AFTER = "9999"  # So many requests are made after a call, to find whether one was refused.
 MOST = 20000  # More requests than a run makes up to the end of its first call.
 OUT_OF_MEMORY = "out of memory"
 
 
-def is_past(lines, wanted):
-    """Whether a run is one in which a request after the call was refused."""
-    return lines[:2] == ["0", wanted] and lines[2:3] != [AFTER] and lines[3:] == [wanted] and lines[2].isdigit()
-
-
 def faults(run, wanted, takes_memory):
     """What is wrong with a call that returns this with memory. `run` makes it after a number of requests, with one of a number refused, and
     returns its lines: whether the request before the call was refused, what the call returns, how many requests after it are granted,
     and what the second call returns."""
-    if run(0, 0) != ["0", wanted, AFTER, wanted]:
+    whole = ["0", wanted, AFTER, wanted]
+    if run(0, 0) != whole:
         return [f"with memory: {run(0, 0)}"]
     first = next((number for number in range(1, MOST) if run(1, number)[:1] == ["0"]), MOST)
     wrong, number = [], first
-    while number < MOST and not is_past(lines := run(0, number), wanted):
-        is_same = lines == ["0", wanted, AFTER, wanted] and number > first
-        if not is_same and lines != ["0", OUT_OF_MEMORY, AFTER, wanted]:
+    while number < MOST:
+        lines = run(0, number)
+        if lines[:2] == ["0", wanted] and lines[2:3] != [AFTER] and lines[3:] == [wanted] and lines[2].isdigit():
+            break  # (a request after the call was refused)
+        if lines != ["0", OUT_OF_MEMORY, AFTER, wanted] and (lines != whole or number == first):
             wrong.append(f"request {number - first + 1} refused: {lines}")
         number += 1
     if number >= MOST:
@@ -47,13 +45,8 @@ class Case:
     row: call_rows.Case
     takes_memory: bool
 
-    @property
-    def line(self):
-        return self.row.line
-
-    @property
-    def name(self):
-        return self.row.name
+    def __getattr__(self, name):
+        return getattr(self.row, name)
 
     def words(self):
         """The call and its arguments, a line each."""
@@ -69,9 +62,7 @@ class Case:
 
     def faults(self):
         """What is wrong, in lines: with the answer to the call, as in other rows, or else where a request is refused."""
-        ((_, wanted),) = self.row.wanted
-        told = list(self.row.faults())
-        yield from told or (f"    {line}" for line in faults(self.run, wanted, self.takes_memory))
+        yield from list(self.row.faults()) or (f"    {line}" for line in faults(self.run, self.row.wanted[0][1], self.takes_memory))
 
 
 class Large:
@@ -80,14 +71,10 @@ class Large:
     def __init__(self, *given):
         self.given, self.line, self.name = given, given[1], " ".join(given[-1][:-1]).replace("::", ".")
 
-    @property
-    def row(self):
-        return call_rows.case_of(*self.given)
-
     def faults(self):
         programs.built(self.given[2])  # (where it is not, the texts need not be made)
-        case = Case(self.row, True)
-        ((_, wanted),) = case.row.wanted
+        case = Case(call_rows.case_of(*self.given), True)
+        ((_, wanted),) = case.wanted
         if (lines := case.run(0, 0)) != ["0", wanted, AFTER, wanted]:
             yield f"    wanted: {call_rows.shown(wanted)}"
             yield f"    got, before it, from it, the requests after it, and from the second call: {call_rows.shown(' '.join(lines))}"
@@ -95,7 +82,5 @@ class Large:
 
 def read(path):
     """The cases of a file."""
-    name, suffix = os.path.splitext(os.path.basename(path))
-    if name == "large":
-        return [Large(*row) for row in call_rows.rows_of(path)]
-    return [Case(row, name == "refused") for row in (documents if suffix == ".calls" else call_rows).read(path)]
+    name = os.path.basename(path).split(".")[0]
+    return [Large(*row) for row in call_rows.rows_of(path)] if name == "large" else [Case(row, name == "refused") for row in call_rows.read(path)]

@@ -1,8 +1,6 @@
 // A registry for npm: a few packages, an advisory, and a yes to whatever is published. It keeps nothing, so two npms that ask it the same
-// get the same. Writes its address to a file, and listens until it is ended. It has the packages of a JSON file in place of its own, if
-// there is one.
-//
-//     node registry.js FILE [PACKAGES]
+// get the same. Writes its address, and listens until it is ended. It has the packages of a JSON file in place of its own, if there is one:
+// `node registry.js [PACKAGES]`.
 'use strict';
 
 const { execFileSync } = require('node:child_process');
@@ -12,7 +10,7 @@ const http = require('node:http');
 const os = require('node:os');
 const path = require('node:path');
 
-const packages = process.argv[3] ? JSON.parse(fs.readFileSync(process.argv[3], 'utf8')) : {
+const packages = process.argv[2] ? JSON.parse(fs.readFileSync(process.argv[2], 'utf8')) : {
     alpha: {
         'dist-tags': { latest: '2.0.0', old: '1.1.0', next: '2.1.0-rc.1' },
         versions: {
@@ -49,8 +47,7 @@ function tarball(name, version, more) {
     const folder = fs.mkdtempSync(path.join(room, 'package-'));
     fs.mkdirSync(path.join(folder, 'package'));
     fs.writeFileSync(path.join(folder, 'package/package.json'), JSON.stringify({ name, version, ...more }));
-    fs.writeFileSync(path.join(folder, 'package/run.js'), `#!/usr/bin/env node\nconsole.log('${name} ${version}');\n`,
-        { mode: 0o755 });
+    fs.writeFileSync(path.join(folder, 'package/run.js'), `#!/usr/bin/env node\nconsole.log('${name} ${version}');\n`, { mode: 0o755 });
     return execFileSync('tar', ['-C', folder, '--sort=name', '--mtime=@0', '--owner=0', '--group=0', '-czf', '-', 'package']);
 }
 
@@ -59,38 +56,24 @@ function packument(name, address) {
     const { versions, 'dist-tags': tags } = packages[name];
     const all = Object.entries(versions).map(([version, more]) => {
         const file = `${name}-${version}.tgz`;
-        if (!tarballs.has(file)) {
-            tarballs.set(file, tarball(name, version, more));
-        }
+        if (!tarballs.has(file)) tarballs.set(file, tarball(name, version, more));
         const integrity = `sha512-${createHash('sha512').update(tarballs.get(file)).digest('base64')}`;
-        const dist = { tarball: `${address}/${name}/-/${file}`, integrity };
-        return [version, { name, version, ...more, _id: `${name}@${version}`, dist }];
+        return [version, { name, version, ...more, _id: `${name}@${version}`, dist: { tarball: `${address}/${name}/-/${file}`, integrity } }];
     });
     const time = Object.fromEntries(all.map(([version], i) => [version, `2020-01-0${i + 1}T00:00:00.000Z`]));
-    return { _id: name, _rev: '1-a', name, 'dist-tags': tags, versions: Object.fromEntries(all), time,
-        maintainers: [{ name: 'someone', email: 'a@example.com' }] };
+    return { _id: name, _rev: '1-a', name, 'dist-tags': tags, versions: Object.fromEntries(all), time, maintainers: [{ name: 'someone', email: 'a@example.com' }] };
 }
 
 // What is returned for a request, as JSON or as bytes; `undefined` if there is no such thing.
 function answer(method, url, address) {
-    if (method === 'PUT' || method === 'DELETE') {
-        return { ok: true };
-    }
-    if (method === 'POST') {
-        return url.includes('/advisories/bulk') ? advisories : undefined;
-    }
-    const file = url.match(/\/-\/([^/]+\.tgz)$/);
-    if (file) {
-        return tarballs.get(file[1]);
-    }
+    if (method === 'PUT' || method === 'DELETE') return { ok: true };
+    if (method === 'POST') return url.includes('/advisories/bulk') ? advisories : undefined;
+    const [, file] = url.match(/\/-\/([^/]+\.tgz)$/) ?? [];
+    if (file) return tarballs.get(file);
     const tags = url.match(/^\/-\/package\/(\w+)\/dist-tags/);
+    if (url.startsWith('/-/') && !tags) return url.startsWith('/-/whoami') ? { username: 'someone' } : {};
     const name = tags ? tags[1] : decodeURIComponent(url.slice(1).split('?')[0]);
-    if (url.startsWith('/-/') && !tags) {
-        return url.startsWith('/-/whoami') ? { username: 'someone' } : {};
-    }
-    if (!Object.hasOwn(packages, name)) {
-        return undefined;
-    }
+    if (!Object.hasOwn(packages, name)) return undefined;
     return tags ? packages[name]['dist-tags'] : packument(name, address);
 }
 
@@ -101,4 +84,4 @@ const server = http.createServer((request, response) => {
         response.writeHead(found === undefined ? 404 : 200, { 'content-type': 'application/json' }).end(body);
     });
 });
-server.listen(0, '127.0.0.1', () => fs.writeFileSync(process.argv[2], `http://127.0.0.1:${server.address().port}`));
+server.listen(0, '127.0.0.1', () => console.log(`http://127.0.0.1:${server.address().port}`));

@@ -3,7 +3,6 @@ import contextlib
 import json
 import os
 import subprocess
-import time
 
 from support import programs
 
@@ -44,23 +43,12 @@ def npm(room, address, commands):
 @contextlib.contextmanager
 def served(room, packages=None):
     """The address of a registry that has these packages, or those that `registry.js` names. It listens inside `with`."""
-    at, given = os.path.join(room, "address"), os.path.join(room, "packages.json")
+    given = os.path.join(room, "packages.json")
     if packages:
         put(given, packages)
     open(os.path.join(room, "npmrc"), "w").close()
-    process = subprocess.Popen(["node", SERVER, at, *([given] if packages else [])])
-    try:
-        yield address_in(at)
-    finally:
-        process.terminate()
-        process.wait()
-
-
-def address_in(path):
-    """The address that the registry writes to a file."""
-    for _ in range(600):
-        if os.path.exists(path) and os.path.getsize(path):
-            with open(path, encoding="utf-8") as file:
-                return file.read()
-        time.sleep(0.1)
-    raise TimeoutError("the registry did not start")
+    with subprocess.Popen(["node", SERVER, *([given] if packages else [])], stdout=subprocess.PIPE, text=True) as process:
+        try:
+            yield process.stdout.readline().strip()
+        finally:
+            process.terminate()

@@ -7,6 +7,7 @@ import tempfile
 from dataclasses import dataclass, field
 
 from support import programs
+import files
 
 SECONDS = 120
 
@@ -26,19 +27,54 @@ class Case:
     output: str = ""
     error: str = ""
     status: int = 0
+    program: str = ""
+
+    def faults(self):
+        """What is wrong with the run, in lines. The folder of a run that is wrong stays."""
+        folder, script = tempfile.mkdtemp(prefix="denimscree-row-"), "\n".join(self.commands)
+        put_files(self, folder)
+        others = [name for name in programs.crates.programs() if re.search(rf"(?:^|[|&;]\s*){re.escape(name)} ", script, re.M)]
+        environment = programs.environment(self.program, *others)
+        try:
+            ran = subprocess.run(["bash", "-c", script], cwd=folder, env=environment, stdin=subprocess.DEVNULL, capture_output=True, timeout=SECONDS)
+            status, output, error = ran.returncode, *(it.decode(errors="backslashreplace") for it in (ran.stdout, ran.stderr))
+        except subprocess.TimeoutExpired:
+            status, output, error = "none", "", f"it has not ended after {SECONDS} seconds"
+        told = beside("standard output", self.output, output) + beside("standard error", self.error, error)
+        told += beside("status", str(self.status), str(status))
+        if not told:
+            shutil.rmtree(folder)
+            return []
+        os.symlink(programs.built(self.program), os.path.join(folder, self.program))
+        alone = [f"cd {folder}; PATH=$PWD:{programs.COMMANDS}:$PATH", *self.commands]
+        return [*told, "    the program alone:", *(f"        {line}" for line in alone)]
+
+
+def words(folder):
+    """The words of sentences by their names, as the file `words` has them in the folder of a program or in another one, if it is there."""
+    path = os.path.join(programs.TESTS, "programs", folder, "words")
+    lines = files.lines(path) if os.path.isfile(path) else []
+    return dict(line.split(" = ", 1) for line in lines if line and not line.startswith("#"))
+
+
+def said(text, known):
+    """A text with words in the places of their names, if there are any."""
+    return re.sub(r"\{([a-z][a-z -]*)\}", lambda it: known[it[1]], text) if known else text
 
 
 def read(path):
     """The cases of a file. Those that have files alone are none of them: their files are there in each case below."""
-    cases, shared = [], []
-    with open(path, encoding="utf-8") as file:
-        lines = file.read().split("\n")
-    written = (one for at, paragraph in paragraphs(lines) for one in of_each_value(path, at, paragraph))
-    for at, paragraph in written:
-        case = read_case(path, at, paragraph)
+    cases, shared, known = [], [], words(os.path.dirname(path))
+    for case in (read_case(path, *one) for at, paragraph in paragraphs(files.lines(path)) for one in of_each_value(path, at, paragraph)):
+        if any(name is None for name, _ in case.files):
+            raise Malformed(f"{path}:{case.line}: these lines are of no file")
         if case.commands:
-            case.files = shared + case.files
-            case.name = case.name or case.commands[-1]
+            case.files, case.name = shared + case.files, case.name or case.commands[-1]
+            case.program = os.path.basename(os.path.dirname(path))
+            try:
+                case.output, case.error = said(case.output, known), said(case.error, known)
+            except KeyError as name:
+                raise Malformed(f"{path}:{case.line}: the words have no name {name}") from None
             cases.append(case)
         else:
             shared = shared + case.files
@@ -59,33 +95,32 @@ def of_each_value(path, at, paragraph):
     """The paragraph, or one for each of its lines `*`: its values are in the places of `{0}`, `{1}` and so on in the lines above."""
     first = next((i for i, line in enumerate(paragraph) if line.startswith("* ")), None)
     if first is None:
-        yield at, paragraph
-        return
+        return [(at, paragraph)]
     cases = []
     for number, line in enumerate(paragraph[first:], at + first):
         mark, _, value = line.partition(" ")
-        if mark == "*":
-            cases.append((number, []))
-        elif mark != "+":
+        if mark not in ("*", "+"):
             raise Malformed(f"{path}:{number}: below a line with * are others with * and +: {line}")
+        cases += [(number, [])] if mark == "*" else []
         cases[-1][1].append(value)
-    for number, values in cases:
-        try:
-            yield number, [re.sub(r"\{(\d+)\}", lambda it: values[int(it[1])], line) for line in paragraph[:first]]
-        except IndexError:
-            raise Malformed(f"{path}:{number}: it has fewer values than the lines above name") from None
+    try:
+        return [(number, [re.sub(r"\{(\d+)\}", lambda it: values[int(it[1])], line) for line in paragraph[:first]]) for number, values in cases]
+    except IndexError:
+        raise Malformed(f"{path}:{at}: a line with * has fewer values than the lines above name") from None
 
 
 def read_case(path, at, paragraph):
+    """The case of a paragraph. Lines of a file that has no name are of the name None."""
     case = Case(at)
     for number, line in enumerate(paragraph, at):
         mark, _, rest = line.partition(" ")
         if mark == "#":
             case.name = f"{case.name} {rest}".strip()
-        elif mark == "@":
+        elif mark == "@" and not case.output:
             name, _, source = rest.partition(" = ")
             case.files.append((name, source or []))
-        elif mark == "|" and case.files:
+        elif mark == "|" and not case.output:
+            case.files += [] if case.files else [(None, [])]
             case.files[-1][1].append(rest)
         elif mark == "$":
             case.commands.append(rest)
@@ -113,35 +148,5 @@ def put_files(case, folder):
 
 def beside(what, wanted, got):
     """What is wanted beside what there is, or nothing if they are the same."""
-    if wanted == got:
-        return []
-    indented = lambda text: [f"        {line}" for line in text.split("\n")[:40]]
-    return [f"    {what}: wanted", *indented(wanted.removesuffix("\n")), f"    {what}: got", *indented(got.removesuffix("\n"))]
-
-
-def others(script, program):
-    """The other programs that a script begins commands with."""
-    return [name for name in programs.crates.programs() if name != program and re.search(rf"(?:^|[|&;]\s*){re.escape(name)} ", script, re.M)]
-
-
-def fault(case, program):
-    """What is wrong with the run of a case, in lines, or an empty list. The folder of a run that is wrong stays."""
-    folder = tempfile.mkdtemp(prefix="denimscree-row-")
-    put_files(case, folder)
-    script = "\n".join(case.commands)
-    environment = programs.environment(program, *others(script, program))
-    try:
-        ran = subprocess.run(["bash", "-c", script], cwd=folder, env=environment, stdin=subprocess.DEVNULL, capture_output=True,
-                             timeout=SECONDS)
-        status, output, error = ran.returncode, *(it.decode(errors="backslashreplace") for it in (ran.stdout, ran.stderr))
-    except subprocess.TimeoutExpired:
-        status, output, error = "none", "", f"it has not ended after {SECONDS} seconds"
-    told = beside("standard output", case.output, output) + beside("standard error", case.error, error)
-    told += beside("status", str(case.status), str(status))
-    if told:
-        os.symlink(programs.built(program), os.path.join(folder, program))
-        told += ["    the program alone:", f"        cd {folder}; PATH=$PWD:{programs.COMMANDS}:$PATH"]
-        told += [f"        {line}" for line in case.commands]
-    else:
-        shutil.rmtree(folder)
-    return told
+    indented = lambda text: [f"        {line}" for line in text.removesuffix("\n").split("\n")[:40]]
+    return [] if wanted == got else [f"    {what}: wanted", *indented(wanted), f"    {what}: got", *indented(got)]

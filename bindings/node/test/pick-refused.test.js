@@ -6,7 +6,7 @@ const path = require('node:path');
 const { build, testEach } = require('./refused/refuse.js');
 const { large } = require('./documents.js');
 
-const copy = build('npm_pick');
+const copy = build('npm_call');
 const pick = require(path.join(copy.room, 'pick.js'));
 
 const long = `1.0.0-${'a'.repeat(400)}`;

@@ -259,5 +259,5 @@ function loaded(text) {
 
 test('the package alone does not load the module of pick', () => {
     assert.deepStrictEqual(loaded('require(".")'), ['node_semver.js']);
-    assert.deepStrictEqual(loaded('require("./pick.js")'), ['node_semver.js', 'npm_pick.js']);
+    assert.deepStrictEqual(loaded('require("./pick.js")'), ['node_semver.js', 'npm_calls.js']);
 });

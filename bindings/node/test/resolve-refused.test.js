@@ -6,7 +6,7 @@ const path = require('node:path');
 const { build, testEach } = require('./refused/refuse.js');
 const { react, tree } = require('./resolve-rows.json');
 
-const copy = build('npm_resolve');
+const copy = build('npm_call');
 const resolve = require(path.join(copy.room, 'resolve.js'));
 
 const asks = (dependencies) => ({ dependencies });

@@ -205,8 +205,7 @@ test('the arguments are not changed', () => {
 test('its module is loaded by nothing else', () => {
     const script = `
         require(${JSON.stringify(root)});
-        require(${JSON.stringify(path.join(root, 'pick.js'))});
-        const loaded = () => Object.keys(require.cache).some((file) => file.endsWith('modules/read/npm_resolve.js'));
+        const loaded = () => Object.keys(require.cache).some((file) => file.endsWith('modules/read/npm_calls.js'));
         console.log(loaded(), typeof require(${JSON.stringify(path.join(root, 'resolve.js'))}), loaded());
     `;
     assert.strictEqual(spawnSync(process.execPath, ['-e', script], { encoding: 'utf8' }).stdout, 'false function true\n');

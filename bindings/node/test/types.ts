@@ -1,6 +1,8 @@
 // SPDX-License-Identifier: Apache-2.0
 // Uses that compile with the types which users of npm's `semver` have, and uses of what is added.
 import semver = require('..');
+import audit = require('../audit');
+import check = require('../check');
 import pick = require('../pick');
 import resolve = require('../resolve');
 
@@ -65,6 +67,15 @@ const unread: string[] = lock.outcome === 'unread' ? lock.overrides : [];
 const blamed: string[] = resolution.outcome === 'none' ? (resolution.culprits ?? []).map(({ name, spec }) => `${name}@${spec}`) : [];
 function faultOf(error: resolve.ResolveError): string | undefined {
     return error.code === 'EINVALIDOPTION' ? error.message : error.code;
+}
+
+// Lock files.
+const report: check.Report = check({ lockfileVersion: 3, packages: { '': {} } }, { manifest: { dependencies: { one: '1' } }, omit: ['dev'],
+    ignore: ['peer-local'], workspaces: { w: {} }, nodeVersion: null, registry: ['https://r.example'], strict: true });
+const hits: string[] = audit('{}', [], { severity: 'high', exceptions: [{ id: '7', package: 'a', reason: 'b' }], today: '2026-12-01' })
+    .hits.map(({ folder, name, version }) => `${folder} ${name}@${version}`);
+function placeOf(error: check.CheckError): Array<string | number> {
+    return error.code === 'EINVALIDLOCK' ? error.member ?? [] : [error.line ?? 0, error.column ?? 0];
 }
 
 // Each name, each static one and each field and method of the classes, with its exact type: what may be null is so, and nothing else
@@ -215,6 +226,10 @@ export const resolves: true = is<typeof resolve, {
     (manifest: resolve.Manifest, documents: resolve.Documents,
         options?: resolve.Options): resolve.Resolution | resolve.LockResolution;
 }>();
+
+export const checks: true = is<typeof check, (lock: check.Lock | string, options?: check.Options) => check.Report>();
+export const audits: true = is<typeof audit, (lock: check.Lock | string, advisories: object | string, options?: audit.Options) => audit.Report>();
+export const ofLocks = [report, hits, placeOf];
 
 // The members of the values that calls take and return.
 interface Flags { loose?: boolean | undefined; includePrerelease?: boolean | undefined }

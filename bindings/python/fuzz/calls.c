@@ -14,8 +14,7 @@
 #include <stdlib.h>
 
 PyMODINIT_FUNC PyInit__native(void);
-PyMODINIT_FUNC PyInit__pick(void);
-PyMODINIT_FUNC PyInit__resolve(void);
+PyMODINIT_FUNC PyInit__calls(void);
 
 /* Ends the run with the exception, if there is one. */
 static PyObject *must(PyObject *value)
@@ -34,8 +33,7 @@ static PyObject *function(const char *name)
     if (module == NULL) {
         setenv("PYTHONMALLOC", "malloc", 1);
         PyImport_AppendInittab("node_semver._native", PyInit__native);
-        PyImport_AppendInittab("node_semver._pick", PyInit__pick);
-        PyImport_AppendInittab("node_semver._resolve", PyInit__resolve);
+        PyImport_AppendInittab("node_semver._calls", PyInit__calls);
         Py_Initialize();
         module = must(PyImport_ImportModule("calls"));
     }

@@ -23,7 +23,7 @@ class Inside:
 
     @staticmethod
     def find_spec(name: str, path: object = None, target: object = None) -> Optional[importlib.machinery.ModuleSpec]:
-        if name in ("node_semver._native", "node_semver._pick", "node_semver._resolve"):
+        if name in ("node_semver._native", "node_semver._calls"):
             return importlib.util.spec_from_loader(name, importlib.machinery.BuiltinImporter)  # type: ignore[arg-type]
         return None
 

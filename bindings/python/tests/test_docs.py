@@ -8,7 +8,7 @@ import unittest
 from typing import Callable, Dict, Iterator, List, Tuple
 
 import node_semver
-from node_semver import Picked, PickError, Range, SemverError, Version, pick, resolve, satisfies
+from node_semver import CheckError, Picked, PickError, Range, SemverError, Version, audit, check, pick, resolve, satisfies
 
 README = os.path.join(os.path.dirname(os.path.dirname(os.path.abspath(__file__))), "README.md")
 
@@ -19,7 +19,9 @@ def documented() -> Iterator[Tuple[str, object]]:
     yield "satisfies", satisfies
     yield "pick", pick
     yield "resolve", resolve
-    for owner in (Version, Range, SemverError, Picked, PickError):
+    yield "check", check
+    yield "audit", audit
+    for owner in (Version, Range, SemverError, Picked, PickError, CheckError):
         yield owner.__name__, owner
     for owner in (Version, Range):
         for name, member in vars(owner).items():

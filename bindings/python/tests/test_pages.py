@@ -102,13 +102,10 @@ class Pages(unittest.TestCase):
         self.assertEqual(count, 10)
 
     def test_examples_of_comparators(self) -> None:
-        count = 0
-        text = page("GRAMMAR.md").split("\n## npm's own reading\n")[0]
-        for row in rows(text):
-            for range_text, result in re.findall(r"`([^`]+)`: (`[<>^~=][^`]*`|no cut)", row[-1]):
-                self.assertTrue(is_as(Range, range_text, result), f"{range_text} is not {result}")
-                count += 1
-        self.assertGreaterEqual(count, 20)
+        examples = re.findall(r"`([^`]+)`\s+is\s+(`[<>^~=][^`]*`)", page("GRAMMAR.md").split("\n## npm's own reading\n")[0])
+        for range_text, result in examples:
+            self.assertTrue(is_as(Range, range_text, result), f"{range_text} is not {result}")
+        self.assertGreaterEqual(len(examples), 8)
 
     def test_readings_that_differ(self) -> None:
         table = section(page("GRAMMAR.md"), "## npm's own reading").split("Where the two readings differ:")[1]
@@ -117,7 +114,7 @@ class Pages(unittest.TestCase):
         self.assertGreaterEqual(min(first, second), 17)
 
     def test_offsets_of_refused_words(self) -> None:
-        line = re.search(r"`1 \|\| 2 foo` at (\d+), and `1 - 2 3`\s+at (\d+)", section(page("GRAMMAR.md"), "## npm's own reading"))
+        line = re.search(r"`1 \|\| 2 foo` at (\d+), `1 - 2 3`\s+at (\d+)", section(page("GRAMMAR.md"), "## npm's own reading"))
         assert line is not None
         for text, offset in zip(("1 || 2 foo", "1 - 2 3"), line.groups()):
             with self.assertRaises(SemverError) as caught:

@@ -155,8 +155,8 @@ class Pick(unittest.TestCase):
 
     def test_the_native_part_is_loaded_by_the_first_call(self) -> None:
         text = (
-            "import sys, node_semver; before = 'node_semver._pick' in sys.modules; "
-            "node_semver.pick({'versions': {'1.0.0': {}}}); print(before, 'node_semver._pick' in sys.modules)"
+            "import sys, node_semver; before = 'node_semver._calls' in sys.modules; "
+            "node_semver.pick({'versions': {'1.0.0': {}}}); print(before, 'node_semver._calls' in sys.modules)"
         )
         done = subprocess.run([sys.executable, "-c", text], capture_output=True, text=True)
         self.assertEqual(done.stdout, "False True\n", done.stderr)

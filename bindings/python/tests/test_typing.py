@@ -65,7 +65,9 @@ class Typing(unittest.TestCase):
             file.write("node_semver.ReleaseType\nnode_semver._types.ReleaseType\n")
             for name in ("PickCode", "PickFault"):
                 file.write(f"node_semver.{name}\nnode_semver._picking.{name}\n")
-            for name in ("Chosen", "Culprit", "Group", "LockFile", "NoSelection", "Reason", "Selected", "Undecided", "Unread", "Wish"):
+            for name in ("Audit", "Excepted", "Report"):
+                file.write(f"node_semver.{name}\nnode_semver._checking.{name}\n")
+            for name in ("Chosen", "Culprit", "Group", "LockFile", "Names", "NoSelection", "Reason", "Selected", "Undecided", "Unread", "Wish"):
                 file.write(f"node_semver.{name}\nnode_semver._resolving.{name}\n")
             file.flush()
             self.accepts("mypy.stubtest", "node_semver", "--allowlist", file.name, "--ignore-unused-allowlist")

@@ -66,14 +66,6 @@ static void add_string(struct text *text, void (*add_letters)(struct text *)) {
     add(text, "\""), add_letters(text), add(text, "\"");
 }
 
-/* One time in n the text has letters. */
-static void add_at_times(struct text *text, uint32_t n, void (*add_letters)(struct text *)) {
-    clear(text);
-    if (below(n) == 0) {
-        add_letters(text);
-    }
-}
-
 /* Changes a byte of the text, so that it may be no JSON. */
 static void spoil(struct text *text) {
     static const char bytes[] = "{}[]:,\"\\ue0-1.\n\xff";

@@ -14,7 +14,7 @@ static uint32_t below(uint32_t n) {
 
 struct text {
     size_t length;
-    char bytes[1 << 13];
+    char bytes[1 << 15];
 };
 
 static void add(struct text *text, const char *bytes) {

@@ -6,16 +6,31 @@
 //! With the word `twice` a program makes a call after a number of allocations, and then the same call again, for tests that refuse memory
 //! or give large arguments. The lines of standard input are that number, the name of the call, and its arguments. If one allocation of
 //! the run fails, the number decides which allocation of the call that is. [`run`] writes the number of allocations that succeeded before
-//! the call, the result of the call, the number that succeeded after it, and the result of the second call. The status is 1 if an
-//! argument has changed, and 2 if no call was made or nothing was written.
+//! the call, the answer, the number that succeeded after it, and the answer of the second call. The room of an answer is there before
+//! the call, so that only the call allocates. The status is 2 if no call was made or nothing was written.
 #![tactic(auto)]
 
-mod call_error;
+mod call;
 mod lines;
-mod program;
-mod requests;
-mod trial;
+mod twice;
 
-pub use call_error::CallError;
-pub use program::run;
-pub use trial::Trial;
+pub use call::{Call, CallError, Calls, Written};
+use std::env;
+use std::process::ExitCode;
+
+/// Makes the calls that standard input names, and returns the status of the program.
+pub fn run<C: Calls>(rt: &HostRuntime) -> ExitCode {
+    match made::<C>(rt) {
+        Ok(()) => ExitCode::from(0),
+        Err(_) => ExitCode::from(2),
+    }
+}
+
+fn made<C: Calls>(rt: &HostRuntime) -> Written {
+    for word in env::args(rt)?.skip(1) {
+        if word.as_str() == "twice" {
+            return twice::write::<C>(rt);
+        }
+    }
+    lines::write::<C>(rt)
+}

@@ -1,158 +1,180 @@
-//! Security advisories and the packages that they hit.
-use crate::answer::Answer;
-use crate::arguments::Arguments;
-use crate::audits::{audited, fault_text, found_offers, found_packages, installed_of};
-use crate::lists::text_of_steps;
-use crate::paths::shown_place;
-use crate::{answer, borrowed};
+//! Security advisories and the packages that they hit. The advisories come first.
+use crate::Call;
+use crate::members::{items_in, items_of, text_if_any, text_in, texts_of};
+use crate::word::{text_at, value_at};
+use crate::written::{end_list, put, put_if_any, put_item};
+use json_places::{Path, Step};
+use named_calls::{CallError, Written, list_of};
+use node_semver::Version;
 use npm_advisories::{
-    AuditError, Date, Found, Installed, LockError, Severity, audit, audit_lock, fault_steps,
+    AdvisoryId, AuditError, Date, Fault, Found, Installed, LockError, Severity, audit, audit_lock,
+    fault_steps,
 };
+use npm_lock_findings::ShownPlace;
 use serde_json::Value;
-use std::alloc::Global;
+use std::alloc::{AllocError, Global};
 
 /// The day on which all advisories are asked.
-pub(crate) const TODAY: Date = Date {
+const TODAY: Date = Date {
     year: 2024,
     month: 2,
     day: 29,
 };
 
-/// The advisories come first.
-#[derive(Clone, Copy, Drop)]
-pub(crate) enum Name {
-    /// Of a list of installed packages, from the severity of the text on.
-    Audit,
-    /// The fault of the advisories, of a list of installed packages.
-    FaultOfAudit,
-    /// Whether a package is hit, of the name and the version in the texts.
-    HitOfAudit,
-    /// The title of the first advisory that hits it. The package does not live as long as the title.
-    TitleOfAudit,
-    /// The folder of the first package of a list that is hit. The advisories, which are a text, do not live as long as the folder.
-    FolderOfAudit,
-    /// Of a lock file, from the severity of the text on.
-    AuditLock,
-    /// The folders, names and offered versions.
-    OffersOfAuditLock,
-    /// Of the fault that the advisories have beside a lock file.
-    FaultSteps,
-    /// The place of this fault in the text of the advisories, of the text of these and a lock file.
-    ShownFault,
-}
-
-pub(crate) fn named(name: &str) -> Option<(Name, usize)> {
-    Some(match name {
-        "npm_advisories::audit" => (Name::Audit, 2),
-        "npm_advisories::audit, its fault" => (Name::FaultOfAudit, 2),
-        "npm_advisories::audit, of one package" => (Name::HitOfAudit, 1),
-        "npm_advisories::audit, a title alone" => (Name::TitleOfAudit, 1),
-        "npm_advisories::audit, a folder alone" => (Name::FolderOfAudit, 1),
-        "npm_advisories::audit_lock" => (Name::AuditLock, 2),
-        "npm_advisories::audit_lock, its offers" => (Name::OffersOfAuditLock, 2),
-        "npm_advisories::fault_steps" => (Name::FaultSteps, 2),
-        "npm_advisories::fault_steps, in the text" => (Name::ShownFault, 0),
-        _ => return None,
-    })
-}
-
-pub(crate) fn answer(alloc: Global, name: Name, arguments: &Arguments) -> Answer {
-    let (file, second) = (arguments.value(0), arguments.value(1));
-    let level = Severity::of_text(arguments.text(0));
-    match name {
-        Name::Audit => audit_of_list(alloc, file, level, second),
-        Name::FaultOfAudit => fault_of_list(alloc, file, second),
-        Name::HitOfAudit => hit(alloc, file, arguments.text(0), arguments.text(1)),
-        Name::TitleOfAudit => borrowed::title(alloc, file, arguments.text(0), arguments.text(1)),
-        Name::FolderOfAudit => borrowed::folder(alloc, file, arguments.text(0)),
-        Name::AuditLock => match audit_lock(alloc, file, TODAY, level, second) {
-            Ok(found) => answer::list(found_packages(alloc, &found)),
-            Err(error) => refused(alloc, error),
-        },
-        Name::OffersOfAuditLock => match audit_lock(alloc, file, TODAY, level, second) {
-            Ok(found) => answer::list(found_offers(alloc, &found)),
-            Err(error) => refused(alloc, error),
-        },
-        Name::FaultSteps => steps_to_fault(alloc, file, second),
-        Name::ShownFault => shown_fault(alloc, arguments.text(0), arguments.text(1)),
+pub(crate) fn answer(call: &Call<'_>, out: &mut String) -> Written {
+    let (alloc, file, name) = (call.alloc, value_at(call, 0)?, text_at(call, 1));
+    match call.name {
+        "npm_advisories::audit, of one package" => {
+            let list = [package(alloc, name, text_at(call, 2))];
+            audited(call, out, audit(alloc, file, TODAY, Severity::Info, &list))
+        }
+        "npm_advisories::audit, a title alone" => {
+            put_if_any(out, title_of(alloc, file, name, text_at(call, 2)))
+        }
+        "npm_advisories::audit" | "npm_advisories::audit, its fault" => {
+            let list = installed_of(alloc, value_at(call, 1)?)?;
+            let level = Severity::of_text(text_at(call, 2));
+            audited(call, out, audit(alloc, file, TODAY, level, &list))
+        }
+        // (of a list, and of the text that has the advisories)
+        "npm_advisories::audit, a folder alone" => {
+            put_if_any(out, folder_of(alloc, name, &installed_of(alloc, file)?))
+        }
+        "npm_advisories::audit_lock" | "npm_advisories::audit_lock, its offers" => {
+            let level = Severity::of_text(text_at(call, 2));
+            match audit_lock(alloc, file, TODAY, level, value_at(call, 1)?) {
+                Ok(found) => found_packages(call, out, &found),
+                Err(error) => refused_lock(out, error),
+            }
+        }
+        "npm_advisories::fault_steps" | "npm_advisories::fault_steps, in the text" => {
+            steps_to_fault(call, out, file, value_at(call, 1)?)
+        }
+        _ => Err(CallError::Words),
     }
 }
 
-/// Why there is no audit of a lock file.
-fn refused(alloc: Global, error: LockError<'_>) -> Answer {
-    match error {
-        LockError::Memory => Answer::OutOfMemory,
-        LockError::Lock(fault) => Answer::Fault(fault),
-        LockError::Advisories(fault) => answer::text(fault_text(alloc, fault)),
-    }
+/// The packages of a list: each has `folder`, `name`, `version` if it has one, and the range texts `asked`.
+fn installed_of(alloc: Global, list: &Value) -> Result<Vec<Installed<'_>>, AllocError> {
+    let items = items_of(list);
+    Ok(list_of!(alloc, items, item => Installed {
+        folder: text_in(item, "folder"),
+        name: text_in(item, "name"),
+        version: text_if_any(item, "version"),
+        asked: texts_of(alloc, items_in(item, "asked"))?,
+    }))
 }
 
-fn audit_of_list(alloc: Global, file: &Value, level: Severity, list: &Value) -> Answer {
-    match &installed_of(alloc, list) {
-        Ok(installed) => audited(alloc, audit(alloc, file, TODAY, level, installed)),
-        Err(_) => Answer::OutOfMemory,
-    }
-}
-
-fn fault_of_list(alloc: Global, file: &Value, list: &Value) -> Answer {
-    match &installed_of(alloc, list) {
-        Ok(installed) => fault_of(alloc, file, installed),
-        Err(_) => Answer::OutOfMemory,
-    }
-}
-
-fn fault_of(alloc: Global, file: &Value, installed: &[Installed<'_>]) -> Answer {
-    match audit(alloc, file, TODAY, Severity::Info, installed) {
-        Ok(_) => Answer::Word("no fault"),
-        Err(AuditError::Refused(fault)) => answer::text(fault_text(alloc, fault)),
-        Err(AuditError::Memory) => Answer::OutOfMemory,
-    }
-}
-
-/// Whether the package of this name and version is hit.
-fn hit(alloc: Global, file: &Value, name: &str, version: &str) -> Answer {
-    let one = Installed {
+/// A package of a name and a version.
+fn package<'v>(alloc: Global, name: &'v str, version: &'v str) -> Installed<'v> {
+    Installed {
         folder: "",
         name,
         version: Some(version),
         asked: Vec::new(alloc),
-    };
-    is_hit(alloc, audit(alloc, file, TODAY, Severity::Info, &[one]))
-}
-
-fn is_hit(alloc: Global, found: Result<Vec<Found<'_, '_>>, AuditError<'_>>) -> Answer {
-    match found {
-        Ok(found) => answer::truth(!found.is_empty()),
-        Err(AuditError::Refused(fault)) => answer::text(fault_text(alloc, fault)),
-        Err(AuditError::Memory) => Answer::OutOfMemory,
     }
 }
 
-fn steps_to_fault(alloc: Global, file: &Value, lock: &Value) -> Answer {
-    match audit_lock(alloc, file, TODAY, Severity::Info, lock) {
-        Ok(_) => Answer::Nothing,
-        Err(LockError::Advisories(fault)) => match fault_steps(alloc, file, lock, fault) {
-            Ok(steps) => answer::list(text_of_steps(alloc, &steps)),
-            Err(error) => refused(alloc, error),
+type Audited<'a> = Result<Vec<Found<'a, 'a>>, AuditError<'a>>;
+
+/// The packages that are hit, whether there is one, or that there is no fault.
+fn audited(call: &Call<'_>, out: &mut String, found: Audited<'_>) -> Written {
+    match &found {
+        Ok(found) => match call.name {
+            "npm_advisories::audit" => found_packages(call, out, found),
+            "npm_advisories::audit, its fault" => Ok(out.push_str("no fault")?),
+            _ => put(out, &!found.is_empty()),
         },
-        Err(error) => refused(alloc, error),
+        Err(AuditError::Refused(fault)) => refused(out, *fault),
+        Err(AuditError::Memory) => Err(AllocError.into()),
     }
 }
 
-fn shown_fault(alloc: Global, text: &str, lock: &str) -> Answer {
-    let (Ok(file), Ok(lock)) = (&Value::from_str(alloc, text), &Value::from_str(alloc, lock)) else {
-        return Answer::Word("no JSON, or out of memory");
-    };
-    shown_fault_in(alloc, text, file, lock)
+/// The packages that are hit, or the folder and the name of each, and the versions that are offered.
+fn found_packages(call: &Call<'_>, out: &mut String, list: &[Found<'_, '_>]) -> Written {
+    for found in list {
+        if call.name.ends_with("its offers") {
+            write!(out, "{} {} ", found.folder, found.name)?;
+            push_version(out, found.least.as_ref(), " ")?;
+            push_version(out, found.admitted.as_ref(), "\t")?;
+        } else {
+            put_item(out, &found.to_json(call.alloc)?)?;
+        }
+    }
+    end_list(out)
 }
 
-fn shown_fault_in(alloc: Global, text: &str, file: &Value, lock: &Value) -> Answer {
-    match audit_lock(alloc, file, TODAY, Severity::Info, lock) {
-        Ok(_) => Answer::Nothing,
-        Err(LockError::Advisories(fault)) => match fault_steps(alloc, file, lock, fault) {
-            Ok(steps) => answer::text(shown_place(alloc, text, steps)),
-            Err(error) => refused(alloc, error),
-        },
-        Err(error) => refused(alloc, error),
+fn push_version(out: &mut String, version: Option<&Version>, end: &str) -> Result<(), AllocError> {
+    match version {
+        Some(version) => write!(out, "{version}{end}"),
+        None => write!(out, "none{end}"),
+    }
+}
+
+/// A fault of advisories: its kind, the name and the place, and the id of the advisory if it has one.
+fn refused(out: &mut String, fault: Fault<'_>) -> Written {
+    let (kind, name, place) = (fault.kind, fault.name, fault.place);
+    write!(out, "{kind:?} \"{name}\" {place}")?;
+    match fault.id {
+        Some(AdvisoryId::Number(id)) => Ok(write!(out, " {id}")?),
+        Some(AdvisoryId::Text(id)) => Ok(write!(out, " {id}")?),
+        None => Ok(()),
+    }
+}
+
+/// The title of the first advisory that hits a package, which does not live as long as the title.
+fn title_of<'f>(alloc: Global, file: &'f Value, name: &str, version: &str) -> Option<&'f str> {
+    let list = [package(alloc, name, version)];
+    let found = audit(alloc, file, TODAY, Severity::Info, &list).ok()?;
+    found.first()?.hits.first()?.title
+}
+
+/// The folder of the first of these packages that is hit. The text has the advisories, which do not live as long as the folder.
+fn folder_of<'v>(alloc: Global, text: &str, installed: &[Installed<'v>]) -> Option<&'v str> {
+    let file = Value::from_str(alloc, text).ok()?;
+    let found = audit(alloc, &file, TODAY, Severity::Info, installed).ok()?;
+    Some(found.first()?.folder)
+}
+
+/// The steps to the fault of advisories beside a lock file, or its place in their text.
+fn steps_to_fault(call: &Call<'_>, out: &mut String, file: &Value, lock: &Value) -> Written {
+    let fault = match audit_lock(call.alloc, file, TODAY, Severity::Info, lock) {
+        Err(LockError::Advisories(fault)) => fault,
+        Err(error) => return refused_lock(out, error),
+        Ok(_) => return end_list(out),
+    };
+    match fault_steps(call.alloc, file, lock, fault) {
+        Ok(steps) if call.name.ends_with("in the text") => {
+            let (subject, rank) = (0, 0);
+            let path = Path {
+                steps,
+                subject,
+                rank,
+            };
+            let place = ShownPlace::of_path(call.alloc, text_at(call, 0), path)?;
+            put(out, &place)
+        }
+        Ok(steps) => push_steps(out, &steps),
+        Err(error) => refused_lock(out, error),
+    }
+}
+
+/// The names of members, and the positions of items.
+fn push_steps(out: &mut String, steps: &[Step<'_>]) -> Written {
+    for step in steps {
+        match step {
+            Step::Member(name) => put_item(out, name)?,
+            Step::Item(position) => put_item(out, position)?,
+        }
+    }
+    end_list(out)
+}
+
+/// Why there is no audit of a lock file.
+fn refused_lock(out: &mut String, error: LockError<'_>) -> Written {
+    match error {
+        LockError::Memory => Err(AllocError.into()),
+        LockError::Lock(fault) => put(out, &fault),
+        LockError::Advisories(fault) => refused(out, fault),
     }
 }

@@ -1,147 +1,92 @@
-//! Checks of lock files.
-use crate::answer;
-use crate::answer::Answer;
-use crate::arguments::Arguments;
-use crate::lists::push_json;
+//! Checks of lock files: of the file, a manifest, and a version of Node if the text is one.
+use crate::Call;
+use crate::word::{text_at, value_at, value_if_any};
+use crate::written::{end_list, found_of, put_item};
+use named_calls::{CallError, Written, list_of};
 use node_semver::Version;
-use npm_lock::{CheckError, Dependency, Problem, Problems, Unchecked};
+use npm_lock::{CheckError, Dependency, Problems, check, check_any, suspicious_sources};
 use serde_json::Value;
-use std::alloc::{AllocError, Global};
+use std::alloc::AllocError;
 
-/// The lock file, a manifest, and a version of Node if the text is one.
-#[derive(Clone, Copy, Drop)]
-pub(crate) enum Name {
-    /// Without the manifest.
-    Check,
-    CheckAny,
-    /// The problems alone, in few words.
-    ProblemsOfCheck,
-    ProblemsOfCheckAny,
-    /// The problems and what is not checked, in few words.
-    InFewWords,
-}
+type Checked = Result<Problems, CheckError>;
 
-pub(crate) fn named(name: &str) -> Option<(Name, usize)> {
-    Some(match name {
-        "npm_lock::check" => (Name::Check, 2),
-        "npm_lock::check, its problems" => (Name::ProblemsOfCheck, 2),
-        "npm_lock::check, in few words" => (Name::InFewWords, 2),
-        "npm_lock::check_any" => (Name::CheckAny, 2),
-        "npm_lock::check_any, its problems" => (Name::ProblemsOfCheckAny, 2),
-        _ => return None,
-    })
-}
-
-pub(crate) fn answer(alloc: Global, name: Name, arguments: &Arguments) -> Answer {
-    let (lock, manifest) = (arguments.value(0), arguments.value_if_any(1));
-    let node = node_of(alloc, arguments.text(0));
-    match name {
-        Name::Check => all_found(alloc, npm_lock::check(alloc, lock, node.as_ref())),
-        Name::ProblemsOfCheck => problems(alloc, npm_lock::check(alloc, lock, node.as_ref())),
-        Name::InFewWords => few_words(alloc, npm_lock::check(alloc, lock, node.as_ref())),
-        Name::CheckAny => all_found(alloc, any_check(alloc, lock, manifest, node.as_ref())),
-        Name::ProblemsOfCheckAny => problems(
-            alloc,
-            any_check(alloc, lock, manifest, node.as_ref()),
-        ),
+pub(crate) fn answer(call: &Call<'_>, out: &mut String) -> Written {
+    let lock = value_at(call, 0)?;
+    match call.name {
+        "npm_lock::check" => all_found(call, out, checked(call, lock)),
+        "npm_lock::check, its problems" => problems(out, checked(call, lock), false),
+        "npm_lock::check, in few words" => problems(out, checked(call, lock), true),
+        "npm_lock::check_any" => all_found(call, out, any_checked(call, lock)),
+        "npm_lock::check_any, its problems" => problems(out, any_checked(call, lock), false),
+        "npm_lock::suspicious_sources" => sources(call, out, lock, true),
+        "npm_lock::suspicious_sources, in few words" => sources(call, out, lock, false),
+        _ => Err(CallError::Words),
     }
 }
 
-fn any_check(
-    alloc: Global,
-    lock: &Value,
-    manifest: Option<&Value>,
-    node: Option<&Version>,
-) -> Result<Problems, CheckError> {
-    npm_lock::check_any(alloc, lock, manifest, node)
+fn checked(call: &Call<'_>, lock: &Value) -> Checked {
+    check(call.alloc, lock, node_of(call).as_ref())
+}
+
+fn any_checked(call: &Call<'_>, lock: &Value) -> Checked {
+    let (manifest, node) = (value_if_any(call, 1), node_of(call));
+    check_any(call.alloc, lock, manifest, node.as_ref())
 }
 
 /// The version of Node, of which no text here needs memory.
-fn node_of(alloc: Global, text: &str) -> Option<Version> {
-    if text.is_empty() {
-        return None;
-    }
-    Version::parse(alloc, text).ok()
-}
-
-/// All that a check finds.
-pub(crate) fn all_found(alloc: Global, found: Result<Problems, CheckError>) -> Answer {
-    match found {
-        Ok(found) => answer::text(text_of_all(alloc, &found)),
-        Err(error) => answer::refused(error),
+fn node_of(call: &Call<'_>) -> Option<Version> {
+    match text_at(call, 2) {
+        "" => None,
+        text => Version::parse(call.alloc, text).ok(),
     }
 }
 
 /// The problems, the dependencies that are not checked, and the counts.
-fn text_of_all(alloc: Global, found: &Problems) -> Result<String, AllocError> {
-    let mut text = String::new(alloc);
-    push_problems(alloc, &mut text, &found.list)?;
-    push_unchecked(alloc, &mut text, &found.unchecked)?;
-    let (packages, dependencies) = (found.packages, found.dependencies);
-    let counts = format!(in alloc; "{packages} packages, {dependencies} dependencies")?;
-    text.push_str(counts.as_str())?;
-    Ok(text)
-}
-
-fn push_problems(alloc: Global, text: &mut String, list: &[Problem]) -> Result<(), AllocError> {
-    for problem in list {
-        let json = problem.to_json(alloc)?;
-        push_json(alloc, text, &json)?;
+pub(crate) fn all_found(call: &Call<'_>, out: &mut String, found: Checked) -> Written {
+    let found = found_of!(out, found);
+    for problem in &found.list {
+        put_item(out, &problem.to_json(call.alloc)?)?;
     }
-    Ok(())
-}
-
-fn push_unchecked(alloc: Global, text: &mut String, list: &[Unchecked]) -> Result<(), AllocError> {
-    for unchecked in list {
-        let json = unchecked.to_json(alloc)?;
-        push_json(alloc, text, &json)?;
-    }
-    Ok(())
-}
-
-fn problems(alloc: Global, found: Result<Problems, CheckError>) -> Answer {
-    match found {
-        Ok(found) => answer::list(text_of_problems(alloc, &found.list)),
-        Err(error) => answer::refused(error),
-    }
-}
-
-fn text_of_problems(alloc: Global, list: &[Problem]) -> Result<String, AllocError> {
-    let mut text = String::new(alloc);
-    for problem in list {
-        push_problem(&mut text, problem)?;
-    }
-    Ok(text)
-}
-
-/// A problem of the root is `missing a`, one of another package `missing a of node_modules/b`.
-fn push_problem(text: &mut String, problem: &Problem) -> Result<(), AllocError> {
-    push_finding(text, problem.kind.as_str(), &problem.dependency)
-}
-
-fn push_finding(text: &mut String, word: &str, found: &Dependency) -> Result<(), AllocError> {
-    text.push_str(if text.is_empty() { "" } else { ", " })?;
-    text.push_str(word)?;
-    text.push(' ')?;
-    text.push_str(found.name.as_str())?;
-    if !found.from.is_empty() {
-        text.push_str(" of ")?;
-        text.push_str(found.from.as_str())?;
-    }
-    Ok(())
-}
-
-fn few_words(alloc: Global, found: Result<Problems, CheckError>) -> Answer {
-    match found {
-        Ok(found) => answer::list(text_of_findings(alloc, &found)),
-        Err(error) => answer::refused(error),
-    }
-}
-
-fn text_of_findings(alloc: Global, found: &Problems) -> Result<String, AllocError> {
-    let mut text = text_of_problems(alloc, &found.list)?;
     for unchecked in &found.unchecked {
-        push_finding(&mut text, "unchecked", &unchecked.dependency)?;
+        put_item(out, &unchecked.to_json(call.alloc)?)?;
     }
-    Ok(text)
+    let (packages, dependencies) = (found.packages, found.dependencies);
+    Ok(write!(out, "{packages} packages, {dependencies} dependencies")?)
+}
+
+/// The problems in few words, and what is not checked, if this is asked too.
+fn problems(out: &mut String, found: Checked, has_unchecked: bool) -> Written {
+    let found = found_of!(out, found);
+    for problem in &found.list {
+        push_finding(out, problem.kind.as_str(), &problem.dependency)?;
+    }
+    if has_unchecked {
+        for unchecked in &found.unchecked {
+            push_finding(out, "unchecked", &unchecked.dependency)?;
+        }
+    }
+    end_list(out)
+}
+
+/// What is found of the root is `missing a`, of another package `missing a of node_modules/b`.
+fn push_finding(out: &mut String, word: &str, found: &Dependency) -> Result<(), AllocError> {
+    let (name, from) = (&found.name, &found.from);
+    let before = if out.is_empty() { "" } else { ", " };
+    let of = if from.is_empty() { "" } else { " of " };
+    write!(out, "{before}{word} {name}{of}{from}")
+}
+
+/// What is suspicious in where packages come from. Each text is the URL of a registry.
+fn sources(call: &Call<'_>, out: &mut String, lock: &Value, in_full: bool) -> Written {
+    let (alloc, places) = (call.alloc, 1..call.words.len());
+    let registries =
+        list_of!(alloc, places, place => String::from_str(alloc, text_at(call, place))?);
+    for source in &suspicious_sources(alloc, lock, &registries)? {
+        if in_full {
+            put_item(out, &source.to_json(alloc)?)?;
+        } else {
+            write!(out, "{} {}\t", source.kind.as_str(), source.folder)?;
+        }
+    }
+    end_list(out)
 }

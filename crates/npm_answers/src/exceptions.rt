@@ -1,63 +1,34 @@
 //! Files of exceptions to advisories, and days.
-use crate::answer;
-use crate::answer::Answer;
-use crate::arguments::Arguments;
-use crate::lists::push_item;
-use advisory_exception_files::{day_at, read_exceptions};
-use advisory_exceptions::{Date, Exception};
-use std::alloc::{AllocError, Global};
+use crate::Call;
+use crate::word::text_at;
+use crate::written::{end_list, put, put_if_any, put_item};
+use named_calls::{CallError, Written};
+use npm_lock_reports::{Exception, day_at, read_exceptions};
 
-#[derive(Clone, Copy, Drop)]
-pub(crate) enum Name {
-    /// Of the text of a file. An exception is its id, its package, its reason, and its last day.
-    Read,
-    /// Of a number of seconds.
-    DayAt,
-}
-
-pub(crate) fn named(name: &str) -> Option<(Name, usize)> {
-    Some(match name {
-        "advisory_exception_files::read_exceptions" => (Name::Read, 0),
-        "advisory_exception_files::day_at" => (Name::DayAt, 1),
-        _ => return None,
-    })
-}
-
-pub(crate) fn answer(alloc: Global, name: Name, arguments: &Arguments) -> Answer {
-    match name {
-        Name::Read => read(alloc, arguments.text(0)),
-        Name::DayAt => day(alloc, arguments.value(0).as_u64().unwrap_or(0)),
+pub(crate) fn answer(call: &Call<'_>, out: &mut String) -> Written {
+    let text = text_at(call, 0);
+    match call.name {
+        "npm_lock_reports::read_exceptions" => match &read_exceptions(call.alloc, text) {
+            Ok(list) => put_exceptions(out, list),
+            Err(error) => put(out, error),
+        },
+        "npm_lock_reports::day_at" => {
+            let seconds = text.parse::<u64>().ok().ok_or(CallError::Words)?;
+            put_if_any(out, day_at(seconds))
+        }
+        _ => Err(CallError::Words),
     }
 }
 
-fn read(alloc: Global, text: &str) -> Answer {
-    match read_exceptions(alloc, text) {
-        Ok(list) => answer::list(text_of_exceptions(alloc, &list)),
-        Err(error) => answer::text(error.to_string(alloc)),
-    }
-}
-
-fn text_of_exceptions(alloc: Global, list: &[Exception]) -> Result<String, AllocError> {
-    let mut text = String::new(alloc);
+fn put_exceptions(out: &mut String, list: &[Exception]) -> Written {
     for exception in list {
-        push_item(&mut text, exception.id.as_str())?;
-        push_item(&mut text, exception.name.as_str())?;
-        push_item(&mut text, exception.reason.as_str())?;
-        push_last(alloc, &mut text, exception.until)?;
+        put_item(out, &exception.id)?;
+        put_item(out, &exception.name)?;
+        put_item(out, &exception.reason)?;
+        match exception.until {
+            Some(day) => put_item(out, &day)?,
+            None => put_item(out, &"none")?,
+        }
     }
-    Ok(text)
-}
-
-fn push_last(alloc: Global, text: &mut String, until: Option<Date>) -> Result<(), AllocError> {
-    match until {
-        Some(day) => push_item(text, day.to_string(alloc)?.as_str()),
-        None => push_item(text, "none"),
-    }
-}
-
-fn day(alloc: Global, seconds: u64) -> Answer {
-    match day_at(seconds) {
-        Some(day) => answer::text(day.to_string(alloc)),
-        None => Answer::Nothing,
-    }
+    end_list(out)
 }

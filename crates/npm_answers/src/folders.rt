@@ -1,107 +1,65 @@
-//! Calls of `npm_packages` on folders and names.
-use crate::answer;
-use crate::answer::Answer;
-use crate::arguments::Arguments;
+//! Texts, and folders and names of packages.
+use crate::Call;
+use crate::word::{text_at, value_at};
+use crate::written::{end_list, put, put_if_any};
+use named_calls::{CallError, Written};
+use npm_lock::is_part;
 use npm_packages::{
     Index, Lock, Package, is_folder, is_installed, is_link, is_named, linked_folder, lock_of,
     outermost_of, place_size, place_text,
 };
-use serde_json::Value;
-use std::alloc::{AllocError, Global};
+use npm_texts::{installed_version, registry_spec};
 
-#[derive(Clone, Copy, Drop)]
-pub(crate) enum Name {
-    /// From a folder, of a name.
-    Find,
-    PackageIn,
-    PackageAt,
-    IsFolder,
-    IsInstalled,
-    /// Of a member, in a folder.
-    IsNamed,
-    OutermostOf,
-    LinkedFolder,
-    PlaceText,
-    /// Of a number and a name.
-    PlaceSize,
-}
-
-pub(crate) fn named(name: &str) -> Option<(Name, usize)> {
-    Some(match name {
-        "Lock::find" => (Name::Find, 1),
-        "Lock::package_in" => (Name::PackageIn, 1),
-        "Lock::package_at" => (Name::PackageAt, 1),
-        "npm_packages::is_folder" => (Name::IsFolder, 0),
-        "npm_packages::is_installed" => (Name::IsInstalled, 0),
-        "npm_packages::is_named" => (Name::IsNamed, 1),
-        "npm_packages::outermost_of" => (Name::OutermostOf, 0),
-        "npm_packages::linked_folder" => (Name::LinkedFolder, 0),
-        "npm_packages::place_text" => (Name::PlaceText, 0),
-        "npm_packages::place_size" => (Name::PlaceSize, 0),
-        _ => return None,
-    })
-}
-
-pub(crate) fn answer(alloc: Global, name: Name, arguments: &Arguments) -> Answer {
-    let (value, folder) = (arguments.value(0), arguments.text(0));
-    match name {
-        Name::Find | Name::PackageIn | Name::PackageAt => in_lock(alloc, name, value, arguments),
-        Name::IsFolder => answer::truth(is_folder(folder)),
-        Name::IsInstalled => answer::truth(is_installed(folder)),
-        Name::IsNamed => {
-            let member = value;
-            answer::truth(is_named(Package { folder, member }, arguments.text(1)))
+pub(crate) fn answer(call: &Call<'_>, out: &mut String) -> Written {
+    let (folder, name) = (text_at(call, 0), text_at(call, 1));
+    match call.name {
+        "npm_texts::installed_version" => put_if_any(out, installed_version(folder)),
+        "npm_texts::registry_spec" => match registry_spec(folder, name) {
+            Some(spec) => Ok(write!(out, "{}@{}", spec.name, spec.text)?),
+            None => end_list(out),
+        },
+        "npm_packages::is_folder" => put(out, &is_folder(folder)),
+        "npm_packages::is_installed" => put(out, &is_installed(folder)),
+        "npm_lock::is_part" => put(out, &is_part(folder)),
+        "npm_packages::outermost_of" => Ok(out.push_str(outermost_of(folder))?),
+        "npm_packages::linked_folder" => Ok(out.push_str(linked_folder(folder))?),
+        "npm_packages::place_text" => put(out, &place_text(call.alloc, folder, name)?),
+        "npm_packages::place_size" => {
+            let size = folder.parse::<usize>().ok().ok_or(CallError::Words)?;
+            put_if_any(out, place_size(size, name))
         }
-        Name::OutermostOf => answer::text_if_any(alloc, Some(outermost_of(folder))),
-        Name::LinkedFolder => answer::text_if_any(alloc, Some(linked_folder(folder))),
-        Name::PlaceText => answer::text(place_text(alloc, folder, arguments.text(1))),
-        Name::PlaceSize => size(folder, arguments.text(1)),
+        "npm_packages::is_named" => {
+            let (member, folder) = (value_at(call, 0)?, name);
+            put(out, &is_named(Package { folder, member }, text_at(call, 2)))
+        }
+        "Lock::find" | "Lock::package_in" | "Lock::package_at" => {
+            match lock_of(call.alloc, value_at(call, 0)?) {
+                Ok(lock) => in_lock(call, out, lock, name),
+                Err(fault) => put(out, &fault),
+            }
+        }
+        _ => Err(CallError::Words),
     }
 }
 
-fn size(size: &str, name: &str) -> Answer {
-    match size.parse::<usize>() {
-        Ok(size) => answer::number_if_any(place_size(size, name)),
-        Err(_) => Answer::Word("no number"),
-    }
-}
-
-fn in_lock(alloc: Global, name: Name, lock: &Value, arguments: &Arguments) -> Answer {
-    let lock = match lock_of(alloc, lock) {
-        Ok(lock) => lock,
-        Err(fault) => return Answer::Fault(fault),
+/// A folder, and whether it is of a link; or of the package that a name is found to be, and whether that is in the own `node_modules`.
+fn in_lock(call: &Call<'_>, out: &mut String, lock: Lock<'_>, from: &str) -> Written {
+    let (found, mark) = match call.name {
+        "Lock::package_at" => (lock.package_at(from), ""),
+        "Lock::package_in" => match lock.package_in(from) {
+            Some(found) if is_link(found.member) => (Some(found), ", a link"),
+            found => (found, ""),
+        },
+        _ => {
+            let index = Index::of_lock(lock)?;
+            match lock.find(&index, from, outermost_of(from), text_at(call, 2)) {
+                Some((found, is_own)) => (Some(found), if is_own { ", its own" } else { "" }),
+                None => (None, ""),
+            }
+        }
     };
-    let folder = arguments.text(0);
-    match name {
-        Name::PackageIn => member(alloc, lock.package_in(folder)),
-        Name::PackageAt => {
-            answer::text_if_any(alloc, lock.package_at(folder).map(|found| found.folder))
-        }
-        _ => answer::list(found(alloc, lock, folder, arguments.text(1))),
-    }
-}
-
-/// The folder of a member, and whether it is a link.
-fn member(alloc: Global, found: Option<Package<'_>>) -> Answer {
     match found {
-        Some(found) => answer::text(marked(alloc, found.folder, is_link(found.member), ", a link")),
-        None => Answer::Nothing,
+        Some(found) => Ok(write!(out, "{}{mark}", found.folder)?),
+        None => end_list(out),
     }
-}
-
-/// The folder of the package that a name is found to be, and whether it is in the own `node_modules`.
-fn found(alloc: Global, lock: Lock<'_>, from: &str, name: &str) -> Result<String, AllocError> {
-    let index = Index::of_lock(lock)?;
-    match lock.find(&index, from, outermost_of(from), name) {
-        Some((found, is_own)) => marked(alloc, found.folder, is_own, ", its own"),
-        None => Ok(String::new(alloc)),
-    }
-}
-
-fn marked(alloc: Global, folder: &str, is: bool, mark: &str) -> Result<String, AllocError> {
-    let mut text = String::from_str(alloc, folder)?;
-    if is {
-        text.push_str(mark)?;
-    }
-    Ok(text)
 }

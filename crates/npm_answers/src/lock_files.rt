@@ -1,123 +1,70 @@
-//! Lock files of version 1, and manifests beside lock files.
-use crate::answer;
-use crate::answer::Answer;
-use crate::arguments::Arguments;
+//! Lock files of version 1, manifests beside lock files, and workspaces.
+use crate::Call;
 use crate::checks::all_found;
-use crate::lists::push_json;
+use crate::word::{text_at, value_at, value_if_any};
+use crate::written::{end_list, found_of, put, put_if_any, put_item, put_texts};
+use named_calls::{CallError, Written};
 use npm_lock::{
-    CheckError, Mismatch, SoundLock, drop_overrides, key_read_as_another, mismatches_of,
-    put_manifest,
+    SoundLock, check, convert, drop_overrides, key_read_as_another, mismatches_of, put_manifest,
+    workspace_patterns, workspace_problem,
 };
 use serde_json::Value;
-use std::alloc::{AllocError, Global};
 
-/// The lock file and a manifest.
-#[derive(Clone, Copy, Drop)]
-pub(crate) enum Name {
-    Convert,
-    /// Of the manifest in the folder of the text.
-    Mismatches,
-    /// Of the manifest in the folder of the text.
-    Put,
-    /// Of an object that has the manifest of each folder.
-    PutAndCheck,
-    Drop,
-    /// In the project of the text.
-    KeyReadAsAnother,
-}
-
-pub(crate) fn named(name: &str) -> Option<(Name, usize)> {
-    Some(match name {
-        "npm_lock::convert" => (Name::Convert, 2),
-        "npm_lock::mismatches_of" => (Name::Mismatches, 2),
-        "npm_lock::put_manifest" => (Name::Put, 2),
-        "npm_lock::put_manifest, and a check" => (Name::PutAndCheck, 2),
-        "npm_lock::drop_overrides" => (Name::Drop, 1),
-        "npm_lock::key_read_as_another" => (Name::KeyReadAsAnother, 1),
-        _ => return None,
-    })
-}
-
-pub(crate) fn answer(alloc: Global, name: Name, arguments: &Arguments) -> Answer {
-    let (lock, manifest) = (arguments.value(0), arguments.value(1));
-    let folder = arguments.text(0);
-    match name {
-        Name::Convert => converted(alloc, lock, arguments.value_if_any(1)),
-        Name::Mismatches => mismatches(alloc, lock, manifest, folder),
-        Name::Put => answer::json(with_manifest(alloc, lock, manifest, folder)),
-        Name::PutAndCheck => checked_with(alloc, lock, manifest),
-        Name::Drop => answer::json(without_overrides(alloc, lock)),
-        Name::KeyReadAsAnother => read_as_another(alloc, lock, folder),
+pub(crate) fn answer(call: &Call<'_>, out: &mut String) -> Written {
+    let (alloc, lock) = (call.alloc, value_at(call, 0)?);
+    match call.name {
+        "npm_lock::convert" => {
+            let made = convert(alloc, lock.clone()?, value_if_any(call, 1));
+            put(out, &found_of!(out, made))
+        }
+        "npm_lock::drop_overrides" => {
+            let mut changed = lock.clone()?;
+            drop_overrides(alloc, &mut changed)?;
+            put(out, &changed)
+        }
+        "npm_lock::key_read_as_another" => {
+            let lock = found_of!(out, SoundLock::of(alloc, lock));
+            put_if_any(out, key_read_as_another(&lock, text_at(call, 1)))
+        }
+        "npm_lock::workspace_patterns" => match &workspace_patterns(alloc, lock)? {
+            Some(patterns) if patterns.is_empty() => Ok(out.push_str("no patterns")?),
+            Some(patterns) => put_texts(out, patterns),
+            None => end_list(out),
+        },
+        _ => of_both(call, out, lock, value_at(call, 1)?),
     }
 }
 
-fn converted(alloc: Global, lock: &Value, manifest: Option<&Value>) -> Answer {
-    let Ok(copy) = lock.clone() else {
-        return Answer::OutOfMemory;
-    };
-    match npm_lock::convert(alloc, copy, manifest) {
-        Ok(made) => Answer::Json(made),
-        Err(error) => answer::refused(error),
-    }
-}
-
-fn mismatches(alloc: Global, lock: &Value, manifest: &Value, folder: &str) -> Answer {
-    match mismatches_of(alloc, lock, folder, manifest) {
-        Ok(found) => answer::list(text_of_mismatches(alloc, &found)),
-        Err(error) => answer::refused(error),
-    }
-}
-
-fn text_of_mismatches(alloc: Global, list: &[Mismatch]) -> Result<String, AllocError> {
-    let mut text = String::new(alloc);
-    for mismatch in list {
-        let json = mismatch.to_json(alloc)?;
-        push_json(alloc, &mut text, &json)?;
-    }
-    Ok(text)
-}
-
-/// The lock file with the manifest in its folder's place.
-fn with_manifest(
-    alloc: Global,
-    lock: &Value,
-    manifest: &Value,
-    folder: &str,
-) -> Result<Value, AllocError> {
-    let mut changed = lock.clone()?;
-    put_manifest(alloc, &mut changed, folder, manifest.clone()?)?;
-    Ok(changed)
-}
-
-fn without_overrides(alloc: Global, lock: &Value) -> Result<Value, AllocError> {
-    let mut changed = lock.clone()?;
-    drop_overrides(alloc, &mut changed)?;
-    Ok(changed)
-}
-
-/// What a check finds in the lock file with these manifests.
-fn checked_with(alloc: Global, lock: &Value, manifests: &Value) -> Answer {
-    match &with_manifests(alloc, lock, manifests) {
-        Ok(changed) => all_found(alloc, npm_lock::check(alloc, changed, None)),
-        Err(_) => Answer::OutOfMemory,
-    }
-}
-
-fn with_manifests(alloc: Global, lock: &Value, manifests: &Value) -> Result<Value, AllocError> {
-    let mut changed = lock.clone()?;
-    let Some(members) = manifests.as_object() else {
-        return Ok(changed);
-    };
-    for (folder, manifest) in members.iter() {
-        put_manifest(alloc, &mut changed, folder.as_str(), manifest.clone()?)?;
-    }
-    Ok(changed)
-}
-
-fn read_as_another(alloc: Global, lock: &Value, project: &str) -> Answer {
-    match &SoundLock::of(alloc, lock) {
-        Ok(lock) => answer::text_if_any(alloc, key_read_as_another(lock, project)),
-        Err(CheckError::Refused(fault)) => Answer::Fault(*fault),
-        Err(CheckError::Memory) => Answer::OutOfMemory,
+/// Of a lock file and another value, the manifest in the folder at the third place.
+fn of_both(call: &Call<'_>, out: &mut String, lock: &Value, value: &Value) -> Written {
+    let (alloc, folder) = (call.alloc, text_at(call, 2));
+    match call.name {
+        "npm_lock::mismatches_of" => {
+            for mismatch in &found_of!(out, mismatches_of(alloc, lock, folder, value)) {
+                put_item(out, &mismatch.to_json(alloc)?)?;
+            }
+            end_list(out)
+        }
+        "npm_lock::put_manifest" => {
+            let mut changed = lock.clone()?;
+            put_manifest(alloc, &mut changed, folder, value.clone()?)?;
+            put(out, &changed)
+        }
+        // (of an object that has the manifest of each folder)
+        "npm_lock::put_manifest, and a check" => {
+            let mut changed = lock.clone()?;
+            for (folder, manifest) in value.as_object().ok_or(CallError::Words)?.iter() {
+                put_manifest(alloc, &mut changed, folder.as_str(), manifest.clone()?)?;
+            }
+            all_found(call, out, check(alloc, &changed, None))
+        }
+        "npm_lock::workspace_problem" => {
+            let name = value.as_str().ok_or(CallError::Words)?;
+            match &workspace_problem(alloc, lock, name, folder)? {
+                Some(problem) => put(out, &problem.to_json(alloc)?),
+                None => end_list(out),
+            }
+        }
+        _ => Err(CallError::Words),
     }
 }

@@ -1,4 +1,5 @@
 //! Members of the JSON values that arguments are.
+use named_calls::list_of;
 use serde_json::Value;
 use std::alloc::{AllocError, Global};
 
@@ -43,11 +44,5 @@ pub(crate) fn items_in<'v>(value: &'v Value, name: &str) -> &'v [Value] {
 
 /// The texts of a list.
 pub(crate) fn texts_of<'v>(alloc: Global, list: &'v [Value]) -> Result<Vec<&'v str>, AllocError> {
-    let mut texts = Vec::new(alloc);
-    for item in list {
-        if let Some(text) = item.as_str() {
-            texts.push(text)?;
-        }
-    }
-    Ok(texts)
+    Ok(list_of!(alloc, list, item => item.as_str().unwrap_or("")))
 }

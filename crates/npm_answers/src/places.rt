@@ -1,80 +1,67 @@
-//! Places in JSON texts.
-use crate::answer;
-use crate::answer::Answer;
-use crate::arguments::Arguments;
-use crate::lists::push_item;
-use crate::members::number_of;
-use crate::paths::{path_of, paths_of, shown_path};
-use json_places::{Place, chosen_places, places_of};
-use npm_lock_faults::ShownPlace;
+//! Places in JSON texts: the offset, line and column of each.
+use crate::Call;
+use crate::members::{items_of, number_in, number_of};
+use crate::word::{text_at, value_at};
+use crate::written::{end_list, put, put_item};
+use json_places::{Path, Place, Step, chosen_places, places_of};
+use named_calls::{CallError, Written, list_of};
+use npm_lock_findings::ShownPlace;
 use serde_json::Value;
 use std::alloc::{AllocError, Global};
 
-/// Of paths and a text. A place is its offset, line and column.
-#[derive(Clone, Copy, Drop)]
-pub(crate) enum Name {
-    PlacesOf,
-    /// Of paths, the number of subjects and a text.
-    ChosenPlaces,
-    /// Of one path.
-    OfPath,
-    OfFile,
+/// Of paths and a text. Between them is the number of subjects, where places are chosen.
+pub(crate) fn answer(call: &Call<'_>, out: &mut String) -> Written {
+    let (alloc, text) = (call.alloc, text_at(call, 1));
+    match call.name {
+        "ShownPlace::of_file" => put(out, &ShownPlace::of_file(alloc)),
+        "ShownPlace::of_path" => {
+            let path = path_of(alloc, value_at(call, 0)?)?;
+            put(out, &ShownPlace::of_path(alloc, text, path)?)
+        }
+        "json_places::places_of" => {
+            for place in &places_of(alloc, text, &paths_of(alloc, value_at(call, 0)?)?)? {
+                push_place(out, *place)?;
+            }
+            end_list(out)
+        }
+        "json_places::chosen_places" => {
+            let count = number_of(value_at(call, 1)?).unwrap_or(0);
+            let paths = paths_of(alloc, value_at(call, 0)?)?;
+            for place in &chosen_places(alloc, text_at(call, 2), &paths, count)? {
+                push_place(out, Some(*place))?;
+            }
+            end_list(out)
+        }
+        _ => Err(CallError::Words),
+    }
 }
 
-pub(crate) fn named(name: &str) -> Option<(Name, usize)> {
-    Some(match name {
-        "json_places::places_of" => (Name::PlacesOf, 1),
-        "json_places::chosen_places" => (Name::ChosenPlaces, 2),
-        "ShownPlace::of_path" => (Name::OfPath, 1),
-        "ShownPlace::of_file" => (Name::OfFile, 0),
-        _ => return None,
+fn push_place(out: &mut String, place: Option<Place>) -> Result<(), AllocError> {
+    match place {
+        Some(place) => write!(out, "{} {} {}\t", place.offset, place.line, place.column),
+        None => put_item(out, &"none"),
+    }
+}
+
+/// The paths of a list: each is the list of its names and positions, or an object with these as `steps`, `subject` and `rank`.
+fn paths_of(alloc: Global, list: &Value) -> Result<Vec<Path<'_>>, AllocError> {
+    let paths = items_of(list);
+    Ok(list_of!(alloc, paths, path => path_of(alloc, path)?))
+}
+
+fn path_of(alloc: Global, path: &Value) -> Result<Path<'_>, AllocError> {
+    let items = items_of(path.get("steps").unwrap_or(path));
+    let steps = list_of!(alloc, items, item => step_of(item));
+    Ok(Path {
+        steps,
+        subject: number_in(path, "subject"),
+        rank: number_in(path, "rank"),
     })
 }
 
-pub(crate) fn answer(alloc: Global, name: Name, arguments: &Arguments) -> Answer {
-    let (value, text) = (arguments.value(0), arguments.text(0));
-    match name {
-        Name::PlacesOf => answer::list(found(alloc, value, text)),
-        Name::ChosenPlaces => answer::list(chosen(alloc, value, arguments.value(1), text)),
-        Name::OfPath => answer::text(shown(alloc, value, text)),
-        Name::OfFile => answer::text(ShownPlace::of_file(alloc).to_string(alloc)),
+fn step_of(item: &Value) -> Step<'_> {
+    match item.as_str() {
+        Some(name) => Step::Member(name),
+        None => Step::Item(number_of(item).unwrap_or(0)),
     }
-}
-
-fn found(alloc: Global, list: &Value, text: &str) -> Result<String, AllocError> {
-    let paths = paths_of(alloc, list)?;
-    let mut print = String::new(alloc);
-    for place in &places_of(alloc, text, &paths)? {
-        push_place(alloc, &mut print, *place)?;
-    }
-    Ok(print)
-}
-
-fn chosen(alloc: Global, list: &Value, count: &Value, text: &str) -> Result<String, AllocError> {
-    let paths = paths_of(alloc, list)?;
-    let mut print = String::new(alloc);
-    for place in &chosen_places(alloc, text, &paths, number_of(count).unwrap_or(0))? {
-        push_place(alloc, &mut print, Some(*place))?;
-    }
-    Ok(print)
-}
-
-fn push_place(alloc: Global, print: &mut String, place: Option<Place>) -> Result<(), AllocError> {
-    match place {
-        Some(place) => push_item(print, text_of_place(alloc, place)?.as_str()),
-        None => push_item(print, "none"),
-    }
-}
-
-fn text_of_place(alloc: Global, place: Place) -> Result<String, AllocError> {
-    let Place {
-        offset,
-        line,
-        column,
-    } = place;
-    format!(in alloc; "{offset} {line} {column}")
-}
-
-fn shown(alloc: Global, path: &Value, text: &str) -> Result<String, AllocError> {
-    shown_path(alloc, text, path_of(alloc, path)?)
 }

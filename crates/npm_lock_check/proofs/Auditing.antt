@@ -1,5 +1,5 @@
 -- Why advisories or a lock file are refused, and the counts of a report.
-use Rattle.std.proofs.Common.{◌≡◌, ◌∙◌, ℕ, Bool, Err, List, None, Ok, OnOk, Option, Result, Some, false, inl, inr}
+use Rattle.std.proofs.Common.{◌≡◌, ◌∙◌, Bool, Err, List, None, Ok, OnOk, Option, Result, Some, false, inl, inr}
 use Rattle.std.proofs.Common.{is_some, length, map, option_map, refl, sym, true}
 use Rattle.std.specs.Result.{IsErr}
 use Rattle.std.proofs.lemmas.List.{length-map}
@@ -16,42 +16,40 @@ use Rattle.npm_lock_check.specs.Report.{WantedValue}
 use Rattle.npm_lock_check.specs.declared.checks.run_error.RunError.{RunError}
 
 -- the advisories have this fault
-pub refused_as : (today : Date) (checked file : Data) (advisories : Option Data) (whole : List ℕ) (fault : FaultValue) (error : RunError)
-    → advisories ≡ Some file → IsFileFaultBeside today checked file (Some fault) → AreRefusedAs checked file whole fault error
-    → IsAuditRefused today checked advisories whole error
-refused_as today checked file advisories whole fault error is told (inl (name, shown, same, (text, id), placed)) =
-    inl (fault.kind, name, fault.place, shown, same, (file, is, fault.id, id, rw text told, rw text placed))
-refused_as today checked file advisories whole fault error is told (inr memory) = inr memory
+pub refused_as : (today : Date) (checked file : Data) (advisories : Option Data) (fault : FaultValue) (error : RunError)
+    → advisories ≡ Some file → IsFileFaultBeside today checked file (Some fault) → AreRefusedAs fault.kind error
+    → IsAuditRefused today checked advisories error
+refused_as today checked file advisories fault error is told (inl (name, place, shown, same)) =
+    inl (fault.kind, name, place, shown, same, (file, is, fault, told, refl))
+refused_as today checked file advisories fault error is told (inr memory) = inr memory
 
 -- the checked file is the lock file with the manifests in their places, converted if it is of version 1
-pub refused_audit : (text : List ℕ) (lock placed checked : Data) (linked : List LinkedValue) (wanted : WantedValue)
+pub refused_audit : (lock placed checked : Data) (linked : List LinkedValue) (wanted : WantedValue)
     (error : RunError) → checked ≡ converted placed wanted.manifest
-    → IsAuditRefused wanted.today checked wanted.advisories wanted.advisories_text error → IsRefused text lock placed linked wanted error
-refused_audit text lock placed checked linked wanted error is (inl told) = inr (inl (rw is at told))
-refused_audit text lock placed checked linked wanted error is (inr memory) = inr (inr (inr (inr memory)))
+    → IsAuditRefused wanted.today checked wanted.advisories error → IsRefused lock placed linked wanted error
+refused_audit lock placed checked linked wanted error is (inl told) = inr (inl (rw is at told))
+refused_audit lock placed checked linked wanted error is (inr memory) = inr (inr (inr (inr memory)))
 
-pub refused_lock : (text : List ℕ) (lock placed : Data) (linked : List LinkedValue) (wanted : WantedValue)
-    (error : RunError) → IsLockRefused text placed wanted.manifest error
-    → IsRefused text lock placed linked wanted error
-refused_lock text lock placed linked wanted error told = inr (inr (inr told))
+pub refused_lock : (lock placed : Data) (linked : List LinkedValue) (wanted : WantedValue) (error : RunError)
+    → IsLockRefused placed wanted.manifest error → IsRefused lock placed linked wanted error
+refused_lock lock placed linked wanted error told = inr (inr (inr told))
 
 -- a file of a later version is refused as it is, and one that was converted has no fault
-module _ (text : List ℕ) (placed checked : Data) (manifest : Option Data) (error : RunError)
-    (later : is_version_one checked ≡ false) where
+module _ (placed checked : Data) (manifest : Option Data) (error : RunError) (later : is_version_one checked ≡ false) where
   by_version : (one : Bool) → is_version_one placed ≡ one → checked ≡ converted placed manifest
-      → (is_version_one placed ≡ true → lock_fault checked ≡ None) → IsLockRefused text checked None error
-      → IsLockRefused text placed manifest error
+      → (is_version_one placed ≡ true → lock_fault checked ≡ None) → IsLockRefused checked None error
+      → IsLockRefused placed manifest error
   by_version one version is sound (inr memory) = inr memory
-  by_version true version is sound (inl (found, same, (fault, place))) =
+  by_version true version is sound (inl (found, same, fault)) =
       let some : lock_fault checked ≡ Some found.fault = rw later at fault in
       let never : None ≡ Some found.fault = sym (sound version) ∙ some in cc never
-  by_version false version is sound (inl (found, same, (fault, place))) =
+  by_version false version is sound (inl (found, same, fault)) =
       let stays : checked ≡ placed = rw version at is in
       let there : any_fault placed manifest ≡ Some found.fault = rw version (rw stays at (rw later at fault)) in
-      inl (found, same, (there, rw stays at place))
+      inl (found, same, there)
 
   pub refused_sound : checked ≡ converted placed manifest → (is_version_one placed ≡ true → lock_fault checked ≡ None)
-      → IsLockRefused text checked None error → IsLockRefused text placed manifest error
+      → IsLockRefused checked None error → IsLockRefused placed manifest error
   refused_sound = by_version (is_version_one placed) refl
 
 -- a function that returns only where there is no fault returns an error if there is one

@@ -1,5 +1,3 @@
-pub mod ExceptionExamples
 pub mod InputExamples
 pub mod LinkedExamples
 pub mod MismatchExamples
-pub mod NodeExamples

@@ -3,6 +3,4 @@ pub mod CheckedFiles
 pub mod Examples
 pub mod FoundOnDisk
 pub mod LinkedManifests
-pub mod Marking
-pub mod Saying
 pub mod Stopping

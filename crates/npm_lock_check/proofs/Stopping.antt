@@ -48,14 +48,13 @@ later remaining old new lock input = record {
 
 module _ {R : Type 0} (remaining : R → Option (List ℕ)) (old new : WatchedValue R)
     (Gives : Value → Result Loaded LoadError → Type 0) (wanted : WantedValue) (lock : Value)
-    (text : List ℕ) (loaded : LoadedValue) (input : IsInputText remaining old new text (view lock))
+    (loaded : LoadedValue) (input : IsInput remaining old new (view lock))
     (given : AreLoaded Gives lock wanted.manifest loaded) where
   -- a value has a fault
-  faulty : (error : RunError) → IsRefusedAs text (as_read wanted.manifest (view lock)) loaded.linked wanted error
+  faulty : (error : RunError) → IsRefusedAs (as_read wanted.manifest (view lock)) loaded.linked wanted error
       → IsStopped remaining Gives wanted old new (Check error)
   faulty error told = inr (record {
     lock = lock;
-    lock_text = text;
     loaded = loaded;
     input = input;
     given = given;
@@ -64,11 +63,11 @@ module _ {R : Type 0} (remaining : R → Option (List ℕ)) (old new : WatchedVa
 
   -- memory ran out in the check
   pub out : (error : RunError) → error ≡ Memory → IsStopped remaining Gives wanted old new (Check error)
-  out error is = rw is (inl (later remaining old new (view lock) (input_of remaining old new text (view lock) input)))
+  out error is = rw is (inl (later remaining old new (view lock) input))
 
   -- a value was refused, or memory ran out in the check
   pub refused : (error : RunError)
-      → IsRefused text (as_read wanted.manifest (view lock)) (placed (as_read wanted.manifest (view lock))
+      → IsRefused (as_read wanted.manifest (view lock)) (placed (as_read wanted.manifest (view lock))
       (manifests_of wanted.manifest loaded.linked)) loaded.linked wanted error
       → IsStopped remaining Gives wanted old new (Check error)
   refused error (inl (inl (fault, is, told))) = rw is (faulty (NoManifest fault) told)

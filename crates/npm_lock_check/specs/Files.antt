@@ -1,12 +1,8 @@
 -- A run over several lock files: the report of each, and the exit status.
-use Rattle.std.specs.Prelude.{◌≡◌, ◌↔◌, ◌++◌, ℕ, List, [], ◌∷◌, Bool, true, false, Result, Ok, Err}
-use Rattle.std.specs.Prelude.{codes, if◌then◌else◌, map, nat_lt}
+use Rattle.std.specs.Prelude.{◌≡◌, ◌↔◌, ◌++◌, ℕ, List, [], ◌∷◌, Result, Ok, Err}
+use Rattle.std.specs.Prelude.{if◌then◌else◌, nat_lt}
 use Rattle.npm_lock_reports.specs.Report.{IsClean}
 use Rattle.npm_lock_reports.specs.declared.report.Report.{Report}
-use Rattle.npm_lock_check.specs.Paths.{PathsValue}
-use Rattle.npm_lock_check.specs.Refused.{RefusalValue, place_of, refused_by, refused_in}
-use Rattle.npm_lock_check.specs.Outputs.{IsWritten}
-use Rattle.npm_lock_check.specs.declared.checks.format.Format.{Format}
 use Rattle.npm_lock_check.specs.declared.checks.output.Output.{Output}
 use Rattle.npm_lock_check.specs.declared.checks.run_error.StopError.{StopError}
 
@@ -32,27 +28,6 @@ IsAdded outcomes outputs (Ok made) new_outcomes new_outputs =
     (new_outcomes ≡ outcomes ++ (Ok made.0 ∷ [])) × (new_outputs ≡ outputs ++ (made.1 ∷ []))
 IsAdded outcomes outputs (Err error) new_outcomes new_outputs =
     (new_outcomes ≡ outcomes ++ (Err error ∷ [])) × (new_outputs ≡ outputs)
-
--- ---- what is written
-
--- every lock file was checked, as a log and a page say
-abbrev pub is_complete : List (Result Report StopError) → Bool
-is_complete [] = true
-is_complete (Ok report ∷ outcomes) = is_complete outcomes
-is_complete (Err error ∷ outcomes) = false
-
--- The text that is written where these are the outcomes and the outputs of these lock files: with some message for each file that
--- was refused.
-abbrev pub IsRunText : Format → PathsValue → (outer : List ℕ) → (files : List (List ℕ))
-    → List (Result Report StopError) → List Output → (text : List ℕ) → Type 0
-IsRunText format asked outer files outcomes outputs text = (refusals : List RefusalValue)
-    × (map place_of refusals ≡ refused_in asked outer files outcomes)
-    × IsWritten format outputs refusals text
-
--- the same where a file that all lock files need was refused: no lock file was checked
-abbrev pub IsStopText : Format → PathsValue → (outer : List ℕ) → StopError → (text : List ℕ) → Type 0
-IsStopText format asked outer error text = (refusals : List RefusalValue)
-    × (map place_of refusals ≡ refused_by asked outer (codes "-") error) × IsWritten format [] refusals text
 
 -- ---- the status
 

@@ -1,12 +1,23 @@
--- Sets of kinds of problems.
-use Rattle.std.specs.Prelude.{Bool}
+-- Kinds of problems.
+use Rattle.std.specs.Prelude.{ℕ, List, Bool, bytes_eq, map}
+use Rattle.std.specs.List.{list_any}
+use Rattle.npm_lock.specs.ProblemJson.{kind_text}
 use Rattle.npm_lock.specs.declared.problem.Kind.{Kind}
-use Rattle.npm_lock.specs.declared.problem.Kind.TheVariants.{Engine, Invalid, Missing, PeerLocal}
 use Rattle.npm_lock_check.specs.declared.checks.kinds.Kinds.{Kinds}
 
--- whether the kind is in the set
-abbrev pub has : Kinds → Kind → Bool
-has kinds Missing = kinds.missing
-has kinds Invalid = kinds.invalid
-has kinds PeerLocal = kinds.peer_local
-has kinds Engine = kinds.engine
+-- what a manifest and the lock file do not ask alike, and the words of other kinds
+pub record KindsValue : Type 0 where
+  pub group : Bool
+  pub words : List (List ℕ)
+
+-- what a contract sees of them
+abbrev pub kinds_value : Kinds → KindsValue
+kinds_value kinds = record { group = kinds.group; words = map (λ word. word.now) kinds.words.now }
+
+-- a word is one of these
+abbrev pub is_among : (words : List (List ℕ)) → (wanted : List ℕ) → Bool
+is_among words wanted = list_any (λ word. bytes_eq word wanted) words
+
+-- whether the kind is one of them
+abbrev pub has : KindsValue → Kind → Bool
+has kinds kind = is_among kinds.words (kind_text kind)

@@ -1,4 +1,3 @@
 -- What private functions are said to compute.
 
 pub mod Refusals  -- why values are refused
-pub mod Marks  -- which exceptions may apply

@@ -35,39 +35,34 @@ use Rattle.npm_lock_reports.specs.declared.omissions.Omissions.{Omissions}
 use Rattle.npm_lock_reports.specs.Excepted.{excepted_value}
 use Rattle.npm_lock_reports.specs.Exceptions.{ExceptionsValue, exceptions_value}
 use Rattle.npm_lock_reports.specs.Counted.{CountedValue, counted_hits}
-use Rattle.npm_lock_check.specs.Kinds.{has}
+use Rattle.npm_lock_check.specs.Kinds.{KindsValue, has, kinds_value}
 use Rattle.npm_manifest_files.specs.Linked.{LinkedValue, LoadedValue, WorkspaceValue, loaded_value, nothing_loaded}
 use Rattle.npm_lock_check.specs.declared.checks.format.Format.{Format}
-use Rattle.npm_lock_check.specs.declared.checks.kinds.Kinds.{Kinds}
 use Rattle.npm_manifest_files.specs.declared.linked.Loaded.{Loaded}
 use Rattle.npm_manifest_files.specs.declared.load_error.LoadError.{LoadError}
 use Rattle.npm_lock_check.specs.declared.checks.wanted.Wanted.{Wanted}
 
--- The settings of a check: the manifest of the root, whether mismatches count for the status, the advisories, the day on which they are asked, the least
--- severity of those that count, and the exceptions; the groups of packages that are left out; the version of Node that each package is checked with, the kinds of problems that are left
--- out, whether all that is suspicious in where packages come from counts, and from which registries they may come, whether what is not
--- checked counts for the status and is listed, the format, the path of the folder in which npm finds the lock file,
--- which is empty if it is not known, the path of the lock file, and whether each line
--- names it.
+-- The settings of a check: the manifest of the root, whether mismatches count for the status, the advisories, the day on which they are
+-- asked, the least severity of those that count, and the exceptions; the groups of packages that are left out; the version of Node that each
+-- package is checked with, the kinds of problems that are left out, whether all that is suspicious in where packages come from counts, and
+-- from which registries they may come, whether what is not checked counts for the status and is listed, the format, and the path of the
+-- folder in which npm finds the lock file, which is empty if it is not known.
 pub record WantedValue : Type 0 where
   pub manifest : Option Data
   pub exact : Bool
   pub advisories : Option Data
-  pub advisories_text : List ℕ
   pub today : Date
   pub level : Severity
   pub exceptions : Option ExceptionsValue
   pub omissions : Omissions
   pub node : Option VersionValue
-  pub ignored : Kinds
+  pub ignored : KindsValue
   pub sources : Bool
   pub registries : List (List ℕ)
   pub strict : Bool
   pub unchecked : Bool
   pub format : Format
   pub project : List ℕ
-  pub file : List ℕ
-  pub named : Bool
 
 -- what a contract sees of it
 abbrev pub wanted_value : Wanted → WantedValue
@@ -75,21 +70,18 @@ wanted_value wanted = record {
   manifest = option_map (λ manifest. view manifest.now) wanted.manifest;
   exact = wanted.exact;
   advisories = option_map (λ file. view file.now) wanted.advisories;
-  advisories_text = wanted.advisories_text.now;
   today = wanted.today;
   level = wanted.level;
   exceptions = option_map exceptions_value wanted.exceptions;
   omissions = wanted.omissions;
   node = option_map (λ version. version.now) wanted.node;
-  ignored = wanted.ignored;
+  ignored = kinds_value wanted.ignored;
   sources = wanted.sources;
   registries = map string_bytes wanted.registries.now;
   strict = wanted.strict;
   unchecked = wanted.unchecked;
   format = wanted.format;
   project = wanted.project.now;
-  file = wanted.file.now;
-  named = wanted.named;
 }
 
 -- ---- the manifests

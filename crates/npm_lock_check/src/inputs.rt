@@ -4,10 +4,8 @@ ghost use Rattle.serde_json.specs.View.{view};
 ghost use Rattle.npm_lock_reports.specs.Read.{has_no_advisory};
 
 use crate::{Paths, RunError, StopError};
-use advisory_exception_files::{day_at, read_file};
-use advisory_exceptions::{Date, Exception, ExceptionsError};
 use command_lines::{Watched, open_error, read_json_with_text};
-use npm_lock_reports::has_no_advisory;
+use npm_lock_reports::{Date, Exception, ExceptionsError, day_at, has_no_advisory, read_file};
 use npm_manifest_files::{ManifestError, read_faultless};
 use serde_json::Value;
 use std::fs::File;

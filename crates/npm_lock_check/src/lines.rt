@@ -2,7 +2,8 @@
 
 use crate::runs::{lock_subject, sentences_of, subject_of};
 use crate::{Arguments, StopError};
-use npm_lock_reports::{ExceptedSentence, Exceptions, Report};
+use npm_lock_reports::{Excepted, Exceptions, Reading, Report, push_excepted_sentence};
+use std::alloc::{AllocError, Global};
 
 /// Writes the lines of each lock file on standard error, and then those of exceptions that applied to nothing. Returns `true` if all were
 /// written.
@@ -25,13 +26,13 @@ pub fn write_lines(
         if line.is_err() {
             is_said = false;
         }
-        if let (Ok(report), Some(exceptions)) = (outcome, exceptions) {
+        if let Ok(report) = outcome {
             let file = if asked.has_several() {
                 Some(*file)
             } else {
                 None
             };
-            is_said = write_excepted(rt, file, report, exceptions) && is_said;
+            is_said = write_excepted(rt, file, report) && is_said;
         }
     }
     match exceptions {
@@ -41,20 +42,11 @@ pub fn write_lines(
 }
 
 /// Writes a line for each hit of a lock file that is excepted. Returns `true` if all were written.
-fn write_excepted(
-    rt: &HostRuntime,
-    file: Option<&str>,
-    report: &Report,
-    exceptions: Exceptions<'_>,
-) -> bool {
+fn write_excepted(rt: &HostRuntime, file: Option<&str>, report: &Report) -> bool {
     let mut is_said = true;
     for excepted in &report.excepted {
-        let Some(exception) = exceptions.list.get(excepted.place) else {
-            continue;
-        };
-        let sentence = ExceptedSentence {
-            excepted,
-            exception,
+        let Ok(sentence) = excepted_line(rt.alloc(), excepted) else {
+            return false;
         };
         let line = match file {
             Some(file) => eprintln!(rt; "{}{sentence}", lock_subject(file)),
@@ -65,6 +57,13 @@ fn write_excepted(
         }
     }
     is_said
+}
+
+/// The line of a hit that is excepted.
+fn excepted_line(alloc: Global, excepted: &Excepted) -> Result<String, AllocError> {
+    let mut line = Vec::from_slice(alloc, b"excepted: ")?;
+    push_excepted_sentence(alloc, &mut line, Reading::Terminal, excepted)?;
+    String::from_utf8(line).map_err(|_| AllocError)
 }
 
 /// Writes a line for each exception that is over or applied to nothing. Returns `true` if all were written.

@@ -287,7 +287,7 @@ fn check_reader<'f, R: Read + Drop>(
         exceptions: beside.exceptions,
         omissions: asked.omissions,
         node: beside.node.as_ref(),
-        ignored: asked.ignored,
+        ignored: Kinds::of(asked.ignored.as_slice()),
         sources: asked.sources,
         registries: asked.registries.as_slice(),
         strict: asked.strict,

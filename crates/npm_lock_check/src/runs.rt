@@ -3,10 +3,8 @@
 //!
 //! [`run`] checks lock files and writes the output of all, [`stop_text`] is what is written if none can be checked. [`subject_of`] and
 //! [`lock_subject`] begin a line on standard error, [`sentences_of`] are the lines of exceptions, and [`status_of`] returns the exit status.
-//! [`laws::pages_are_no_markup`] does nothing: its contract says that no text in a page is read as markup.
 
 mod exceptions;
-pub mod laws;
 mod lock_files;
 mod marks;
 mod outputs;

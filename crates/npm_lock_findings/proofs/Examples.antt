@@ -1,2 +1,1 @@
-pub mod MemberExamples
-pub mod PageExamples
+pub mod FaultPathExamples

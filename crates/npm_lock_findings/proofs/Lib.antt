@@ -1,3 +1,6 @@
-pub mod Examples
-mod More
-mod NameParts
+mod Examples
+mod Flags
+pub mod Roots
+pub mod SameFaults
+mod Safe
+pub mod Steps

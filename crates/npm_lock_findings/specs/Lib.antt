@@ -1,9 +1,9 @@
--- What the contracts of npm_lock_findings say, in reading order.
+-- What the contracts of npm_lock_findings say.
 
-pub mod PageParts  -- the parts of a page, and the part of a package that is hit
-pub mod Rules  -- the rules that findings break
-pub mod Members  -- the members of a lock file that a finding is about
-pub mod Findings  -- a report as findings, and how these are written
-pub mod Texts  -- a page and a report are written of pieces, and have each finding
+pub mod Forms  -- how texts are written: no text ends a line, leaves a string, or is read as markup
+pub mod Findings  -- a report as findings
+pub mod FaultPaths  -- where the fault of a value is: the path of a member
+pub mod FaultPlaces  -- the line and the column of it in a text
+pub mod ShownPlaces  -- a path in a text, its line and its column, and how they are written
 -- ---- not part of any public contract: what private functions compute
 pub mod Private

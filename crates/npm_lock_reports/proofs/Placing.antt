@@ -2,7 +2,7 @@
 use Rattle.std.proofs.Common.{◌≡◌, ◌&&◌, ◌||◌, ◌∙◌, ◌+◌, ◌≤◌, ℕ, List, [], ◌∷◌, Bool, Option, Some, None, true, false, ap, arith, bytes_eq, cond}
 use Rattle.std.proofs.Common.{min, not, refl, sym}
 use Rattle.std.specs.List.{position_from}
-use Rattle.advisory_exceptions.specs.Exceptions.{ExceptionValue, is_over}
+use Rattle.npm_lock_reports.specs.AdvisoryExceptions.{ExceptionValue, is_over}
 use Rattle.npm_lock_reports.specs.Exceptions.{ExceptionsValue}
 use Rattle.npm_lock_reports.specs.Private.Places.{earlier, first_by}
 

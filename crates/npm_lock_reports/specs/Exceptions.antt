@@ -3,7 +3,7 @@ use Rattle.std.specs.Prelude.{◌&&◌, ℕ, List, [], ◌∷◌, Bool, bytes_eq
 use Rattle.std.specs.Prelude.{Option, None, Some, is_none}
 use Rattle.std.specs.List.{filter_map, position_from}
 use Rattle.toml_datetime.specs.declared.datetime.Date.{Date}
-use Rattle.advisory_exceptions.specs.Exceptions.{ExceptionValue, exception_value, is_over}
+use Rattle.npm_lock_reports.specs.AdvisoryExceptions.{ExceptionValue, exception_value, is_over}
 use Rattle.npm_advisories.specs.Advisories.{AboutValue}
 use Rattle.npm_advisories.specs.Audit.{FoundValue}
 use Rattle.npm_advisories.specs.KnownIds.{is_known_as}

@@ -14,5 +14,11 @@ pub mod Needed  -- which dependencies are needed although they are
 pub mod LeftOut  -- what is found of the packages and dependencies that are not
 pub mod Count  -- how many packages are
 pub mod Counted  -- the hits that count
+pub mod AdvisoryExceptions  -- an exception, and when it is over
+pub mod Places  -- the first exception of a list that counts
+pub mod Index  -- the same by names and ids
+pub mod Reading  -- the exceptions of a text, and which text has none
+pub mod Files  -- those of a file that is read
+pub mod Days  -- the day of a time
 -- ---- not part of any public contract: what private functions compute
 pub mod Private

@@ -10,10 +10,6 @@ is_newline byte = byte == 10
 abbrev pub line_count : (text : List ℕ) → ℕ
 line_count text = count_by is_newline text
 
--- a byte of a line: a newline byte is written as a blank
-abbrev pub one_line_byte : (byte : ℕ) → ℕ
-one_line_byte byte = if byte == 10 then 32 else byte
-
 -- how many things are listed: the dependencies that are not checked, and what was not looked at
 abbrev pub listed_count : Report → ℕ
 listed_count report =

@@ -7,9 +7,9 @@ ghost use Rattle.npm_lock_reports.specs.Excepted as Lists;
 ghost use Rattle.npm_lock_reports.specs.Excepted.{excepted_value};
 ghost use Rattle.npm_lock_reports.specs.Private.Places.{IsIndexed};
 
+use crate::advisory_exceptions::Date;
 use crate::exceptions::Exceptions;
 use crate::indexed::Indexed;
-use advisory_exceptions::Date;
 use npm_advisories::{About, Found};
 use npm_texts::copied;
 use std::alloc::{AllocError, Global};

@@ -1,71 +1,8 @@
-//! What is said of exceptions, for a person.
+//! What is said of exceptions that except nothing, for a person.
 
-use crate::excepted::Excepted;
-use advisory_exceptions::{Date, Exception};
+use crate::advisory_exceptions::{Date, Exception};
 use command_lines::write_shown;
 use std::fmt;
-
-/// An installed package that is hit, and the exception that excepts the advisory for it.
-#[derive(Clone, Copy)]
-pub struct ExceptedSentence<'a> {
-    pub excepted: &'a Excepted,
-    pub exception: &'a Exception,
-}
-
-/// Prints `excepted: lodash 4.17.20 is hit by GHSA-1, until 2027-03-01: only used to build (node_modules/lodash)`, in printable ASCII
-/// alone. Format options such as a width are ignored.
-impl fmt::Display for ExceptedSentence<'_> {
-    fn fmt<W: fmt::Write>(&self, f: &mut fmt::Formatter<W>) -> fmt::Result {
-        write_package(f, self.excepted)?;
-        write_reason(f, self.exception)?;
-        write_folder(f, self.excepted)
-    }
-}
-
-/// Prints the package.
-fn write_package<W: fmt::Write>(f: &mut fmt::Formatter<W>, excepted: &Excepted) -> fmt::Result {
-    f.write_str("excepted: ")?;
-    write_shown(f, excepted.name.as_bytes())?;
-    write_version(f, &excepted.version)?;
-    f.write_str(" is hit by ")
-}
-
-/// Prints the version of the package, if it has one.
-fn write_version<W: fmt::Write>(
-    f: &mut fmt::Formatter<W>,
-    version: &Option<String>,
-) -> fmt::Result {
-    match version {
-        Some(version) => {
-            f.write_str(" ")?;
-            write_shown(f, version.as_bytes())
-        }
-        None => Ok(()),
-    }
-}
-
-/// Prints what the exception is.
-fn write_reason<W: fmt::Write>(f: &mut fmt::Formatter<W>, exception: &Exception) -> fmt::Result {
-    write_shown(f, exception.id.as_bytes())?;
-    write_until(f, exception.until)?;
-    f.write_str(": ")?;
-    write_shown(f, exception.reason.as_bytes())
-}
-
-/// Prints the folder of the package.
-fn write_folder<W: fmt::Write>(f: &mut fmt::Formatter<W>, excepted: &Excepted) -> fmt::Result {
-    f.write_str(" (")?;
-    write_shown(f, excepted.folder.as_bytes())?;
-    f.write_str(")")
-}
-
-/// Prints the last day, if there is one.
-fn write_until<W: fmt::Write>(f: &mut fmt::Formatter<W>, until: Option<Date>) -> fmt::Result {
-    match until {
-        Some(last) => write!(f, ", until {last}"),
-        None => Ok(()),
-    }
-}
 
 /// An exception that excepts nothing: it is over, or it is about no advisory that hits a package.
 #[derive(Clone, Copy)]

@@ -1,6 +1,6 @@
 //! Which advisories are excepted for a package.
 
-use advisory_exceptions::{Date, Exception};
+use crate::advisory_exceptions::{Date, Exception};
 
 /// Exceptions, and the day on which they are asked.
 #[derive(Clone, Copy, Drop)]

@@ -1,7 +1,7 @@
 //! How a report is written.
 
 /// How a report is written.
-#[derive(Clone, Copy, Debug, PartialEq, Eq, Drop)]
+#[derive(Clone, Copy, Drop)]
 pub enum ReportFormat {
     /// A sentence a line.
     Text,

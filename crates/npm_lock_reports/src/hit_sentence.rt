@@ -1,9 +1,9 @@
 //! An installed package that advisories hit, as a sentence for a person.
 
+use crate::advisory_exceptions::Date;
 use crate::excepted::Excepted;
 use crate::piece::{Piece, Reading, before, push_pieces, text_or_empty};
 use crate::vague::Vague;
-use advisory_exceptions::Date;
 use node_semver::Version;
 use npm_advisories::{About, Found};
 use serde_json::Value;
@@ -143,7 +143,7 @@ fn unadmitted(folder: &str, vague: &Vague<'_>) -> &'static str {
     }
 }
 
-/// Adds the sentence of a package that is hit by an advisory which is excepted for it:
+/// Adds the sentence of a package that is hit by an advisory which is excepted for it, also after other words:
 /// `a 1.0.0 is hit by 7, until 2027-03-01: only used to build (node_modules/a)`.
 pub fn push_excepted_sentence(
     alloc: Global,
@@ -151,11 +151,15 @@ pub fn push_excepted_sentence(
     reading: Reading,
     excepted: &Excepted,
 ) -> Result<(), AllocError> {
-    let version = text_or_empty(excepted.version.as_ref());
+    let name = excepted.name.as_str();
     let begin = [
-        Piece::First(excepted.name.as_str()),
+        if line.is_empty() {
+            Piece::First(name)
+        } else {
+            Piece::Text(name)
+        },
         Piece::Fixed(before(excepted.version.as_ref(), " ")),
-        Piece::Text(version),
+        Piece::Text(text_or_empty(excepted.version.as_ref())),
         Piece::Fixed(" is hit by "),
         Piece::Text(excepted.id.as_str()),
     ];

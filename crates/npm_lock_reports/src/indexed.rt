@@ -8,8 +8,8 @@ ghost use Rattle.npm_lock_reports.specs.Exceptions.{exceptions_value};
 ghost use Rattle.npm_lock_reports.specs.Private.Places as Places;
 ghost use Rattle.npm_lock_reports.specs.Private.Places.{IsIndexed, first_by};
 
+use crate::advisory_exceptions::ExceptionIndex;
 use crate::exceptions::Exceptions;
-use advisory_exceptions::ExceptionIndex;
 use itoa::Buffer;
 use npm_advisories::{About, Aliases};
 use serde_json::Value;

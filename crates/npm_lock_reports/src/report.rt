@@ -127,11 +127,12 @@ impl fmt::Display for Report {
             write!(f, ", {} needed but omitted", self.needed.len())?;
         }
         if self.audited {
-            write!(
-                f,
-                ", {} hit, {} advisories read",
-                self.hits, self.advisories
-            )?;
+            let read = if self.advisories == 1 {
+                "advisory"
+            } else {
+                "advisories"
+            };
+            write!(f, ", {} hit, {} {read} read", self.hits, self.advisories)?;
         }
         if !self.excepted.is_empty() {
             write!(f, ", {} excepted", self.excepted.len())?;

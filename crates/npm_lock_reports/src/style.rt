@@ -6,7 +6,7 @@ use serde_json::{Value, put};
 use std::alloc::{AllocError, Global};
 
 /// How the lines of a report are written.
-#[derive(Clone, Copy, Debug, Drop)]
+#[derive(Clone, Copy, Drop)]
 pub struct LineStyle<'a> {
     pub format: ReportFormat,
     /// The path of the lock file, if each line names it.

@@ -5,8 +5,8 @@ use Rattle.std.specs.declared.io.ErrorKind.TheVariants.{NotFound}
 use Rattle.serde_json.specs.Data.{Data}
 use Rattle.command_lines.specs.Inputs.{IsInputText}
 use Rattle.command_lines.specs.WatchedValue.{WatchedValue}
-use Rattle.npm_lock_faults.specs.FaultPlaces.{IsManifestFaultPlace, fault_place_value}
-use Rattle.npm_lock_faults.specs.declared.fault_place.FaultPlace.{FaultPlace}
+use Rattle.npm_lock_findings.specs.FaultPlaces.{IsManifestFaultPlace, fault_place_value}
+use Rattle.npm_lock_findings.specs.declared.faults.fault_place.FaultPlace.{FaultPlace}
 use Rattle.npm_lock_reports.specs.declared.folder_name.FolderName.{FolderName}
 use Rattle.npm_manifest_files.specs.declared.linked.Found.{Found}
 use Rattle.npm_manifest_files.specs.declared.linked.Found.TheVariants.{Nothing}

@@ -1,6 +1,6 @@
 //! Why a manifest was not read.
 use command_lines::InputError;
-use npm_lock_faults::FaultPlace;
+use npm_lock_findings::FaultPlace;
 use npm_lock_reports::FolderName;
 use thiserror::Error;
 

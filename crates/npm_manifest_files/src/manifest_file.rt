@@ -2,7 +2,7 @@
 ghost use Rattle.std.specs.Prelude.{◌≡◌, IfOk, IsErrOf, None, string_bytes};
 ghost use Rattle.serde_json.specs.View.{view};
 ghost use Rattle.command_lines.specs.Inputs.{IsInput};
-ghost use Rattle.npm_lock_faults.specs.declared.fault_place.FaultPlace.{FaultPlace};
+ghost use Rattle.npm_lock_findings.specs.declared.faults.fault_place.FaultPlace.{FaultPlace};
 ghost use Rattle.npm_lock.specs.Mismatches.{manifest_fault};
 ghost use Rattle.npm_manifest_files.specs.ManifestFile.{IsFaultyInput, IsNoFile, IsNotOpened, IsNotRead, path_of};
 ghost use Rattle.npm_manifest_files.specs.Paths as Paths;
@@ -12,7 +12,7 @@ use crate::linked::Found;
 use crate::load_error::{LoadError, ManifestError};
 use crate::walk::joined;
 use command_lines::{Watched, read_json, read_json_with_text};
-use npm_lock_faults::manifest_fault_place;
+use npm_lock_findings::manifest_fault_place;
 use npm_lock_reports::FolderName;
 use serde_json::Value;
 use std::alloc::{AllocError, Global};

@@ -1,8 +1,2 @@
--- The definitions that the contracts of this program use, in reading order. These files are what a reader has to trust.
-
--- The command line.
-pub mod Arguments  -- what the arguments mean
-pub mod Task  -- what the program does
-pub mod Picking  -- what they say of the version that is picked
--- How the program ends.
+-- The definitions that the contracts of this program use. These files are what a reader has to trust.
 pub mod Status  -- the exit status

@@ -19,17 +19,16 @@ mod picking;
 mod program_error;
 mod task;
 
-use arguments::{Arguments, PickOptions, read_arguments};
+use arguments::{Arguments, read_arguments};
 use command_lines::{Quoted, Shown, words_of};
 use help::{HELP, VERSION};
 use npm_pick::Options;
 use npm_pick_reports::{
-    Ending, Question, RunError, checked_manifest, packument_in, reply_to, value_at, values_of,
+    Ending, Question, RunError, checked_manifest, packument_in, reply_to, value_at,
 };
-use picking::Values;
+use picking::{before_of, node_of, npm_of, options_of};
 use program_error::ProgramError;
 use serde_json::Value;
-use std::alloc::AllocError;
 use std::io;
 use std::io::Write;
 use std::process::ExitCode;
@@ -80,14 +79,20 @@ fn say(rt: &HostRuntime, done: &Done) -> io::Result<()> {
 
 /// Does the task of the arguments. Returns how the program ends, or `None` if only a text about it was shown.
 fn outcome_of<'a>(rt: &HostRuntime, words: &'a [String]) -> Result<Option<Done>, ProgramError<'a>> {
-    let asked = read_arguments(words)?;
+    let asked = read_arguments(rt.alloc(), words)?;
     if let Some(shown) = asked.shown {
         show(rt, shown)?;
         return Ok(None);
     }
     let task = task_of(&asked)?;
-    let values = Values::of_arguments(rt.alloc(), asked)?;
-    let done = do_task(rt, words, task, asked, &values.options(asked))?;
+    let before = before_of(rt.alloc(), asked.before)?;
+    let node = node_of(rt.alloc(), asked.node)?;
+    let npm = npm_of(rt.alloc(), asked.npm)?;
+    let mut options = options_of(asked.tag, asked.avoid, &node, &npm);
+    options.before = before;
+    options.avoid_strict = asked.avoid_strict;
+    options.include_staged = asked.include_staged;
+    let done = do_task(rt, task, &asked, &options)?;
     Ok(Some(done))
 }
 
@@ -97,15 +102,17 @@ fn show(rt: &HostRuntime, shown: Shown) -> Result<(), RunError> {
         Shown::Help => HELP,
         Shown::Version => VERSION,
     };
-    print!(rt; "{text}").map_err(|_| RunError::Write)
+    match print!(rt; "{text}") {
+        Ok(()) => Ok(()),
+        Err(_) => Err(RunError::Write),
+    }
 }
 
 /// Reads the files of a task, and does it.
 fn do_task<'a>(
     rt: &HostRuntime,
-    words: &'a [String],
     task: Task<'a>,
-    asked: Arguments<'a>,
+    asked: &Arguments<'a>,
     options: &Options<'_>,
 ) -> Result<Done, ProgramError<'a>> {
     match task {
@@ -124,7 +131,7 @@ fn do_task<'a>(
             )
         }
         Task::Keep { packuments, lock } => {
-            let manifests = manifests_at(rt, words)?;
+            let manifests = manifests_at(rt, &asked.manifests)?;
             let lock = match lock {
                 Some(lock) => Some(file_value(rt, "--lock", lock)?),
                 None => None,
@@ -139,7 +146,7 @@ fn do_task<'a>(
 fn write_reply<'a>(
     rt: &HostRuntime,
     question: Question<'_>,
-    asked: Arguments<'a>,
+    asked: &Arguments<'a>,
     options: &Options<'_>,
     folder: &str,
 ) -> Result<Done, ProgramError<'a>> {
@@ -156,12 +163,14 @@ fn write_reply<'a>(
     }
 }
 
-/// Reads the manifests that the words name.
-fn manifests_at<'a>(rt: &HostRuntime, words: &'a [String]) -> Result<Vec<Value>, ProgramError<'a>> {
+/// Reads the manifests at these paths.
+fn manifests_at<'a>(rt: &HostRuntime, paths: &[&'a str]) -> Result<Vec<Value>, ProgramError<'a>> {
     let mut manifests = Vec::new(rt.alloc());
-    for path in values_of::<PickOptions>(rt.alloc(), words, "--manifest")? {
-        let manifest = manifest_at(rt, path)?;
-        manifests.push(manifest).map_err(|_| AllocError)?;
+    for path in paths {
+        let manifest = manifest_at(rt, *path)?;
+        if manifests.push(manifest).is_err() {
+            return Err(ProgramError::Run(RunError::Memory));
+        }
     }
     Ok(manifests)
 }

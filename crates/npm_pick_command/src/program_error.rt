@@ -1,8 +1,4 @@
 //! Why the program ends with status 2.
-ghost use Rattle.std.specs.Prelude.{◌≡◌};
-ghost use Rattle.npm_pick_reports.specs.declared.run_error.RunError.TheVariants.{Memory};
-ghost use Rattle.npm_pick_command.specs.declared.program_error.ProgramError.TheVariants as Errors;
-
 use crate::argument_error::ArgumentError;
 use command_lines::{InputError, Quoted, WordsError};
 use npm_packages::Fault;
@@ -43,8 +39,6 @@ impl<'a> From<RunError> for ProgramError<'a> {
 }
 
 impl<'a> From<AllocError> for ProgramError<'a> {
-    ghost from_gives = { λ _ error. error ≡ Errors.Run Memory };
-
     fn from(_error: AllocError) -> ProgramError<'a> {
         ProgramError::Run(RunError::Memory)
     }

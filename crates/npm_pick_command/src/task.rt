@@ -1,15 +1,10 @@
 //! What the program does.
-ghost use Rattle.std.specs.Prelude.{◌≡◌};
-ghost use Rattle.npm_pick_command.specs.Arguments.{arguments_value};
-ghost use Rattle.npm_pick_command.specs.Task as Tasks;
-ghost use Rattle.npm_pick_command.specs.Task.{folder_result, task_result};
-
 use crate::argument_error::ArgumentError;
 use crate::arguments::Arguments;
 use command_lines::Quoted;
 
 /// What the program does, with the files for it.
-#[derive(Clone, Copy, Debug, PartialEq, Eq, Drop)]
+#[derive(Clone, Copy, Drop)]
 pub enum Task<'a> {
     /// Picks a version of the packument in a file.
     Pick {
@@ -29,9 +24,7 @@ pub enum Task<'a> {
 }
 
 /// Returns the task of the arguments.
-pub fn task_of<'a>(asked: &Arguments<'a>) -> Result<Task<'a>, ArgumentError<'a>>
-    ensures { task_result result ≡ Tasks.task_of (arguments_value asked.now) }
-{
+pub fn task_of<'a>(asked: &Arguments<'a>) -> Result<Task<'a>, ArgumentError<'a>> {
     if asked.keep {
         return keep_task(asked);
     }
@@ -48,9 +41,7 @@ pub fn task_of<'a>(asked: &Arguments<'a>) -> Result<Task<'a>, ArgumentError<'a>>
 }
 
 /// The task of `--outdated`.
-fn outdated_task<'a>(asked: &Arguments<'a>) -> Result<Task<'a>, ArgumentError<'a>>
-    ensures { task_result result ≡ Tasks.outdated_task (arguments_value asked.now) }
-{
+fn outdated_task<'a>(asked: &Arguments<'a>) -> Result<Task<'a>, ArgumentError<'a>> {
     let packuments = folder_of(asked, "--outdated")?;
     match asked.lock {
         Some(lock) => Ok(Task::Outdated { packuments, lock }),
@@ -59,14 +50,12 @@ fn outdated_task<'a>(asked: &Arguments<'a>) -> Result<Task<'a>, ArgumentError<'a
 }
 
 /// The task of `--keep`.
-fn keep_task<'a>(asked: &Arguments<'a>) -> Result<Task<'a>, ArgumentError<'a>>
-    ensures { task_result result ≡ Tasks.keep_task (arguments_value asked.now) }
-{
+fn keep_task<'a>(asked: &Arguments<'a>) -> Result<Task<'a>, ArgumentError<'a>> {
     if asked.outdated {
         return Err(ArgumentError::TwoTasks);
     }
     let packuments = folder_of(asked, "--keep")?;
-    if asked.manifest.is_none() && asked.lock.is_none() {
+    if asked.manifests.is_empty() && asked.lock.is_none() {
         return Err(ArgumentError::NoManifest);
     }
     Ok(Task::Keep {
@@ -76,9 +65,10 @@ fn keep_task<'a>(asked: &Arguments<'a>) -> Result<Task<'a>, ArgumentError<'a>>
 }
 
 /// The folder of packuments, for an option that takes one and no SPEC.
-fn folder_of<'a>(asked: &Arguments<'a>, option: &'static str) -> Result<&'a str, ArgumentError<'a>>
-    ensures { folder_result result ≡ Tasks.folder_of option.now (arguments_value asked.now) }
-{
+fn folder_of<'a>(
+    asked: &Arguments<'a>,
+    option: &'static str,
+) -> Result<&'a str, ArgumentError<'a>> {
     if let Some(text) = asked.spec {
         return Err(ArgumentError::NoSpec(option, Quoted { text }));
     }

@@ -1,5 +1,5 @@
 -- The times and versions that arguments name.
-use Rattle.std.specs.Prelude.{◌++◌, ℕ, ℤ, List, Option, Some, None, codes}
+use Rattle.std.specs.Prelude.{◌≡◌, ◌++◌, ℕ, ℤ, List, Option, Some, None, codes}
 use Rattle.std.specs.Option.{option_or}
 use Rattle.node_semver.specs.Versions.{IsVersionText, VersionValue}
 use Rattle.npm_pick.specs.Times.{time_text}
@@ -20,6 +20,11 @@ pub data IsVersionGiven (text : List ℕ) : (whole : Option (List ℕ)) → Type
       → IsVersionGiven text (Some (text ++ codes ".0.0"))
   no_version : ¬ IsSomeVersion text → ¬ IsSomeVersion (text ++ codes ".0") → ¬ IsSomeVersion (text ++ codes ".0.0")
       → IsVersionGiven text None
+
+-- the version of a text, if there is one
+abbrev pub IsVersionOf : (text : Option (List ℕ)) → Option VersionValue → Type 0
+IsVersionOf None version = version ≡ None
+IsVersionOf (Some text) version = (v : VersionValue) → IsVersionText text v → version ≡ Some v
 
 -- ---- times
 

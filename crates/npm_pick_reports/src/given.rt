@@ -1,7 +1,8 @@
 //! The times and versions that arguments name.
-ghost use Rattle.std.specs.Prelude.{◌≡◌, ◌↔◌, ◌++◌, IfOk, IsTrue, MatchOption, option_map, string_bytes};
+ghost use Rattle.std.specs.Prelude.{◌≡◌, ◌↔◌, ◌++◌, IfOk, IsTrue, MatchOption, Some, option_map, string_bytes};
+ghost use Rattle.node_semver.specs.Versions.{IsVersionText, VersionValue};
 ghost use Rattle.npm_pick_reports.specs.Given as Given;
-ghost use Rattle.npm_pick_reports.specs.Given.{IsSomeVersion, IsVersionGiven};
+ghost use Rattle.npm_pick_reports.specs.Given.{IsSomeVersion, IsVersionGiven, IsVersionOf};
 
 use node_semver::VersionRef;
 use npm_pick::parse_time;
@@ -42,6 +43,26 @@ fn is_version(text: &str) -> bool
     match VersionRef::parse(text) {
         Ok(_) => true,
         Err(_) => false,
+    }
+}
+
+/// Returns the version of a text, if there is a text.
+pub fn version_of(text: &Option<String>) -> Option<VersionRef<'_>>
+    ensures { IsVersionOf (option_map string_bytes text.now) result }
+{
+    match text {
+        Some(text) => version_in(text.as_str()),
+        None => None,
+    }
+}
+
+/// The version of a text that is one.
+fn version_in(text: &str) -> Option<VersionRef<'_>>
+    ensures { (v : VersionValue) → IsVersionText text.now v → result ≡ Some v }
+{
+    match VersionRef::parse(text) {
+        Ok(version) => Some(version),
+        Err(_) => None,
     }
 }
 

@@ -8,10 +8,10 @@ use Rattle.std.specs.BTreeSet.{contains_text}
 use Rattle.std.specs.List.{All, Contains, flat_map}
 use Rattle.npm_texts.specs.RegistrySpec.{RegistrySpecValue, registry_spec}
 use Rattle.version_solving.specs.declared.ask.Ask.{Ask}
-use Rattle.npm_candidates.specs.Asks.{AskValue, RulesValue, ask_value, is_registered}
-use Rattle.npm_candidates.specs.declared.options.Omits.{Omits}
-use Rattle.npm_candidates.specs.declared.options.Options.{Options}
-use Rattle.npm_candidates.specs.declared.owner.Reach.{Reach}
+use Rattle.npm_resolve.specs.Asks.{AskValue, RulesValue, ask_value, is_registered}
+use Rattle.npm_resolve.specs.declared.candidates.options.Omits.{Omits}
+use Rattle.npm_resolve.specs.declared.candidates.options.Options.{Options}
+use Rattle.npm_resolve.specs.declared.candidates.owner.Reach.{Reach}
 use Rattle.npm_pick_reports.specs.Loading.{Loads}
 use Rattle.npm_resolve.specs.Documents.{AreAllRead, ArePeersOf, IsAskedAs, IsFound, IsRead, all_asked}
 use Rattle.npm_resolve.specs.Documents as Reading

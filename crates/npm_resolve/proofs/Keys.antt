@@ -1,8 +1,8 @@
 -- The keys of the candidates that ask for a wish, and one candidate more.
 use Rattle.std.proofs.Common.{◌≡◌, ◌+◌, ◌++◌, ℕ, List, [], ◌∷◌, Bor, add-one, map}
 use Rattle.std.proofs.lemmas.List.{map-append}
-use Rattle.solving_reasons.specs.Wishes.{SomeMakes}
-use Rattle.solving_reasons.specs.declared.reason.Wish.{Wish}
+use Rattle.version_solving.specs.Wishes.{SomeMakes}
+use Rattle.version_solving.specs.declared.reasoning.reason.Wish.{Wish}
 use Rattle.npm_resolve.specs.Explanations.{AreKeys, asks, candidates_of, key_at, other}
 use Rattle.npm_resolve.specs.ReasonValues.{text}
 use Rattle.npm_resolve.specs.declared.posed.Posed.{Posed}

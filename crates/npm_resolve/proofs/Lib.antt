@@ -1,8 +1,13 @@
-mod Zips
-mod Wishing
+mod Allowing
+mod Changing
+pub mod Examples
 mod Gathering
+mod Keys
+mod Locking
+mod Marking
 mod Naming
 mod Needing
+mod Reaching
 mod Unmet
-mod Keys
-mod Changing
+mod Wishing
+mod Zips

@@ -4,9 +4,9 @@ use Rattle.std.proofs.lemmas.List.Concat.{flat_map-append}
 use Rattle.std.specs.List.{flat_map}
 use Rattle.serde_json.specs.View.{view}
 use Rattle.serde_json.specs.declared.value.Value.{Value}
-use Rattle.npm_candidates.specs.Asks.{RulesValue, ask_value}
-use Rattle.npm_candidates.specs.declared.asks.Asks.{Asks}
-use Rattle.npm_candidates.specs.declared.options.Omits.{Omits}
+use Rattle.npm_resolve.specs.Asks.{RulesValue, ask_value}
+use Rattle.npm_resolve.specs.declared.candidates.asks.Asks.{Asks}
+use Rattle.npm_resolve.specs.declared.candidates.options.Omits.{Omits}
 use Rattle.npm_resolve.specs.Private.Wishing.{AreWishesAdded}
 use Rattle.npm_resolve.specs.Wishes.{AreWishes, IsWish, WishesValue}
 use Rattle.npm_resolve.proofs.Zips.{item_more}

@@ -6,10 +6,10 @@ use Rattle.version_solving.specs.Documents.{problem_of}
 use Rattle.version_solving.specs.Solving.{IsTheSelection, NoneFits}
 use Rattle.version_solving.specs.declared.ask.Listed.{Listed}
 use Rattle.version_solving.specs.declared.outcome.Choice.{Choice}
-use Rattle.npm_candidates.specs.Asks.{ask_value}
-use Rattle.npm_candidates.specs.declared.options.Omits.{Omits}
-use Rattle.npm_candidates.specs.declared.options.Options.{Options}
-use Rattle.npm_candidates.specs.declared.owner.Reach.{Reach}
+use Rattle.npm_resolve.specs.Asks.{ask_value}
+use Rattle.npm_resolve.specs.declared.candidates.options.Omits.{Omits}
+use Rattle.npm_resolve.specs.declared.candidates.options.Options.{Options}
+use Rattle.npm_resolve.specs.declared.candidates.owner.Reach.{Reach}
 use Rattle.npm_resolve.specs.Explanations.{IsConflict}
 use Rattle.npm_resolve.specs.Instance.{IsInstance, key_of}
 use Rattle.npm_resolve.specs.Missing.{missing_among}

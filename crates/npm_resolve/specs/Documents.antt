@@ -5,13 +5,13 @@ use Rattle.std.specs.List.{All, AllZip, Contains}
 use Rattle.serde_json.specs.View.{view}
 use Rattle.serde_json.specs.declared.value.Value.{Value}
 use Rattle.npm_texts.specs.RegistrySpec.{RegistrySpecValue, registry_spec}
-use Rattle.npm_candidates.specs.Asks.{AreAsks, AskValue, RulesValue, is_registered}
-use Rattle.npm_candidates.specs.Candidates.{AreCandidates}
-use Rattle.npm_candidates.specs.declared.candidate.Candidate.{Candidate}
-use Rattle.npm_candidates.specs.declared.options.Omits.{Omits}
-use Rattle.npm_candidates.specs.declared.options.Options.{Options}
-use Rattle.npm_candidates.specs.declared.owner.Owner.TheVariants.{Version}
-use Rattle.npm_candidates.specs.declared.owner.Reach.{Reach}
+use Rattle.npm_resolve.specs.Asks.{AreAsks, AskValue, RulesValue, is_registered}
+use Rattle.npm_resolve.specs.Candidates.{AreCandidates}
+use Rattle.npm_resolve.specs.declared.candidates.candidate.Candidate.{Candidate}
+use Rattle.npm_resolve.specs.declared.candidates.options.Omits.{Omits}
+use Rattle.npm_resolve.specs.declared.candidates.options.Options.{Options}
+use Rattle.npm_resolve.specs.declared.candidates.owner.Owner.TheVariants.{Version}
+use Rattle.npm_resolve.specs.declared.candidates.owner.Reach.{Reach}
 use Rattle.npm_pick_reports.specs.Loading.{Loads}
 use Rattle.npm_pick_reports.specs.declared.load_error.LoadError.{LoadError}
 use Rattle.npm_pick_reports.specs.declared.load_error.LoadError.TheVariants.{Memory}

@@ -1,4 +1,4 @@
--- What cannot be met together, and why: lines of solving_reasons in names, specs and versions.
+-- What cannot be met together, and why: lines of reasons in names, specs and versions.
 use Rattle.std.specs.Prelude.{◌≡◌, ◌++◌, ℕ, List, [], ◌∷◌, Option, Some, None, IfSome, map, option_map, slice_get, suc}
 use Rattle.std.specs.List.{AllZip}
 use Rattle.std.specs.Option.{option_map_or}
@@ -9,15 +9,15 @@ use Rattle.version_solving.specs.Solving.{Problem}
 use Rattle.version_solving.specs.declared.change.Change.{Change}
 use Rattle.version_solving.specs.declared.change.Change.TheVariants.{First, Nothing, Undecided}
 use Rattle.version_solving.specs.declared.demand.Demand.{Demand}
-use Rattle.solving_reasons.specs.Reasons as Reasons
-use Rattle.solving_reasons.specs.Reasons.{IsProof}
-use Rattle.solving_reasons.specs.Wishes.{SomeMakes}
-use Rattle.solving_reasons.specs.declared.reason.Reason.{Reason as Line}
-use Rattle.solving_reasons.specs.declared.reason.Source.{Source as LineSource}
-use Rattle.solving_reasons.specs.declared.reason.Source.TheVariants.{Candidates, Lines, Root}
-use Rattle.solving_reasons.specs.declared.reason.Term.{Term as LineTerm}
-use Rattle.solving_reasons.specs.declared.reason.Term.TheVariants.{Against, Making}
-use Rattle.solving_reasons.specs.declared.reason.Wish.{Wish as LineWish}
+use Rattle.version_solving.specs.Reasons as Reasons
+use Rattle.version_solving.specs.Reasons.{IsProof}
+use Rattle.version_solving.specs.Wishes.{SomeMakes}
+use Rattle.version_solving.specs.declared.reasoning.reason.Reason.{Reason as Line}
+use Rattle.version_solving.specs.declared.reasoning.reason.Source.{Source as LineSource}
+use Rattle.version_solving.specs.declared.reasoning.reason.Source.TheVariants.{Candidates, Lines, Root}
+use Rattle.version_solving.specs.declared.reasoning.reason.Term.{Term as LineTerm}
+use Rattle.version_solving.specs.declared.reasoning.reason.Term.TheVariants.{Against, Making}
+use Rattle.version_solving.specs.declared.reasoning.reason.Wish.{Wish as LineWish}
 use Rattle.version_solving.specs.Naming.{IsAskOf}
 use Rattle.version_solving.specs.declared.ask.Listed.{Listed}
 use Rattle.version_solving.specs.declared.wanted.Wanted.{Wanted}
@@ -81,7 +81,7 @@ IsReasonOf posed line reason = IsLineOf posed line (reason_value reason)
 
 -- ---- what cannot be met together
 
--- Lines of solving_reasons that these demands cannot be met together, one after the other.
+-- Lines of reasons that these demands cannot be met together, one after the other.
 abbrev pub AreReasons : Posed → (demands : List Demand) → List Reason → Type 0
 AreReasons posed demands reasons = (lines : List Line) × IsProof (problem_of demands posed.documents) lines
     × AllZip (IsReasonOf posed) lines reasons

@@ -12,14 +12,14 @@ use Rattle.version_solving.specs.declared.ask.Asker.{Asker}
 use Rattle.version_solving.specs.declared.ask.Listed.{Listed}
 use Rattle.version_solving.specs.declared.wanted.Wanted.{Wanted}
 use Rattle.npm_texts.specs.RegistrySpec.{RegistrySpecValue, registry_spec}
-use Rattle.npm_candidates.specs.Asks.{AreAsks, AskValue, RulesValue, ask_value}
-use Rattle.npm_candidates.specs.Locked.{AreOffered}
-use Rattle.npm_candidates.specs.Meanings.{IsAdmitted, IsMeaning, MeaningValue, nothing}
-use Rattle.npm_candidates.specs.declared.candidate.Candidate.{Candidate}
-use Rattle.npm_candidates.specs.declared.options.Omits.{Omits}
-use Rattle.npm_candidates.specs.declared.options.Options.{Options}
-use Rattle.npm_candidates.specs.declared.owner.Owner.TheVariants.{Version}
-use Rattle.npm_candidates.specs.declared.owner.Reach.{Reach}
+use Rattle.npm_resolve.specs.Asks.{AreAsks, AskValue, RulesValue, ask_value}
+use Rattle.npm_resolve.specs.Locked.{AreOffered}
+use Rattle.npm_resolve.specs.Meanings.{IsAdmitted, IsMeaning, MeaningValue, nothing}
+use Rattle.npm_resolve.specs.declared.candidates.candidate.Candidate.{Candidate}
+use Rattle.npm_resolve.specs.declared.candidates.options.Omits.{Omits}
+use Rattle.npm_resolve.specs.declared.candidates.options.Options.{Options}
+use Rattle.npm_resolve.specs.declared.candidates.owner.Owner.TheVariants.{Version}
+use Rattle.npm_resolve.specs.declared.candidates.owner.Reach.{Reach}
 use Rattle.npm_resolve.specs.Optional.{root_demands}
 use Rattle.npm_resolve.specs.Rules.{rules_of}
 use Rattle.npm_resolve.specs.Wishes.{AreWishes}

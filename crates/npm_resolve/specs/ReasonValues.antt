@@ -1,7 +1,7 @@
 -- What a contract sees of what cannot be met together, and of the lines that say why.
 use Rattle.std.specs.Prelude.{ℕ, Bool, List, Option, map, option_map}
 use Rattle.std.specs.Borrow.{Bor}
-use Rattle.npm_candidates.specs.Asks.{AskValue, ask_value}
+use Rattle.npm_resolve.specs.Asks.{AskValue, ask_value}
 use Rattle.npm_resolve.specs.declared.conflict.Conflict.{Conflict}
 use Rattle.npm_resolve.specs.declared.conflict.Culprit.{Culprit}
 use Rattle.npm_resolve.specs.declared.conflict.Reason.{Reason}

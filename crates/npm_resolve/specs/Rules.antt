@@ -3,7 +3,7 @@ use Rattle.std.specs.Prelude.{ℕ, List, Bool, true, false, Option, Some, None, 
 use Rattle.serde_json.specs.View.{view}
 use Rattle.serde_json.specs.declared.value.Value.{Value}
 use Rattle.npm_packages.specs.Overrides.{RuleValue, in_place, rule_in, unread}
-use Rattle.npm_candidates.specs.Asks.{RulesValue}
+use Rattle.npm_resolve.specs.Asks.{RulesValue}
 
 -- The rules of the root, which is the first manifest. Of no other package, as that of a workspace, does npm read `overrides`.
 abbrev pub rules_of : (manifests : List Value) → RulesValue

@@ -3,9 +3,9 @@ use Rattle.std.specs.Prelude.{◌≡◌, List, flat_map}
 use Rattle.std.specs.List.{AllZip}
 use Rattle.serde_json.specs.View.{view}
 use Rattle.serde_json.specs.declared.value.Value.{Value}
-use Rattle.npm_candidates.specs.Asks.{AreAsks, AskValue, RulesValue}
-use Rattle.npm_candidates.specs.declared.options.Omits.{Omits}
-use Rattle.npm_candidates.specs.declared.owner.Owner.TheVariants.{Root}
+use Rattle.npm_resolve.specs.Asks.{AreAsks, AskValue, RulesValue}
+use Rattle.npm_resolve.specs.declared.candidates.options.Omits.{Omits}
+use Rattle.npm_resolve.specs.declared.candidates.owner.Owner.TheVariants.{Root}
 
 -- what one manifest asks a registry for, and what is left out
 pub record WishesValue : Type 0 where

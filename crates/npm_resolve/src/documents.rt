@@ -1,16 +1,16 @@
 //! The documents of the packages that are needed.
 ghost use Rattle.std.specs.Prelude.{◌≡◌, ◌++◌, IfErr, IfOk, List, OnOk, [], ◌∷◌, string_bytes};
 ghost use Rattle.std.specs.Fn.{FnReturnsAt};
-ghost use Rattle.npm_candidates.specs.Asks.{AskValue};
+ghost use Rattle.npm_resolve.specs.Asks.{AskValue};
 ghost use Rattle.npm_resolve.specs.Documents.{AreDocumentsFor, ArePeers, IsUnread};
 ghost use Rattle.npm_resolve.specs.Rules as Counting;
 ghost use Rattle.npm_resolve.specs.Private.Gathering.{AreAdded, AreBegun, IsAnswered};
 
 use crate::Result;
+use crate::candidates::{Omits, Options, Reach};
 use crate::requests::{Request, Requests};
 use crate::rules::rules_of;
 use crate::wishes::wishes_of;
-use npm_candidates::{Omits, Options, Reach};
 use npm_pick_reports::LoadError;
 use serde_json::Value;
 use std::alloc::{AllocError, Global};

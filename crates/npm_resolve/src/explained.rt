@@ -1,4 +1,4 @@
-//! Lines of `solving_reasons` in names, specs and versions.
+//! Lines of reasons in names, specs and versions.
 ghost use Rattle.std.specs.Prelude.{◌≡◌, IfOk, map};
 ghost use Rattle.std.specs.List.{AllZip};
 ghost use Rattle.npm_resolve.specs.Explanations as Explanations;
@@ -8,14 +8,14 @@ ghost use Rattle.npm_resolve.specs.ReasonValues.{source_value, term_value, text,
 use crate::Result;
 use crate::conflict::{Reason, Source, Term, Wish};
 use crate::posed::Posed;
-use solving_reasons::is_of;
 use std::alloc::Global;
+use version_solving::is_of;
 
 /// The lines in names, specs and versions, one after the other.
 pub(crate) fn all_explained<'v>(
     alloc: Global,
     posed: &Posed<'v>,
-    lines: &[solving_reasons::Reason],
+    lines: &[version_solving::Reason],
 ) -> Result<Vec<Reason<'v>>>
     ensures { IfOk result (λ reasons. AllZip (IsReasonOf posed.now) lines.now reasons.items) }
 {
@@ -33,24 +33,24 @@ pub(crate) fn all_explained<'v>(
 fn source_of<'v>(
     alloc: Global,
     posed: &Posed<'v>,
-    source: &solving_reasons::Source,
+    source: &version_solving::Source,
 ) -> Result<Source<'v>>
     ensures { IfOk result (λ found. IsSourceOf posed.now source.now (source_value found)) }
 {
     match source {
-        solving_reasons::Source::Root(demand) => {
-            let wish = solving_reasons::Wish {
+        version_solving::Source::Root(demand) => {
+            let wish = version_solving::Wish {
                 name: demand.name,
                 range: Some(demand.range),
                 needed: demand.needed,
             };
             Ok(Source::Root(wish_of(posed, wish)))
         }
-        solving_reasons::Source::Candidates(name, wish) => {
+        version_solving::Source::Candidates(name, wish) => {
             let keys = keys_of(alloc, posed, *name, *wish)?;
             Ok(Source::Versions(name_of(posed, *name), wish_of(posed, *wish), keys))
         }
-        solving_reasons::Source::Lines(name, lines) => {
+        version_solving::Source::Lines(name, lines) => {
             let numbers = Vec::from_slice(alloc, lines)?;
             Ok(Source::Lines(name_of(posed, *name), numbers))
         }
@@ -61,7 +61,7 @@ fn source_of<'v>(
 fn terms_of<'v>(
     alloc: Global,
     posed: &Posed<'v>,
-    terms: &[solving_reasons::Term],
+    terms: &[version_solving::Term],
 ) -> Result<Vec<Term<'v>>>
     ensures { IfOk result (λ found. map term_value found.items ≡ map (Explanations.term_of posed.now) terms.now) }
 {
@@ -73,19 +73,19 @@ fn terms_of<'v>(
 }
 
 /// A term.
-fn term_of<'v>(posed: &Posed<'v>, term: solving_reasons::Term) -> Term<'v>
+fn term_of<'v>(posed: &Posed<'v>, term: version_solving::Term) -> Term<'v>
     ensures { term_value result ≡ Explanations.term_of posed.now term }
 {
     match term {
-        solving_reasons::Term::Making(name, wish) => {
+        version_solving::Term::Making(name, wish) => {
             Term::Asking(name_of(posed, name), wish_of(posed, wish))
         }
-        solving_reasons::Term::Against(wish) => Term::Outside(wish_of(posed, wish)),
+        version_solving::Term::Against(wish) => Term::Outside(wish_of(posed, wish)),
     }
 }
 
 /// A wish.
-fn wish_of<'v>(posed: &Posed<'v>, wish: solving_reasons::Wish) -> Wish<'v>
+fn wish_of<'v>(posed: &Posed<'v>, wish: version_solving::Wish) -> Wish<'v>
     ensures { wish_value result ≡ Explanations.wish_of posed.now wish }
 {
     let spec = match wish.range {
@@ -124,11 +124,11 @@ fn keys_of<'v>(
     alloc: Global,
     posed: &Posed<'v>,
     name: usize,
-    wish: solving_reasons::Wish,
+    wish: version_solving::Wish,
 ) -> Result<Vec<&'v str>>
     ensures { IfOk result (λ keys. AreKeysOf posed.now name wish (map text keys.items)) }
 {
-    let term = solving_reasons::Term::Making(name, wish);
+    let term = version_solving::Term::Making(name, wish);
     let mut keys = Vec::new(alloc);
     for candidate in 0..posed.documents.count(name) {
         if is_of(&posed.documents, term, Some(candidate)) {

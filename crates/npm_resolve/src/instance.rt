@@ -2,15 +2,15 @@
 ghost use Rattle.std.specs.Prelude.{◌≡◌, IfOk};
 ghost use Rattle.std.specs.List.{AllZip};
 ghost use Rattle.npm_packages.specs.Rules.{rule_at};
-ghost use Rattle.npm_candidates.specs.Meanings.{MeaningValue, Means};
+ghost use Rattle.npm_resolve.specs.Meanings.{MeaningValue, Means};
 ghost use Rattle.npm_resolve.specs.Instance as Posing;
 ghost use Rattle.npm_resolve.specs.Instance.{AreAllowed, AreListed, AreRanges, IsAllowed, IsListedFor, IsMeaningFor, IsOffer, IsRangeFor};
 
 use crate::Result;
-use crate::documents::Document;
-use npm_candidates::{
+use crate::candidates::{
     Candidate, Meaning, Omits, Options, Owner, Reach, asks_of, meaning_of, offered_of,
 };
+use crate::documents::Document;
 use npm_packages::Rules;
 use npm_texts::registry_spec;
 use serde_json::Value;

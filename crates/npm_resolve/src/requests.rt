@@ -1,13 +1,13 @@
 //! Names that are asked for.
 ghost use Rattle.std.specs.Prelude.{◌≡◌, ℕ, List, OnOk, [], ◌∷◌, false, map};
-ghost use Rattle.npm_candidates.specs.Asks.{AskValue, ask_value};
+ghost use Rattle.npm_resolve.specs.Asks.{AskValue, ask_value};
 ghost use Rattle.npm_resolve.specs.Documents.{ArePeers};
 ghost use Rattle.npm_resolve.specs.Rules as Counting;
 ghost use Rattle.npm_resolve.specs.Private.Gathering.{AreAdded, IsNoted, is_seen};
 
 use crate::Result;
+use crate::candidates::{Omits, Options, Owner, Reach, asks_of, candidates_of};
 use crate::rules::rules_of;
-use npm_candidates::{Omits, Options, Owner, Reach, asks_of, candidates_of};
 use npm_texts::registry_spec;
 use serde_json::Value;
 use std::alloc::{AllocError, Global};

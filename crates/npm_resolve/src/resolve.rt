@@ -1,15 +1,14 @@
 //! The versions that fit together.
 ghost use Rattle.std.specs.Prelude.{◌≡◌, [], IfOk, IfSome, length};
-ghost use Rattle.version_solving.specs.Culprits.{AreCulprits};
 ghost use Rattle.version_solving.specs.Documents.{problem_of};
 ghost use Rattle.version_solving.specs.Solving.{NoneFits};
-ghost use Rattle.solving_reasons.specs.Named.{AreTooMany};
 ghost use Rattle.npm_resolve.specs.Answers.{IsAnswer, IsResolution};
 ghost use Rattle.npm_resolve.specs.Explanations.{AreReasons, IsConflict};
 
 use crate::Result;
 use crate::absent::{Named, with_absent};
 use crate::answer::{Answer, Resolution};
+use crate::candidates::{Asks, Omits, Options, Reach};
 use crate::chosen::all_chosen;
 use crate::conflict::{Conflict, Reason};
 use crate::culprits::culprits_of;
@@ -20,11 +19,9 @@ use crate::optional::{root_demands, unmet_names};
 use crate::posed::Posed;
 use crate::rules::{rules_of, unread_among};
 use crate::wishes::wishes_of;
-use npm_candidates::{Asks, Omits, Options, Reach};
 use serde_json::Value;
-use solving_reasons::{named_demands, reasons};
 use std::alloc::Global;
-use version_solving::{Demand, Documents, Numbered, Outcome, by_number, culprits, solve};
+use version_solving::{Demand, Documents, Numbered, Outcome, by_number, culprits, reasons, solve};
 
 /// Returns versions that fit together: of the names that manifests need, and of those that their versions need, one version each, so
 /// that all that is asked for is met. A version needs its peers and, by `Reach::Dependencies`, its `dependencies`. A name without a
@@ -113,35 +110,12 @@ fn conflict_of<'v>(alloc: Global, posed: &mut Posed<'v>, steps: u64) -> Result<O
     requires none { NoneFits (problem_of posed.old.root.items posed.old.documents) [] }
     ensures { IfOk result (λ found. IfSome found (IsConflict posed.old)) }
 {
-    match culprits_in(alloc, posed, steps)? {
+    match culprits(alloc, &posed.root, &posed.documents, steps)? {
         Some(demands) => Ok(Some(Conflict {
             reasons: reasons_of(alloc, posed, &demands, steps)?,
             culprits: culprits_of(alloc, posed, &demands, steps)?,
         })),
         None => Ok(None),
-    }
-}
-
-/// The culprits of the root, which are sought among few of its demands.
-fn culprits_in(alloc: Global, posed: &Posed<'_>, steps: u64) -> Result<Option<Vec<Demand>>>
-    requires { NoneFits (problem_of posed.now.root.items posed.now.documents) [] }
-    ensures culprits { IfOk result (λ found. IfSome found (λ demands. AreCulprits (problem_of posed.now.root.items posed.now.documents) demands.items)) }
-{
-    let named = named_of(alloc, posed, steps)?;
-    culprits(alloc, &named, &posed.documents, steps)
-}
-
-/// Demands of the root that cannot be met together: those that reasons name, or all where the reasons take more steps than they may.
-///
-/// Parts of the root can be harder to solve than the whole, and `culprits` solves many parts of what it is given. Reasons mostly name few
-/// demands.
-fn named_of(alloc: Global, posed: &Posed<'_>, steps: u64) -> Result<Vec<Demand>>
-    requires { NoneFits (problem_of posed.now.root.items posed.now.documents) [] }
-    ensures { IfOk result (λ demands. AreTooMany (problem_of posed.now.root.items posed.now.documents) demands.items) }
-{
-    match reasons(alloc, &posed.root, &posed.documents, steps)? {
-        Some(lines) => named_demands(alloc, &posed.root, &lines),
-        None => Vec::from_slice(alloc, &posed.root),
     }
 }
 

@@ -2,12 +2,12 @@
 ghost use Rattle.std.specs.Prelude.{IfOk, OnOk, map};
 ghost use Rattle.serde_json.specs.View.{view};
 ghost use Rattle.npm_packages.specs.Rules.{rule_at};
-ghost use Rattle.npm_candidates.specs.Asks.{AskValue, ask_value};
+ghost use Rattle.npm_resolve.specs.Asks.{AskValue, ask_value};
 ghost use Rattle.npm_resolve.specs.Wishes.{AreWishes};
 ghost use Rattle.npm_resolve.specs.Private.Wishing.{AreWishesAdded};
 
 use crate::Result;
-use npm_candidates::{Asks, Omits, Owner, asks_of};
+use crate::candidates::{Asks, Omits, Owner, asks_of};
 use npm_packages::Rules;
 use serde_json::Value;
 use std::alloc::Global;

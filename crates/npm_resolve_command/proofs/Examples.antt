@@ -1,2 +1,1 @@
-pub mod CommandExamples
 pub mod StatusExamples

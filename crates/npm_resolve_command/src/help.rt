@@ -54,7 +54,7 @@ Options, of which the value may also be in the same word, as in --steps=1000:
   --lock FILE        A package-lock.json or npm-shrinkwrap.json of version 2 or 3. The version in node_modules/NAME comes
                      first of the versions of NAME, so that little changes. If FILE is -, standard input is read.
                      Example: npm_resolve --lock package-lock.json --manifest package.json --packuments mirror
-  --steps N          Stop after N steps of the search; a step tries one version. The default is 10000000.
+  --steps N          Stop after N steps of the search; a step rules out versions of one package. The default is 10000000.
                      Example: npm_resolve --steps 100000 --manifest package.json --packuments mirror
   --format FORMAT    text: write lines for a person. json: write a JSON object. lock: with --flat, one manifest and no --omit,
                      write a package-lock.json of version 3; if no versions fit together, the lines of text. The default

@@ -1,8 +1,8 @@
 //! The lock file that the arguments name.
-ghost use Rattle.std.specs.Prelude.{IfErr, IfOk, option_map};
+ghost use Rattle.std.specs.Prelude.{IfOk, option_map};
 ghost use Rattle.serde_json.specs.View.{view};
 ghost use Rattle.npm_resolve_command.specs.LockFile as LockFiles;
-ghost use Rattle.npm_resolve_command.specs.LockFile.{IsLockFailure, IsLockOf};
+ghost use Rattle.npm_resolve_command.specs.LockFile.{IsLockOf};
 
 use crate::program_error::ProgramError;
 use command_lines::Quoted;
@@ -22,8 +22,7 @@ pub fn lock_in<'a, 'v>(
     alloc: Global,
     file: &'v Option<LockFile<'a>>,
 ) -> Result<Option<Lock<'v>>, ProgramError<'a>>
-    ensures read { IfOk result (LockFiles.IsLockIn (option_map (λ file. view file.value) file.now)) }
-    ensures failed { IfErr result (LockFiles.IsLockFailureIn file.now) }
+    ensures { IfOk result (LockFiles.IsLockIn (option_map (λ file. view file.value) file.now)) }
 {
     match file {
         Some(file) => Ok(Some(lock_of_file(alloc, file)?)),
@@ -33,8 +32,7 @@ pub fn lock_in<'a, 'v>(
 
 /// The packages of a lock file.
 fn lock_of_file<'a, 'v>(alloc: Global, file: &'v LockFile<'a>) -> Result<Lock<'v>, ProgramError<'a>>
-    ensures read { IfOk result (IsLockOf (view file.now.value)) }
-    ensures failed { IfErr result (IsLockFailure file.now) }
+    ensures { IfOk result (IsLockOf (view file.now.value)) }
 {
     let quoted = Quoted { text: file.path };
     match lock_of(alloc, &file.value) {

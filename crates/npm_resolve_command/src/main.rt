@@ -16,20 +16,19 @@ mod lock_file;
 mod program_error;
 mod values;
 
-use arguments::{Arguments, ResolveOptions, read_arguments};
+use arguments::{Arguments, read_arguments};
 use command_lines::{Quoted, Shown, words_of};
 use help::{HELP, VERSION};
 use lock_file::{LockFile, lock_in};
-use npm_pick_reports::{checked_manifest, packument_in, value_at, values_of};
-use npm_resolve::{Options, Reach};
+use npm_pick_reports::{checked_manifest, packument_in, value_at, version_of};
+use npm_resolve::Options;
 use npm_resolve_reports::{Done, Ending, Platform, Question, RunError, run};
 use program_error::ProgramError;
 use serde_json::Value;
-use std::alloc::AllocError;
 use std::io::Write;
 use std::process::ExitCode;
 use std::{fs, io};
-use values::{before_of, check_lock, folder_of, node_of, steps_of, version_of};
+use values::{before_of, check_lock, folder_of, node_of, steps_of};
 
 /// Ends with the status of `status_of`.
 fn main(rt: HostRuntime) -> ExitCode {
@@ -68,12 +67,12 @@ fn say(rt: &HostRuntime, done: &Done) -> io::Result<()> {
 
 /// Does what the arguments ask. Returns how the program ends, or `None` if only a text about it was shown.
 fn outcome_of<'a>(rt: &HostRuntime, words: &'a [String]) -> Result<Option<Done>, ProgramError<'a>> {
-    let asked = read_arguments(words)?;
+    let asked = read_arguments(rt.alloc(), words)?;
     if let Some(shown) = asked.shown {
         show(rt, shown)?;
         return Ok(None);
     }
-    let done = write_selection(rt, words, asked)?;
+    let done = write_selection(rt, &asked)?;
     Ok(Some(done))
 }
 
@@ -83,24 +82,22 @@ fn show(rt: &HostRuntime, shown: Shown) -> Result<(), RunError> {
         Shown::Help => HELP,
         Shown::Version => VERSION,
     };
-    print!(rt; "{text}").map_err(|_| RunError::Write)
+    match print!(rt; "{text}") {
+        Ok(()) => Ok(()),
+        Err(_) => Err(RunError::Write),
+    }
 }
 
 /// Reads the manifests, and writes the versions that fit together for them. Documents of packages are in a folder.
-fn write_selection<'a>(
-    rt: &HostRuntime,
-    words: &'a [String],
-    asked: Arguments<'a>,
-) -> Result<Done, ProgramError<'a>> {
-    let folder = folder_of(&asked)?;
+fn write_selection<'a>(rt: &HostRuntime, asked: &Arguments<'a>) -> Result<Done, ProgramError<'a>> {
+    let folder = folder_of(asked)?;
     let steps = steps_of(asked.steps)?;
     let before = before_of(rt.alloc(), asked.before)?;
-    let paths = values_of::<ResolveOptions>(rt.alloc(), words, "--manifest")?;
-    check_lock(&asked, paths.len())?;
+    check_lock(asked)?;
     let node_text = node_of(rt.alloc(), asked.node)?;
     let node_version = version_of(&node_text);
     let node = node_version.as_ref();
-    let manifests = manifests_at(rt, &paths)?;
+    let manifests = manifests_at(rt, &asked.manifests)?;
     check_folder(rt, folder)?;
     let lock_file = lock_file_at(rt, asked.lock)?;
     let lock = lock_in(rt.alloc(), &lock_file)?;
@@ -113,7 +110,7 @@ fn write_selection<'a>(
             is_lowest: asked.lowest,
             lock,
         },
-        reach: asked.reach.unwrap_or(Reach::Peers),
+        reach: asked.reach,
         omits: asked.omits,
         platform: Platform {
             os: asked.os,
@@ -140,7 +137,9 @@ fn manifests_at<'a>(rt: &HostRuntime, paths: &[&'a str]) -> Result<Vec<Value>, P
     let mut manifests = Vec::new(rt.alloc());
     for path in paths {
         let manifest = manifest_at(rt, *path)?;
-        manifests.push(manifest).map_err(|_| AllocError)?;
+        if manifests.push(manifest).is_err() {
+            return Err(ProgramError::Run(RunError::Memory));
+        }
     }
     Ok(manifests)
 }

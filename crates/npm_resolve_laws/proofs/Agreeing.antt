@@ -14,11 +14,11 @@ use Rattle.npm_pick.specs.Times.{is_published}
 use Rattle.npm_pick.specs.Wanted.{up_to}
 use Rattle.npm_pick.specs.declared.error.PickError.{PickError}
 use Rattle.npm_pick.specs.declared.options.Options as Picking
-use Rattle.npm_candidates.specs.Candidates.{AreCandidates}
-use Rattle.npm_candidates.specs.Meanings.{IsMeaning, IsMeaningByText, IsMeaningOfTag, MeaningValue, inside, nothing, only}
-use Rattle.npm_candidates.specs.Meanings as Meanings
-use Rattle.npm_candidates.specs.declared.candidate.Candidate.{Candidate}
-use Rattle.npm_candidates.specs.declared.options.Options.{Options}
+use Rattle.npm_resolve.specs.Candidates.{AreCandidates}
+use Rattle.npm_resolve.specs.Meanings.{IsMeaning, IsMeaningByText, IsMeaningOfTag, MeaningValue, inside, nothing, only}
+use Rattle.npm_resolve.specs.Meanings as Meanings
+use Rattle.npm_resolve.specs.declared.candidates.candidate.Candidate.{Candidate}
+use Rattle.npm_resolve.specs.declared.candidates.options.Options.{Options}
 use Rattle.npm_resolve_laws.specs.Alike.{AreAlike, HasKeysOnce}
 use Rattle.npm_resolve_laws.specs.Firsts.{AdmitsNone, AgreesWith}
 use Rattle.npm_resolve_laws.proofs.ByDefault.{default_first}

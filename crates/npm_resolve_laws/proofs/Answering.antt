@@ -9,9 +9,9 @@ use Rattle.version_solving.specs.declared.outcome.Choice.{Choice}
 use Rattle.npm_texts.specs.RegistrySpec.{RegistrySpecValue}
 use Rattle.npm_pick.specs.Pick.{PickedValue}
 use Rattle.npm_pick.specs.declared.error.PickError.{PickError}
-use Rattle.npm_candidates.specs.Asks.{AskValue}
-use Rattle.npm_candidates.specs.declared.candidate.Candidate.{Candidate}
-use Rattle.npm_candidates.specs.declared.options.Options.{Options}
+use Rattle.npm_resolve.specs.Asks.{AskValue}
+use Rattle.npm_resolve.specs.declared.candidates.candidate.Candidate.{Candidate}
+use Rattle.npm_resolve.specs.declared.candidates.options.Options.{Options}
 use Rattle.npm_resolve_laws.specs.Firsts.{AgreesWith, IsPickedFirst}
 use Rattle.npm_resolve.specs.Answers.{ChosenValue, IsResolution, chosen_of, chosen_value}
 use Rattle.npm_resolve.specs.Instance.{AreAllowed}

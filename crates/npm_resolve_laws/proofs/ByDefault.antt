@@ -10,11 +10,11 @@ use Rattle.npm_pick.specs.Packument.{Release, releases_in, tagged, versions_of}
 use Rattle.npm_pick.specs.Pick.{IsDefault, IsInRange}
 use Rattle.npm_pick.specs.Pick as Picks
 use Rattle.npm_pick.specs.declared.options.Options as Picking
-use Rattle.npm_candidates.specs.Candidates.{AreCandidates, IsCandidate, IsEligible}
-use Rattle.npm_candidates.specs.Meanings.{IsAdmitted, inside}
-use Rattle.npm_candidates.specs.Preference.{candidate_order}
-use Rattle.npm_candidates.specs.declared.candidate.Candidate.{Candidate}
-use Rattle.npm_candidates.specs.declared.options.Options.{Options}
+use Rattle.npm_resolve.specs.Candidates.{AreCandidates, IsCandidate, IsEligible}
+use Rattle.npm_resolve.specs.Meanings.{IsAdmitted, inside}
+use Rattle.npm_resolve.specs.Preference.{candidate_order}
+use Rattle.npm_resolve.specs.declared.candidates.candidate.Candidate.{Candidate}
+use Rattle.npm_resolve.specs.declared.candidates.options.Options.{Options}
 use Rattle.npm_resolve_laws.specs.Alike.{AreAlike, HasKeysOnce}
 use Rattle.npm_resolve_laws.specs.Firsts.{AdmitsNone, IsPickedFirst, IsVersion}
 use Rattle.npm_resolve_laws.proofs.Defaults.{is_named, names}

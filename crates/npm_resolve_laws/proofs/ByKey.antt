@@ -9,10 +9,10 @@ use Rattle.npm_pick.specs.Packument.{Release, candidate_of, is_restricted, manif
 use Rattle.npm_pick.specs.Pick as Picks
 use Rattle.npm_pick.specs.Times.{is_published}
 use Rattle.npm_pick.specs.declared.options.Options as Picking
-use Rattle.npm_candidates.specs.Candidates.{AreCandidates, IsCandidate, IsEligible}
-use Rattle.npm_candidates.specs.Meanings.{IsAdmitted, only}
-use Rattle.npm_candidates.specs.declared.candidate.Candidate.{Candidate}
-use Rattle.npm_candidates.specs.declared.options.Options.{Options}
+use Rattle.npm_resolve.specs.Candidates.{AreCandidates, IsCandidate, IsEligible}
+use Rattle.npm_resolve.specs.Meanings.{IsAdmitted, only}
+use Rattle.npm_resolve.specs.declared.candidates.candidate.Candidate.{Candidate}
+use Rattle.npm_resolve.specs.declared.candidates.options.Options.{Options}
 use Rattle.npm_resolve_laws.specs.Alike.{AreAlike, HasKeysOnce}
 use Rattle.npm_resolve_laws.specs.Firsts.{AdmitsNone, IsPickedFirst, IsVersion}
 use Rattle.npm_resolve_laws.proofs.Known.{IsKnown, known, listed_there}

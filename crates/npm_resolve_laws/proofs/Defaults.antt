@@ -7,10 +7,10 @@ use Rattle.npm_texts.specs.Admission.{Admits, of_dependencies}
 use Rattle.npm_pick.specs.Packument.{Release, manifest_of, tagged}
 use Rattle.npm_pick.specs.Pick.{HasNoDefault, IsDefault, IsInRange}
 use Rattle.npm_pick.specs.declared.options.Options as Picking
-use Rattle.npm_candidates.specs.Candidates.{IsCandidate, is_tagged}
-use Rattle.npm_candidates.specs.Meanings.{IsAdmitted, inside}
-use Rattle.npm_candidates.specs.declared.candidate.Candidate.{Candidate}
-use Rattle.npm_candidates.specs.declared.options.Options.{Options}
+use Rattle.npm_resolve.specs.Candidates.{IsCandidate, is_tagged}
+use Rattle.npm_resolve.specs.Meanings.{IsAdmitted, inside}
+use Rattle.npm_resolve.specs.declared.candidates.candidate.Candidate.{Candidate}
+use Rattle.npm_resolve.specs.declared.candidates.options.Options.{Options}
 use Rattle.npm_resolve_laws.specs.Alike.{AreAlike}
 use Rattle.npm_resolve_laws.proofs.Ranking.{fits_means, not_avoided, not_staged}
 

@@ -28,10 +28,10 @@ use Rattle.npm_texts.specs.InstalledVersions.{IsInstalledVersion}
 use Rattle.npm_texts.specs.SpecGrammar.{IsSpec, SpecValue, in_registry, is_tag, location, refused}
 use Rattle.npm_texts.specs.SpecLaws.{IsOneSpec}
 use Rattle.npm_texts.specs.Truth.{is_true}
-use Rattle.npm_flat_locks.specs.Installed.{InstalledValue, found, found_after, later_found}
-use Rattle.npm_flat_locks.specs.Lock.{IsLock, packages_of, root_package, with_package, with_packages}
-use Rattle.npm_flat_locks.specs.Members.{package_data, root_data, with_copy}
-use Rattle.npm_flat_locks.specs.declared.marks.Marks.{Marks}
+use Rattle.npm_resolve.specs.Installed.{InstalledValue, found, found_after, later_found}
+use Rattle.npm_resolve.specs.Lock.{IsLock, packages_of, root_package, with_package, with_packages}
+use Rattle.npm_resolve.specs.Members.{package_data, root_data, with_copy}
+use Rattle.npm_resolve.specs.declared.flat_locks.marks.Marks.{Marks}
 use Rattle.npm_resolve_laws.specs.Met.{AreAllMet, AreMet, IsInside, IsKept, IsMet}
 use Rattle.npm_resolve_laws.specs.Met as Meeting
 use Rattle.npm_resolve_laws.proofs.Folders.{IsFlat, at_root, dir, from_package, has_slash, inner, never, not_at_root, not_plain, pick, slash_in}

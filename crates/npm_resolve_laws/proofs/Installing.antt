@@ -15,17 +15,17 @@ use Rattle.npm_texts.specs.InstalledVersions.{IsInstalledVersion}
 use Rattle.npm_texts.specs.RegistrySpec.{RegistrySpecValue, registry_spec}
 use Rattle.npm_texts.specs.SpecLaws.{IsAskedAsWritten}
 use Rattle.npm_packages.specs.Asked.{AskedValue, asked_of}
-use Rattle.npm_candidates.specs.Asks.{AskValue, ask_of, asks_by, asks_on, counts, has_dependencies, is_root}
-use Rattle.npm_candidates.specs.declared.candidate.Candidate.{Candidate}
-use Rattle.npm_candidates.specs.declared.options.Options.{Options}
-use Rattle.npm_candidates.specs.declared.owner.Owner.{Owner}
-use Rattle.npm_candidates.specs.declared.owner.Owner.TheVariants.{Root, Version}
-use Rattle.npm_candidates.specs.declared.owner.Reach.TheVariants.{Dependencies}
+use Rattle.npm_resolve.specs.Asks.{AskValue, ask_of, asks_by, asks_on, counts, has_dependencies, is_root}
+use Rattle.npm_resolve.specs.declared.candidates.candidate.Candidate.{Candidate}
+use Rattle.npm_resolve.specs.declared.candidates.options.Options.{Options}
+use Rattle.npm_resolve.specs.declared.candidates.owner.Owner.{Owner}
+use Rattle.npm_resolve.specs.declared.candidates.owner.Owner.TheVariants.{Root, Version}
+use Rattle.npm_resolve.specs.declared.candidates.owner.Reach.TheVariants.{Dependencies}
 use Rattle.npm_resolve.specs.Answers.{ChosenValue}
 use Rattle.npm_resolve.specs.Optional.{is_required_in}
 use Rattle.npm_resolve.specs.declared.documents.Document.{Document}
 use Rattle.npm_resolve_reports.specs.Locks.{all_installed, installed_by, manifest_of, packument_of}
-use Rattle.npm_flat_locks.specs.Installed.{InstalledValue, found, found_after, later_found}
+use Rattle.npm_resolve.specs.Installed.{InstalledValue, found, found_after, later_found}
 use Rattle.npm_resolve_laws.specs.Met.{AreAllMet, AreMet, IsInside, IsKept, IsMet}
 use Rattle.npm_resolve_laws.specs.Met as Meeting
 use Rattle.npm_resolve_laws.specs.Ordinary.{AreAllOrdinary, AreOrdinary, IsOrdered, IsOrdinary, IsOrdinarySpec, nothing_omitted}

@@ -5,9 +5,9 @@ use Rattle.std.proofs.lemmas.List.Sorted.{All-permutation}
 use Rattle.std.specs.List.{AllByRecursion}
 use Rattle.serde_json.specs.Data.{Data}
 use Rattle.npm_pick.specs.Packument.{Release, manifest_of, releases_in, versions_of}
-use Rattle.npm_candidates.specs.Candidates.{AreCandidates, AreListed, IsCandidate, IsEligible}
-use Rattle.npm_candidates.specs.declared.candidate.Candidate.{Candidate}
-use Rattle.npm_candidates.specs.declared.options.Options.{Options}
+use Rattle.npm_resolve.specs.Candidates.{AreCandidates, AreListed, IsCandidate, IsEligible}
+use Rattle.npm_resolve.specs.declared.candidates.candidate.Candidate.{Candidate}
+use Rattle.npm_resolve.specs.declared.candidates.options.Options.{Options}
 use Rattle.npm_resolve_laws.specs.Alike.{HasKeysOnce}
 use Rattle.npm_resolve_laws.proofs.Listing.{IsListedAt, listed_at, of_each}
 

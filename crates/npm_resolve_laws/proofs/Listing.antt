@@ -10,10 +10,10 @@ use Rattle.serde_json.specs.Data.{Data, Members, member, no_members}
 use Rattle.serde_json.specs.Find.{get_member}
 use Rattle.npm_pick.specs.Lemmas.Readings.{exact}
 use Rattle.npm_pick.specs.Packument.{Release, is_restricted, manifest_in, manifest_of, releases_among, releases_in, restricted_of, versions_of}
-use Rattle.npm_candidates.specs.Candidates.{AreListed, IsCandidate, IsEligible}
-use Rattle.npm_candidates.specs.Candidates as Candidates
-use Rattle.npm_candidates.specs.declared.candidate.Candidate.{Candidate}
-use Rattle.npm_candidates.specs.declared.options.Options.{Options}
+use Rattle.npm_resolve.specs.Candidates.{AreListed, IsCandidate, IsEligible}
+use Rattle.npm_resolve.specs.Candidates as Candidates
+use Rattle.npm_resolve.specs.declared.candidates.candidate.Candidate.{Candidate}
+use Rattle.npm_resolve.specs.declared.candidates.options.Options.{Options}
 
 -- ---- one release among others
 

@@ -27,7 +27,7 @@ use Rattle.npm_texts.specs.SpecLaws.{IsSpecAsWritten}
 use Rattle.npm_texts.specs.WhiteSpace.{trimmed}
 use Rattle.npm_packages.specs.Asked.{AskedValue, asked_of}
 use Rattle.npm_packages.specs.LastParts as LastParts
-use Rattle.npm_flat_locks.specs.Installed.{InstalledValue}
+use Rattle.npm_resolve.specs.Installed.{InstalledValue}
 use Rattle.npm_resolve.specs.declared.documents.Document.{Document}
 use Rattle.npm_resolve_laws.specs.Met.{IsInside}
 use Rattle.npm_resolve_laws.specs.Ordinary.{AreAllOrdinary, AreOrdinary, IsExact, IsOrdered, IsOrdinarySpec}

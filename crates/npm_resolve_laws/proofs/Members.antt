@@ -8,9 +8,9 @@ use Rattle.serde_json.specs.Data.{Data, Members, boolean, no_members, put, strin
 use Rattle.serde_json.specs.Find.{as_str, get, get_member}
 use Rattle.npm_packages.specs.Asked.{AskedValue, asked_of}
 use Rattle.npm_texts.specs.Truth.{has_true}
-use Rattle.npm_flat_locks.specs.Installed.{InstalledValue}
-use Rattle.npm_flat_locks.specs.Members.{copied, has_script, license_of, member_in, package_data, root_data, sum_of, with_alias, with_copies, with_copy, with_dist, with_mark, with_marks, with_said, with_some}
-use Rattle.npm_flat_locks.specs.declared.marks.Marks.{Marks}
+use Rattle.npm_resolve.specs.Installed.{InstalledValue}
+use Rattle.npm_resolve.specs.Members.{copied, has_script, license_of, member_in, package_data, root_data, sum_of, with_alias, with_copies, with_copy, with_dist, with_mark, with_marks, with_said, with_some}
+use Rattle.npm_resolve.specs.declared.flat_locks.marks.Marks.{Marks}
 
 -- ---- one member more
 

@@ -1,5 +1,5 @@
 -- Names by their numbers, and the choices of a selection.
-use Rattle.npm_candidates.specs.Asks.{RulesValue}
+use Rattle.npm_resolve.specs.Asks.{RulesValue}
 use Rattle.std.proofs.Common.{◌≡◌, ◌∙◌, ◌<◌, ◌≤◌, ◌+◌, ◌++◌, ◌==◌, ◌⊎◌, ◌&&◌, ℕ, zero, suc, List, [], ◌∷◌, Bool, true, false, Option, Some, None, ap, arith, bytes_eq, cond, inl, inr, is_none, length, refl, string_bytes, subst, sym, unwrap_or}
 use Rattle.std.proofs.lemmas.Bool.Decides.{Decides-eqb}
 use Rattle.std.proofs.lemmas.Option.{slice_get_within}
@@ -12,9 +12,9 @@ use Rattle.version_solving.specs.Solving.{AreFirst, Problem, Selection, demands_
 use Rattle.version_solving.specs.declared.ask.Listed.{Listed}
 use Rattle.version_solving.specs.declared.demand.Demand.{Demand}
 use Rattle.version_solving.specs.declared.outcome.Choice.{Choice}
-use Rattle.npm_candidates.specs.declared.options.Omits.{Omits}
-use Rattle.npm_candidates.specs.declared.options.Options.{Options}
-use Rattle.npm_candidates.specs.declared.owner.Reach.{Reach}
+use Rattle.npm_resolve.specs.declared.candidates.options.Omits.{Omits}
+use Rattle.npm_resolve.specs.declared.candidates.options.Options.{Options}
+use Rattle.npm_resolve.specs.declared.candidates.owner.Reach.{Reach}
 use Rattle.npm_resolve.specs.Instance.{IsListedFor, IsOffer}
 use Rattle.npm_resolve.specs.declared.documents.Document.{Document}
 use Rattle.npm_resolve_reports.specs.Locks.{packument_of}

@@ -9,8 +9,8 @@ use Rattle.npm_texts.specs.InstalledVersions.{IsInstalledVersion, bare}
 use Rattle.npm_pick.specs.Pick.{IsPickedByTag}
 use Rattle.npm_pick.specs.Pick as Picks
 use Rattle.npm_pick.specs.declared.options.Options as Picking
-use Rattle.npm_candidates.specs.Candidates.{IsEligible}
-use Rattle.npm_candidates.specs.declared.options.Options.{Options}
+use Rattle.npm_resolve.specs.Candidates.{IsEligible}
+use Rattle.npm_resolve.specs.declared.candidates.options.Options.{Options}
 use Rattle.npm_resolve_laws.specs.Alike.{HasKeysOnce}
 
 -- ---- a key that is no version: `{"dist-tags": {"next": "no"}, "versions": {"no": {}}}`

@@ -1,8 +1,8 @@
 -- Candidates that a range allows, by their places.
 use Rattle.std.proofs.Common.{◌≡◌, ◌<◌, ◌++◌, ◌∷◌, ℕ, zero, suc, List, [], Bool, true, false, Some, arith, length, refl, unwrap_or}
 use Rattle.std.specs.Prelude.{slice_get}
-use Rattle.npm_candidates.specs.Meanings.{IsAdmitted, MeaningValue}
-use Rattle.npm_candidates.specs.declared.candidate.Candidate.{Candidate}
+use Rattle.npm_resolve.specs.Meanings.{IsAdmitted, MeaningValue}
+use Rattle.npm_resolve.specs.declared.candidates.candidate.Candidate.{Candidate}
 use Rattle.npm_resolve_laws.specs.Firsts.{AdmitsNone}
 use Rattle.npm_resolve.specs.Instance.{AreAllowed}
 

@@ -1,6 +1,6 @@
 -- What stands behind the numbers of a problem that manifests and documents pose.
 use Rattle.npm_resolve.specs.Rules.{rules_of}
-use Rattle.npm_candidates.specs.Asks.{RulesValue}
+use Rattle.npm_resolve.specs.Asks.{RulesValue}
 use Rattle.std.proofs.Common.{◌≡◌, ◌∙◌, ◌<◌, ◌⊎◌, ℕ, List, [], Option, Some, None, ap, arith, inl, inr, length, refl, string_bytes, subst, sym}
 use Rattle.std.proofs.lemmas.List.Elements.{All-contains}
 use Rattle.std.proofs.lemmas.Option.{slice_get_within}
@@ -19,11 +19,11 @@ use Rattle.version_solving.specs.declared.ask.Listed.{Listed}
 use Rattle.version_solving.specs.declared.demand.Demand.{Demand}
 use Rattle.version_solving.specs.declared.documents.Candidate.{Candidate as Demands}
 use Rattle.version_solving.specs.declared.documents.Package.{Package}
-use Rattle.npm_candidates.specs.Locked.{AreOffered}
-use Rattle.npm_candidates.specs.declared.candidate.Candidate.{Candidate}
-use Rattle.npm_candidates.specs.declared.options.Omits.{Omits}
-use Rattle.npm_candidates.specs.declared.options.Options.{Options}
-use Rattle.npm_candidates.specs.declared.owner.Reach.{Reach}
+use Rattle.npm_resolve.specs.Locked.{AreOffered}
+use Rattle.npm_resolve.specs.declared.candidates.candidate.Candidate.{Candidate}
+use Rattle.npm_resolve.specs.declared.candidates.options.Omits.{Omits}
+use Rattle.npm_resolve.specs.declared.candidates.options.Options.{Options}
+use Rattle.npm_resolve.specs.declared.candidates.owner.Reach.{Reach}
 use Rattle.npm_resolve.specs.Answers.{ChosenValue}
 use Rattle.npm_resolve.specs.Instance.{HasNone, IsAsker, IsInstance, IsListedFor, IsOffer, key_of}
 use Rattle.npm_resolve.specs.Optional.{root_demand}

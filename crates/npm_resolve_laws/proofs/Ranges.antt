@@ -17,9 +17,9 @@ use Rattle.npm_texts.specs.RegistrySpec as Registered
 use Rattle.npm_texts.specs.SpecGrammar.{filled, in_registry}
 use Rattle.npm_texts.specs.WhiteSpace.{trimmed}
 use Rattle.npm_lock.specs.Verdict.{asks_for_any}
-use Rattle.npm_candidates.specs.Meanings.{IsAdmitted, IsMeaning, IsMeaningByText, MeaningValue}
-use Rattle.npm_candidates.specs.Meanings as Meanings
-use Rattle.npm_candidates.specs.declared.candidate.Candidate.{Candidate}
+use Rattle.npm_resolve.specs.Meanings.{IsAdmitted, IsMeaning, IsMeaningByText, MeaningValue}
+use Rattle.npm_resolve.specs.Meanings as Meanings
+use Rattle.npm_resolve.specs.declared.candidates.candidate.Candidate.{Candidate}
 use Rattle.npm_resolve_laws.specs.Met.{IsKept}
 use Rattle.npm_resolve_laws.specs.Met as Meeting
 use Rattle.npm_resolve_laws.specs.Ordinary.{IsOrdinarySpec}

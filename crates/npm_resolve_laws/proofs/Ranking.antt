@@ -10,10 +10,10 @@ use Rattle.npm_pick.specs.Lemmas.Readings.{one_version}
 use Rattle.npm_pick.specs.Packument.{Release, is_staged}
 use Rattle.npm_pick.specs.Rank.{FitsEngines, IsAvoided, IsRankOf, Rank, rank_cmp}
 use Rattle.npm_pick.specs.declared.options.Options as Picking
-use Rattle.npm_candidates.specs.Candidates.{IsCandidate}
-use Rattle.npm_candidates.specs.Preference.{candidate_order, is_sound, version_preference}
-use Rattle.npm_candidates.specs.declared.candidate.Candidate.{Candidate}
-use Rattle.npm_candidates.specs.declared.options.Options.{Options}
+use Rattle.npm_resolve.specs.Candidates.{IsCandidate}
+use Rattle.npm_resolve.specs.Preference.{candidate_order, is_sound, version_preference}
+use Rattle.npm_resolve.specs.declared.candidates.candidate.Candidate.{Candidate}
+use Rattle.npm_resolve.specs.declared.candidates.options.Options.{Options}
 use Rattle.npm_resolve_laws.specs.Alike.{AreAlike}
 
 -- ---- the order

@@ -11,11 +11,11 @@ use Rattle.serde_json.specs.Data.{Data, Members, array, boolean, member, no_memb
 use Rattle.serde_json.specs.Find.{as_object, get, get_member}
 use Rattle.npm_texts.specs.ObjectKeys.{keys_of}
 use Rattle.npm_pick.specs.Packument.{Release, releases_among, releases_in, versions_of}
-use Rattle.npm_candidates.specs.Candidates.{AreListed, IsCandidate}
-use Rattle.npm_candidates.specs.Candidates as Candidates
-use Rattle.npm_candidates.specs.Locked.{AreOffered, locked_first, locked_of}
-use Rattle.npm_candidates.specs.declared.candidate.Candidate.{Candidate}
-use Rattle.npm_candidates.specs.declared.options.Options.{Options}
+use Rattle.npm_resolve.specs.Candidates.{AreListed, IsCandidate}
+use Rattle.npm_resolve.specs.Candidates as Candidates
+use Rattle.npm_resolve.specs.Locked.{AreOffered, locked_first, locked_of}
+use Rattle.npm_resolve.specs.declared.candidates.candidate.Candidate.{Candidate}
+use Rattle.npm_resolve.specs.declared.candidates.options.Options.{Options}
 use Rattle.npm_resolve_laws.proofs.Lists.{first_in, from_filter, in_cases, later_in, none_in}
 
 -- ---- the release of a candidate

@@ -19,14 +19,14 @@ use Rattle.version_solving.specs.declared.demand.Demand.{Demand}
 use Rattle.version_solving.specs.declared.documents.Range.{Range}
 use Rattle.version_solving.specs.declared.outcome.Choice.{Choice}
 use Rattle.npm_packages.specs.Asked.{AskedValue, asked_of}
-use Rattle.npm_candidates.specs.Asks.{AreAsks, AskValue, RulesValue, ask_value, asks_by, asks_on, is_registered, is_root}
-use Rattle.npm_candidates.specs.Meanings.{IsAdmitted, MeaningValue}
-use Rattle.npm_candidates.specs.declared.candidate.Candidate.{Candidate}
-use Rattle.npm_candidates.specs.declared.options.Omits.{Omits}
-use Rattle.npm_candidates.specs.declared.options.Options.{Options}
-use Rattle.npm_candidates.specs.declared.owner.Owner.{Owner}
-use Rattle.npm_candidates.specs.declared.owner.Owner.TheVariants.{Root, Version}
-use Rattle.npm_candidates.specs.declared.owner.Reach.{Reach}
+use Rattle.npm_resolve.specs.Asks.{AreAsks, AskValue, RulesValue, ask_value, asks_by, asks_on, is_registered, is_root}
+use Rattle.npm_resolve.specs.Meanings.{IsAdmitted, MeaningValue}
+use Rattle.npm_resolve.specs.declared.candidates.candidate.Candidate.{Candidate}
+use Rattle.npm_resolve.specs.declared.candidates.options.Omits.{Omits}
+use Rattle.npm_resolve.specs.declared.candidates.options.Options.{Options}
+use Rattle.npm_resolve.specs.declared.candidates.owner.Owner.{Owner}
+use Rattle.npm_resolve.specs.declared.candidates.owner.Owner.TheVariants.{Root, Version}
+use Rattle.npm_resolve.specs.declared.candidates.owner.Reach.{Reach}
 use Rattle.npm_resolve.specs.Answers.{ChosenValue, IsAnswer, IsResolution, chosen_of}
 use Rattle.npm_resolve.specs.Instance.{IsAllowed, IsAskNamed, IsInstance, IsMeaningFor, IsRangeFor}
 use Rattle.npm_resolve.specs.Instance as Posing

@@ -4,8 +4,8 @@ use Rattle.serde_json.specs.View.{view}
 use Rattle.serde_json.specs.declared.value.Value.{Value}
 use Rattle.npm_texts.specs.RegistrySpec.{RegistrySpecValue}
 use Rattle.npm_texts.specs.SpecLaws.{IsAskedAsWritten}
-use Rattle.npm_candidates.specs.declared.options.Options.{Options}
-use Rattle.npm_candidates.specs.declared.owner.Reach.TheVariants.{Dependencies}
+use Rattle.npm_resolve.specs.declared.candidates.options.Options.{Options}
+use Rattle.npm_resolve.specs.declared.candidates.owner.Reach.TheVariants.{Dependencies}
 use Rattle.npm_resolve.specs.Answers.{ChosenValue, IsAnswer}
 use Rattle.npm_resolve.specs.ReasonValues.{text}
 use Rattle.npm_resolve.specs.declared.answer.Answer.{Answer}

@@ -19,14 +19,14 @@ use Rattle.version_solving.specs.declared.documents.Range.{Range}
 use Rattle.version_solving.specs.declared.outcome.Choice.{Choice}
 use Rattle.version_solving.specs.declared.wanted.Wanted.{Wanted}
 use Rattle.npm_texts.specs.RegistrySpec.{RegistrySpecValue, registry_spec}
-use Rattle.npm_candidates.specs.Asks.{AskValue, RulesValue, ask_value}
-use Rattle.npm_candidates.specs.Candidates.{AreCandidates}
-use Rattle.npm_candidates.specs.Locked.{AreOffered, locked_first, locked_of}
-use Rattle.npm_candidates.specs.Meanings.{IsMeaning, MeaningValue}
-use Rattle.npm_candidates.specs.declared.candidate.Candidate.{Candidate}
-use Rattle.npm_candidates.specs.declared.options.Omits.{Omits}
-use Rattle.npm_candidates.specs.declared.options.Options.{Options}
-use Rattle.npm_candidates.specs.declared.owner.Reach.{Reach}
+use Rattle.npm_resolve.specs.Asks.{AskValue, RulesValue, ask_value}
+use Rattle.npm_resolve.specs.Candidates.{AreCandidates}
+use Rattle.npm_resolve.specs.Locked.{AreOffered, locked_first, locked_of}
+use Rattle.npm_resolve.specs.Meanings.{IsMeaning, MeaningValue}
+use Rattle.npm_resolve.specs.declared.candidates.candidate.Candidate.{Candidate}
+use Rattle.npm_resolve.specs.declared.candidates.options.Omits.{Omits}
+use Rattle.npm_resolve.specs.declared.candidates.options.Options.{Options}
+use Rattle.npm_resolve.specs.declared.candidates.owner.Reach.{Reach}
 use Rattle.npm_resolve.specs.Answers.{ChosenValue, chosen_of}
 use Rattle.npm_resolve.specs.Instance.{AreAllowed, IsAllowed, IsAsker, IsInstance, IsListedFor, IsMeaningFor, IsOffer, IsRangeFor}
 use Rattle.npm_resolve.specs.Instance as Instances

@@ -4,7 +4,7 @@ use Rattle.std.specs.List.{AllByRecursion}
 use Rattle.serde_json.specs.Data.{Data}
 use Rattle.npm_pick.specs.Packument.{Release, manifest_of, releases_in, versions_of}
 use Rattle.npm_pick.specs.declared.options.Options as Picking
-use Rattle.npm_candidates.specs.declared.options.Options.{Options}
+use Rattle.npm_resolve.specs.declared.candidates.options.Options.{Options}
 
 -- The options of a pick and those of candidates ask for the same: one default tag, one time and one version of Node. A pick can have
 -- more, which is left out: a version of npm, a range to avoid, and staged versions. Candidates can have the lowest version first, and do not.

@@ -6,8 +6,8 @@ use Rattle.node_semver.specs.Versions.{VersionValue}
 use Rattle.npm_texts.specs.InstalledVersions.{IsInstalledVersion}
 use Rattle.npm_pick.specs.Pick.{PickedValue}
 use Rattle.npm_pick.specs.declared.error.PickError.{PickError}
-use Rattle.npm_candidates.specs.Meanings.{IsAdmitted, MeaningValue}
-use Rattle.npm_candidates.specs.declared.candidate.Candidate.{Candidate}
+use Rattle.npm_resolve.specs.Meanings.{IsAdmitted, MeaningValue}
+use Rattle.npm_resolve.specs.declared.candidates.candidate.Candidate.{Candidate}
 
 -- none of these candidates is admitted
 abbrev pub AdmitsNone : MeaningValue → List Candidate → Type 0

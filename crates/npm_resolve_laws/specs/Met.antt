@@ -10,7 +10,7 @@ use Rattle.npm_lock.specs.Verdict.{asks_for_any}
 use Rattle.npm_packages.specs.Asked.{AskedValue, asked_of}
 use Rattle.npm_packages.specs.Folders.{is_up, place_in}
 use Rattle.npm_packages.specs.LastParts.{IsPlain}
-use Rattle.npm_flat_locks.specs.Installed.{InstalledValue, found}
+use Rattle.npm_resolve.specs.Installed.{InstalledValue, found}
 
 -- a name of one part, or of a scope and a part, whose folder does not lead up as `node_modules/..` does
 pub record IsInside (name : List ℕ) : Type 0 where

@@ -16,8 +16,8 @@ use Rattle.npm_texts.specs.SpecGrammar.{IsSpec, filled, in_registry, is_tag, loc
 use Rattle.npm_texts.specs.WhiteSpace.{trimmed}
 use Rattle.npm_packages.specs.Asked.{AskedValue, asked_of}
 use Rattle.npm_pick.specs.Packument.{versions_of}
-use Rattle.npm_candidates.specs.declared.options.Omits.{Omits}
-use Rattle.npm_flat_locks.specs.Installed.{InstalledValue}
+use Rattle.npm_resolve.specs.declared.candidates.options.Omits.{Omits}
+use Rattle.npm_resolve.specs.Installed.{InstalledValue}
 use Rattle.npm_resolve.specs.declared.documents.Document.{Document}
 use Rattle.npm_resolve_laws.specs.Met.{IsInside}
 

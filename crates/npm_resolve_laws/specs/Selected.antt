@@ -6,15 +6,15 @@ use Rattle.serde_json.specs.Data.{Data}
 use Rattle.serde_json.specs.View.{view}
 use Rattle.serde_json.specs.declared.value.Value.{Value}
 use Rattle.npm_texts.specs.RegistrySpec.{RegistrySpecValue, registry_spec}
-use Rattle.npm_candidates.specs.Asks.{AskValue, RulesValue, asks_on, is_registered}
-use Rattle.npm_candidates.specs.Locked.{AreOffered}
-use Rattle.npm_candidates.specs.Meanings.{IsAdmitted, IsMeaning, MeaningValue}
-use Rattle.npm_candidates.specs.declared.candidate.Candidate.{Candidate}
-use Rattle.npm_candidates.specs.declared.options.Omits.{Omits}
-use Rattle.npm_candidates.specs.declared.options.Options.{Options}
-use Rattle.npm_candidates.specs.declared.owner.Owner.{Owner}
-use Rattle.npm_candidates.specs.declared.owner.Owner.TheVariants.{Root, Version}
-use Rattle.npm_candidates.specs.declared.owner.Reach.{Reach}
+use Rattle.npm_resolve.specs.Asks.{AskValue, RulesValue, asks_on, is_registered}
+use Rattle.npm_resolve.specs.Locked.{AreOffered}
+use Rattle.npm_resolve.specs.Meanings.{IsAdmitted, IsMeaning, MeaningValue}
+use Rattle.npm_resolve.specs.declared.candidates.candidate.Candidate.{Candidate}
+use Rattle.npm_resolve.specs.declared.candidates.options.Omits.{Omits}
+use Rattle.npm_resolve.specs.declared.candidates.options.Options.{Options}
+use Rattle.npm_resolve.specs.declared.candidates.owner.Owner.{Owner}
+use Rattle.npm_resolve.specs.declared.candidates.owner.Owner.TheVariants.{Root, Version}
+use Rattle.npm_resolve.specs.declared.candidates.owner.Reach.{Reach}
 use Rattle.npm_resolve.specs.Answers.{ChosenValue, chosen_value}
 use Rattle.npm_resolve.specs.Optional.{is_required_in}
 use Rattle.npm_resolve.specs.declared.answer.Resolution.{Resolution}

@@ -6,14 +6,14 @@ use Rattle.serde_json.specs.declared.value.Value.{Value}
 use Rattle.npm_texts.specs.RegistrySpec.{RegistrySpecValue, registry_spec}
 use Rattle.npm_pick.specs.Pick.{PickedValue}
 use Rattle.npm_pick.specs.declared.error.PickError.{PickError}
-use Rattle.npm_candidates.specs.Asks.{AreAsks, AskValue, RulesValue}
-use Rattle.npm_candidates.specs.Candidates.{AreCandidates}
-use Rattle.npm_candidates.specs.Locked.{locked_of}
-use Rattle.npm_candidates.specs.declared.candidate.Candidate.{Candidate}
-use Rattle.npm_candidates.specs.declared.options.Omits.{Omits}
-use Rattle.npm_candidates.specs.declared.options.Options.{Options}
-use Rattle.npm_candidates.specs.declared.owner.Owner.TheVariants.{Version}
-use Rattle.npm_candidates.specs.declared.owner.Reach.{Reach}
+use Rattle.npm_resolve.specs.Asks.{AreAsks, AskValue, RulesValue}
+use Rattle.npm_resolve.specs.Candidates.{AreCandidates}
+use Rattle.npm_resolve.specs.Locked.{locked_of}
+use Rattle.npm_resolve.specs.declared.candidates.candidate.Candidate.{Candidate}
+use Rattle.npm_resolve.specs.declared.candidates.options.Omits.{Omits}
+use Rattle.npm_resolve.specs.declared.candidates.options.Options.{Options}
+use Rattle.npm_resolve.specs.declared.candidates.owner.Owner.TheVariants.{Version}
+use Rattle.npm_resolve.specs.declared.candidates.owner.Reach.{Reach}
 use Rattle.npm_resolve_laws.specs.Firsts.{IsVersion}
 use Rattle.npm_resolve.specs.Answers.{chosen_value}
 use Rattle.npm_resolve.specs.Rules.{rules_of}

@@ -2,20 +2,20 @@
 ghost use Rattle.std.specs.Prelude.{◌≡◌, ℕ, ℤ, List, None, Option, Some, [], map};
 ghost use Rattle.serde_json.specs.Data.{Data};
 ghost use Rattle.serde_json.specs.declared.value.Value.{Value};
-ghost use Rattle.npm_candidates.specs.declared.options.Omits.{Omits};
-ghost use Rattle.npm_candidates.specs.declared.options.Options.{Options};
-ghost use Rattle.npm_candidates.specs.declared.owner.Reach.{Reach};
-ghost use Rattle.npm_candidates.specs.declared.owner.Reach.TheVariants.{Dependencies};
+ghost use Rattle.npm_resolve.specs.declared.candidates.options.Omits.{Omits};
+ghost use Rattle.npm_resolve.specs.declared.candidates.options.Options.{Options};
+ghost use Rattle.npm_resolve.specs.declared.candidates.owner.Reach.{Reach};
+ghost use Rattle.npm_resolve.specs.declared.candidates.owner.Reach.TheVariants.{Dependencies};
 ghost use Rattle.npm_resolve.specs.Answers.{IsAnswer};
 ghost use Rattle.npm_resolve.specs.ReasonValues.{text};
 ghost use Rattle.npm_resolve.specs.declared.answer.Answer.{Answer};
 ghost use Rattle.npm_resolve.specs.declared.documents.Document.{Document};
-ghost use Rattle.npm_flat_locks.specs.Installed.{InstalledValue};
-ghost use Rattle.npm_flat_locks.specs.Lock.{IsLock};
+ghost use Rattle.npm_resolve.specs.Installed.{InstalledValue};
+ghost use Rattle.npm_resolve.specs.Lock.{IsLock};
 ghost use Rattle.npm_lock.specs.Findings.{IsChecked};
 ghost use Rattle.npm_lock.specs.declared.problem.Problems.{Problems};
-ghost use Rattle.npm_candidates.specs.Meanings.{IsAdmitted, IsMeaning, MeaningValue};
-ghost use Rattle.npm_candidates.specs.declared.candidate.Candidate.{Candidate};
+ghost use Rattle.npm_resolve.specs.Meanings.{IsAdmitted, IsMeaning, MeaningValue};
+ghost use Rattle.npm_resolve.specs.declared.candidates.candidate.Candidate.{Candidate};
 ghost use Rattle.npm_texts.specs.InstalledVersions.{IsInstalledVersion};
 ghost use Rattle.npm_texts.specs.RegistrySpec.{RegistrySpecValue, registry_spec};
 ghost use Rattle.npm_resolve_laws.specs.Selected.{IfSelected, IsSound};
@@ -40,7 +40,7 @@ pub fn each_dependency_of_a_selection_is_answered()
 {}
 
 /// The law: if each dependency is met by the package that is installed under its name, `npm_lock::check` finds no problem in the lock
-/// file that `npm_flat_locks::lock_of` returns.
+/// file that `npm_resolve::lock_of` returns.
 ///
 /// # Memory
 ///
@@ -52,7 +52,7 @@ pub fn flat_lock_files_have_no_problems()
     specs_are_those_of_the_grammar();
 }
 
-/// The law: a candidate that a spec allows, as `npm_candidates` reads it, may stand for the spec as `npm_lock` reads it, if the spec is an
+/// The law: a candidate that a spec allows, as `npm_resolve` reads it, may stand for the spec as `npm_lock` reads it, if the spec is an
 /// ordinary one: a range, a tag, or a version as it is printed, without white space at its ends, of the name or of an alias.
 ///
 /// # Memory

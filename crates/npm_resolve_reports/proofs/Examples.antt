@@ -1,2 +1,1 @@
-pub mod LineExamples
 pub mod SystemExamples

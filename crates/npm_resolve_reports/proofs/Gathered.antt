@@ -25,36 +25,7 @@ module _ {A X : Type 0} (seen : A → X) (items : List A) where
         is ∙ ap (λ l. l ++ made (seen item)) held ∙ append_assoc start before (made (seen item))
         ∙ ap (λ l. start ++ l) (sym all)
 
-    -- the same where the item has a name
-    pub made_more : (i : ℕ) (item : A) (old new : List Y) → i < length items → item ≡ get_or items i item
-        → new ≡ old ++ made (seen item) → old ≡ start ++ flat_map made (map seen (take i items))
-        → new ≡ start ++ flat_map made (map seen (take (i + 1) items))
-    made_more i item old new small here is held =
-        made_at i item old new small (is ∙ ap (λ x. old ++ made (seen x)) here) held
-
     -- the same after the last one
     pub made_all : (i : ℕ) (old : List Y) → length items ≤ i → old ≡ start ++ flat_map made (map seen (take i items))
         → old ≡ start ++ flat_map made (map seen items)
     made_all i old past held = held ∙ ap (λ l. start ++ flat_map made (map seen l)) (take_all i items past)
-
-  module _ {V Y : Type 0} (shown : V → Y) (made : X → Y) where
-    -- an item more makes one more
-    pub one_at : (i : ℕ) (none : A) (old new : List V) (value : V) → i < length items
-        → new ≡ old ++ (value ∷ []) → shown value ≡ made (seen (get_or items i none))
-        → map shown old ≡ map made (map seen (take i items)) → map shown new ≡ map made (map seen (take (i + 1) items))
-    one_at i none old new value small is same held =
-        let item = get_or items i none in
-        ap (map shown) is ∙ map-append shown old (value ∷ []) ∙ ap (λ y. map shown old ++ (y ∷ [])) same
-        ∙ ap (λ l. l ++ (made (seen item) ∷ [])) held ∙ sym (map-append made (map seen (take i items)) (seen item ∷ []))
-        ∙ ap (map made) (sym (seen_at i none small))
-
-    -- the same where the item has a name
-    pub one_more : (i : ℕ) (item : A) (old new : List V) (value : V) → i < length items → item ≡ get_or items i item
-        → new ≡ old ++ (value ∷ []) → shown value ≡ made (seen item)
-        → map shown old ≡ map made (map seen (take i items)) → map shown new ≡ map made (map seen (take (i + 1) items))
-    one_more i item old new value small here is same held =
-        one_at i item old new value small is (same ∙ ap (λ x. made (seen x)) here) held
-
-    pub one_all : (i : ℕ) (old : List V) → length items ≤ i → map shown old ≡ map made (map seen (take i items))
-        → map shown old ≡ map made (map seen items)
-    one_all i old past held = held ∙ ap (λ l. map made (map seen l)) (take_all i items past)

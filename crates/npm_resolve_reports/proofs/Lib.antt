@@ -1,5 +1,2 @@
-mod Items
 mod Gathered
-mod Texts
-mod Objects
 pub mod Examples

@@ -6,9 +6,9 @@ use Rattle.serde_json.specs.Data.{Data}
 use Rattle.serde_json.specs.Find.{get}
 use Rattle.serde_json.specs.View.{view}
 use Rattle.serde_json.specs.declared.value.Value.{Value}
-use Rattle.npm_flat_locks.specs.Installed.{InstalledValue}
-use Rattle.npm_flat_locks.specs.Lock.{IsLock}
-use Rattle.npm_flat_locks.specs.LockText.{IsLockText}
+use Rattle.npm_resolve.specs.Installed.{InstalledValue}
+use Rattle.npm_resolve.specs.Lock.{IsLock}
+use Rattle.npm_resolve.specs.LockText.{IsLockText}
 use Rattle.npm_resolve.specs.Answers.{ChosenValue}
 use Rattle.npm_resolve.specs.declared.documents.Document.{Document}
 

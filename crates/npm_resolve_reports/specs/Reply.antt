@@ -1,7 +1,6 @@
 -- What is written for a question, and how the program ends.
 use Rattle.std.specs.Prelude.{◌≡◌, ◌==◌, ◌&&◌, ⊤, ℕ, List, [], Bool, false, if◌then◌else◌, length, map, not, true}
 use Rattle.std.specs.Bool.{MatchBool}
-use Rattle.npm_candidates.specs.Asks.{ask_value}
 use Rattle.npm_pick_reports.specs.Loading.{Loads}
 use Rattle.serde_json.specs.declared.value.Value.{Value}
 use Rattle.npm_pick_reports.specs.Loading.{IsLoadFailure}
@@ -14,9 +13,6 @@ use Rattle.npm_resolve.specs.declared.answer.Resolution.{Resolution}
 use Rattle.npm_resolve.specs.declared.answer.Resolution.TheVariants as Resolutions
 use Rattle.npm_resolve.specs.declared.documents.Document.{Document}
 use Rattle.npm_resolve_reports.specs.Locks.{AreLockLines}
-use Rattle.npm_resolve_reports.specs.Notes as Notes
-use Rattle.npm_resolve_reports.specs.Objects.{IsJsonLine}
-use Rattle.npm_resolve_reports.specs.Texts.{AreTextLines}
 use Rattle.npm_resolve_reports.specs.declared.format.Format.{Format}
 use Rattle.npm_resolve_reports.specs.declared.format.Format.TheVariants.{Json, Lock, Text}
 use Rattle.npm_resolve_reports.specs.declared.reply.Done.{Done}
@@ -25,10 +21,9 @@ use Rattle.npm_resolve_reports.specs.declared.reply.Ending.TheVariants.{NoSelect
 use Rattle.npm_resolve_reports.specs.declared.reply.Question.{Question}
 use Rattle.npm_resolve_reports.specs.declared.reply.Reply.{Reply}
 
--- the lines for standard output, the notes for standard error, and how the program ends
+-- the lines for standard output, and how the program ends
 pub record ReplyValue : Type 0 where
   pub lines : List ℕ
-  pub notes : List ℕ
   pub ending : Ending
 
 -- the lock file of what is selected
@@ -38,10 +33,10 @@ AreFileLines manifests documents (Resolutions.Selected chosen) lines =
 AreFileLines manifests documents (Resolutions.NoSelection blamed) lines = ⊤
 AreFileLines manifests documents Resolutions.Undecided lines = ⊤
 
--- the lines of a resolution
+-- The lines of a resolution. Rows test those that are no lock file.
 abbrev pub AreLines : Format → List Value → List Document → Resolution → (lines : List ℕ) → Type 0
-AreLines Text manifests documents resolution lines = AreTextLines resolution lines
-AreLines Json manifests documents resolution lines = IsJsonLine resolution lines
+AreLines Text manifests documents resolution lines = ⊤
+AreLines Json manifests documents resolution lines = ⊤
 AreLines Lock manifests documents resolution lines = AreFileLines manifests documents resolution lines
 
 abbrev pub ending_of : Resolution → Ending
@@ -69,8 +64,6 @@ pub record IsReply (Gives : Loads) (question : Question) (format : Format) (repl
   pub answered : IsAnswer question.manifests.now documents question.options question.reach question.omits answer
   pub lines : MatchBool (is_unread format answer.resolution (map text answer.unread.items)) (reply.lines ≡ [])
       (AreLines format question.manifests.now documents answer.resolution reply.lines)
-  pub notes : reply.notes ≡ Notes.all_notes question.platform documents (map ask_value answer.left_out.items)
-      (map text answer.unread.items) (map text answer.unmet.items) (map text answer.missing.items) answer.resolution
   pub ending : reply.ending
       ≡ (if is_unread format answer.resolution (map text answer.unread.items) then Unread else ending_of answer.resolution)
 
@@ -80,7 +73,7 @@ IsFailure Gives error = IsLoadFailure (λ name. Unit {0}) Gives error
 
 -- what a contract sees of it
 abbrev pub done_value : (lines : List ℕ) → Done → ReplyValue
-done_value lines done = record { lines = lines; notes = done.notes.items; ending = done.ending }
+done_value lines done = record { lines = lines; ending = done.ending }
 
 abbrev pub reply_value : Reply → ReplyValue
 reply_value reply = done_value reply.lines.items reply.done

@@ -9,6 +9,7 @@ mod json;
 mod lock;
 mod notes;
 mod object_text;
+mod pieces;
 mod platform;
 mod reasons_json;
 mod reply;
@@ -20,7 +21,7 @@ pub use lock::lock_lines;
 pub use npm_pick_reports::{LoadError, RunError};
 pub use object_text::{resolution_text, unread_text};
 pub use platform::Platform;
-pub use reply::{Done, Ending, Question, is_unread, run};
+pub use reply::{Done, Ending, Question, run};
 
 /// The result of what fails by memory alone, if no other error is named.
 type Result<T, E = std::alloc::AllocError> = std::result::Result<T, E>;

@@ -1,14 +1,13 @@
 //! A lock file.
 ghost use Rattle.std.specs.Prelude.{◌≡◌, ◌++◌, IfOk, OnOk, map, option_map};
 ghost use Rattle.serde_json.specs.View.{view};
-ghost use Rattle.npm_flat_locks.specs.Installed.{installed_value};
+ghost use Rattle.npm_resolve.specs.Installed.{installed_value};
 ghost use Rattle.npm_resolve.specs.Answers.{chosen_value};
 ghost use Rattle.npm_resolve_reports.specs.Locks as Locks;
 ghost use Rattle.npm_resolve_reports.specs.Locks.{AreLockLines, AreLockLinesFor};
 
 use crate::Result;
-use npm_flat_locks::{Installed, lock_of, lock_text};
-use npm_resolve::{Chosen, Document};
+use npm_resolve::{Chosen, Document, Installed, lock_of, lock_text};
 use serde_json::Value;
 use std::alloc::Global;
 

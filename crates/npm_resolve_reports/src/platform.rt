@@ -1,8 +1,6 @@
 //! For which systems a package is.
 ghost use Rattle.std.specs.Prelude.{◌≡◌, option_and_then, option_map};
-ghost use Rattle.std.specs.List.{list_any};
 ghost use Rattle.serde_json.specs.View.{items_view, view};
-ghost use Rattle.serde_json.specs.declared.value.Value.{Value};
 ghost use Rattle.npm_resolve_reports.specs.Systems as Systems;
 ghost use Rattle.npm_resolve_reports.specs.Systems.{text_value, unfit_value};
 
@@ -88,39 +86,36 @@ fn admits_in(entries: &[Value], system: &str) -> bool
 fn some_forbids(entries: &[Value], system: &str) -> bool
     ensures { result ≡ Systems.some_item (Systems.forbids system.now) (items_view entries.now) }
 {
-    any_forbids(entries, system)
-}
-
-fn any_forbids(entries: &[Value], system: &str) -> bool
-    ensures { result ≡ list_any (λ (entry : Value). Systems.forbids system.now (view entry)) entries.now }
-{
-    entries.iter().any(|entry| forbids(entry, system))
+    for entry in entries {
+        if forbids(entry, system) {
+            return true;
+        }
+    }
+    false
 }
 
 /// Returns `true` if an entry names the system.
 fn some_names(entries: &[Value], system: &str) -> bool
     ensures { result ≡ Systems.some_item (Systems.names system.now) (items_view entries.now) }
 {
-    any_names(entries, system)
-}
-
-fn any_names(entries: &[Value], system: &str) -> bool
-    ensures { result ≡ list_any (λ (entry : Value). Systems.names system.now (view entry)) entries.now }
-{
-    entries.iter().any(|entry| names(entry, system))
+    for entry in entries {
+        if names(entry, system) {
+            return true;
+        }
+    }
+    false
 }
 
 /// Returns `true` if an entry names any system.
 fn some_is_plain(entries: &[Value]) -> bool
     ensures { result ≡ Systems.some_item Systems.is_plain (items_view entries.now) }
 {
-    any_is_plain(entries)
-}
-
-fn any_is_plain(entries: &[Value]) -> bool
-    ensures { result ≡ list_any (λ (entry : Value). Systems.is_plain (view entry)) entries.now }
-{
-    entries.iter().any(|entry| is_plain(entry))
+    for entry in entries {
+        if is_plain(entry) {
+            return true;
+        }
+    }
+    false
 }
 
 /// Returns `true` for the name of a system.

@@ -1,46 +1,49 @@
 //! Reasons as JSON objects. The first line has the number 0, as the first item of the array.
-ghost use Rattle.std.specs.Prelude.{◌≡◌, IfOk, map};
-ghost use Rattle.serde_json.specs.Data.{string};
-ghost use Rattle.serde_json.specs.View.{view};
-ghost use Rattle.npm_resolve.specs.ReasonValues.{text};
-
 use crate::Result;
-use crate::json::put_bool;
+use crate::pieces::{Piece, push_pieces};
 use crate::sentence::Sentence;
 use npm_resolve::{Document, Reason, Source, Term, Wish};
-use npm_texts::{filled, put_text};
-use serde_json::{Map, Value, put};
+use npm_texts::filled;
 use std::alloc::Global;
 use std::slice;
 
-/// The objects of all reasons, or `null` if there are none.
-pub(crate) fn reasons_json(
+/// Adds the objects of all reasons, or `null` if there are none.
+pub(crate) fn push_reasons(
     alloc: Global,
+    text: &mut Vec<u8>,
     documents: &[Document],
     reasons: Option<&Vec<Reason<'_>>>,
-) -> Result<Value> {
+) -> Result<()> {
     match reasons {
-        Some(reasons) => Ok(Value::Array(reason_values(alloc, documents, reasons)?)),
-        None => Ok(Value::Null),
+        Some(reasons) => push_all(alloc, text, documents, reasons),
+        None => text.extend_from_slice(b"null"),
     }
 }
 
-/// The objects of all reasons.
-fn reason_values(
+/// Adds the objects of these reasons.
+fn push_all<'r>(
     alloc: Global,
-    documents: &[Document],
-    reasons: &[Reason<'_>],
-) -> Result<Vec<Value>> {
-    let mut values = Vec::with_capacity(alloc, reasons.len())?;
+    text: &mut Vec<u8>,
+    documents: &'r [Document],
+    reasons: &'r [Reason<'r>],
+) -> Result<()> {
+    text.extend_from_slice(b"[")?;
+    let mut front = "";
     for reason in reasons {
-        values.push(reason_json(alloc, documents, reason)?)?;
+        text.extend_from_slice(front.as_bytes())?;
+        push_reason(alloc, text, documents, reason)?;
+        front = ",";
     }
-    Ok(values)
+    text.extend_from_slice(b"]")
 }
 
-/// The object of a reason.
-fn reason_json(alloc: Global, documents: &[Document], reason: &Reason<'_>) -> Result<Value> {
-    let terms = Value::Array(term_values(alloc, &reason.terms)?);
+/// Adds the object of a reason.
+fn push_reason<'r>(
+    alloc: Global,
+    text: &mut Vec<u8>,
+    documents: &'r [Document],
+    reason: &'r Reason<'r>,
+) -> Result<()> {
     let said = text_of(
         alloc,
         Sentence {
@@ -51,12 +54,35 @@ fn reason_json(alloc: Global, documents: &[Document], reason: &Reason<'_>) -> Re
         },
     )?;
     match &reason.source {
-        Source::Root(wish) => root_json(alloc, *wish, terms, &said),
-        Source::Versions(name, wish, keys) => {
-            versions_json(alloc, name, *wish, keys, terms, &said)
+        Source::Root(wish) => {
+            text.extend_from_slice(b"{\"source\":\"root\"")?;
+            push_terms(alloc, text, &reason.terms, &said)?;
+            push_wish(alloc, text, *wish)?;
         }
-        Source::Lines(name, lines) => lines_json(alloc, name, lines, terms, &said),
+        Source::Versions(name, wish, keys) => {
+            let pieces = [
+                Piece::Fixed("{\"name\":"),
+                Piece::Json(name),
+                Piece::Fixed(",\"source\":\"versions\""),
+            ];
+            push_pieces(alloc, text, &pieces)?;
+            push_terms(alloc, text, &reason.terms, &said)?;
+            text.extend_from_slice(b",\"versions\":")?;
+            push_texts(alloc, text, keys)?;
+            push_wish(alloc, text, *wish)?;
+        }
+        Source::Lines(name, lines) => {
+            push_numbers(alloc, text, lines)?;
+            let pieces = [
+                Piece::Fixed(",\"name\":"),
+                Piece::Json(name),
+                Piece::Fixed(",\"source\":\"lines\""),
+            ];
+            push_pieces(alloc, text, &pieces)?;
+            push_terms(alloc, text, &reason.terms, &said)?;
+        }
     }
+    text.extend_from_slice(b"}")
 }
 
 /// The sentence.
@@ -64,138 +90,80 @@ fn text_of(alloc: Global, sentence: Sentence<'_>) -> Result<String> {
     format!(in alloc; "{sentence}")
 }
 
-/// The object of a wish of the root.
-fn root_json(alloc: Global, wish: Wish<'_>, terms: Value, said: &str) -> Result<Value> {
-    let wish = wish_json(alloc, wish)?;
-    let mut members = Map::new(alloc);
-    put_text(&mut members, alloc, "source", "root")?;
-    put(&mut members, alloc, "terms", terms)?;
-    put_text(&mut members, alloc, "text", said)?;
-    put(&mut members, alloc, "wish", wish)?;
-    Ok(Value::Object(members))
-}
-
-/// The object of versions that ask for a wish.
-fn versions_json(
-    alloc: Global,
-    name: &str,
-    wish: Wish<'_>,
-    keys: &[&str],
-    terms: Value,
-    said: &str,
-) -> Result<Value> {
-    let wish = wish_json(alloc, wish)?;
-    let versions = text_values(alloc, keys)?;
-    let mut members = Map::new(alloc);
-    put_text(&mut members, alloc, "name", name)?;
-    put_text(&mut members, alloc, "source", "versions")?;
-    put(&mut members, alloc, "terms", terms)?;
-    put_text(&mut members, alloc, "text", said)?;
-    put(&mut members, alloc, "versions", Value::Array(versions))?;
-    put(&mut members, alloc, "wish", wish)?;
-    Ok(Value::Object(members))
-}
-
-/// The object of what follows from lines.
-fn lines_json(
-    alloc: Global,
-    name: &str,
-    lines: &[usize],
-    terms: Value,
-    said: &str,
-) -> Result<Value> {
-    let lines = line_values(alloc, lines)?;
-    let mut members = Map::new(alloc);
-    put(&mut members, alloc, "lines", Value::Array(lines))?;
-    put_text(&mut members, alloc, "name", name)?;
-    put_text(&mut members, alloc, "source", "lines")?;
-    put(&mut members, alloc, "terms", terms)?;
-    put_text(&mut members, alloc, "text", said)?;
-    Ok(Value::Object(members))
-}
-
-/// The objects of all terms.
-fn term_values(alloc: Global, terms: &[Term<'_>]) -> Result<Vec<Value>> {
-    let mut values = Vec::with_capacity(alloc, terms.len())?;
-    for term in terms {
-        values.push(term_json(alloc, *term)?)?;
-    }
-    Ok(values)
-}
-
-/// The object of a term.
-fn term_json(alloc: Global, term: Term<'_>) -> Result<Value> {
-    match term {
-        Term::Asking(name, wish) => asking_json(alloc, name, wish),
-        Term::Outside(wish) => outside_json(alloc, wish),
-    }
-}
-
-/// The object of versions that ask for a wish.
-fn asking_json(alloc: Global, name: &str, wish: Wish<'_>) -> Result<Value> {
-    let wish = wish_json(alloc, wish)?;
-    let mut members = Map::new(alloc);
-    put_text(&mut members, alloc, "name", name)?;
-    put_text(&mut members, alloc, "term", "asking")?;
-    put(&mut members, alloc, "wish", wish)?;
-    Ok(Value::Object(members))
-}
-
-/// The object of what is outside a wish.
-fn outside_json(alloc: Global, wish: Wish<'_>) -> Result<Value> {
-    let wish = wish_json(alloc, wish)?;
-    let mut members = Map::new(alloc);
-    put_text(&mut members, alloc, "term", "outside")?;
-    put(&mut members, alloc, "wish", wish)?;
-    Ok(Value::Object(members))
-}
-
-/// The object of a wish.
-fn wish_json(alloc: Global, wish: Wish<'_>) -> Result<Value> {
-    let spec = spec_json(alloc, wish.spec)?;
-    let mut members = Map::new(alloc);
-    put_text(&mut members, alloc, "name", wish.name)?;
-    put_bool(&mut members, alloc, "needed", wish.needed)?;
-    put(&mut members, alloc, "spec", spec)?;
-    Ok(Value::Object(members))
-}
-
-/// A spec, or `null` if it is any.
-fn spec_json(alloc: Global, spec: Option<&str>) -> Result<Value> {
-    match spec {
-        Some(spec) => text_json(alloc, filled(spec)),
-        None => Ok(Value::Null),
-    }
-}
-
-/// The JSON string of a text.
-pub(crate) fn text_json(alloc: Global, words: &str) -> Result<Value>
-    ensures { IfOk result (λ value. view value ≡ string words.now) }
-{
-    Ok(Value::String(String::from_str(alloc, words)?))
-}
-
-/// The JSON strings of texts.
-pub(crate) fn text_values(alloc: Global, texts: &[&str]) -> Result<Vec<Value>>
-    ensures { IfOk result (λ values. map view values.items ≡ map string (map text texts.now)) }
-{
-    let mut values = Vec::with_capacity(alloc, texts.len())?;
-    for one in texts {
-        values.push(text_json(alloc, one)?)?;
-    }
-    Ok(values)
-}
-
-/// The JSON numbers of lines.
-fn line_values(alloc: Global, lines: &[usize]) -> Result<Vec<Value>> {
-    let mut values = Vec::with_capacity(alloc, lines.len())?;
+/// Adds the beginning of an object: the numbers of lines.
+fn push_numbers(alloc: Global, text: &mut Vec<u8>, lines: &[usize]) -> Result<()> {
+    text.extend_from_slice(b"{\"lines\":[")?;
+    let mut front = "";
     for line in lines {
-        values.push(line_json(*line))?;
+        push_pieces(alloc, text, &[Piece::Fixed(front), Piece::Number(*line)])?;
+        front = ",";
     }
-    Ok(values)
+    text.extend_from_slice(b"]")
 }
 
-/// The JSON number of a line.
-fn line_json(line: usize) -> Value {
-    Value::from(line as u64)
+/// Adds the members of all terms and of the sentence.
+fn push_terms(alloc: Global, text: &mut Vec<u8>, terms: &[Term<'_>], said: &str) -> Result<()> {
+    text.extend_from_slice(b",\"terms\":[")?;
+    let mut front = "";
+    for term in terms {
+        push_term(alloc, text, *term, front)?;
+        front = ",";
+    }
+    push_pieces(
+        alloc,
+        text,
+        &[Piece::Fixed("],\"text\":"), Piece::Json(said)],
+    )
+}
+
+/// Adds the object of a term, with what stands before it.
+fn push_term<'t>(alloc: Global, text: &mut Vec<u8>, term: Term<'t>, front: &'t str) -> Result<()> {
+    let wish = match term {
+        Term::Asking(name, wish) => {
+            let pieces = [
+                Piece::Fixed(front),
+                Piece::Fixed("{\"name\":"),
+                Piece::Json(name),
+                Piece::Fixed(",\"term\":\"asking\""),
+            ];
+            push_pieces(alloc, text, &pieces)?;
+            wish
+        }
+        Term::Outside(wish) => {
+            let pieces = [Piece::Fixed(front), Piece::Fixed("{\"term\":\"outside\"")];
+            push_pieces(alloc, text, &pieces)?;
+            wish
+        }
+    };
+    push_wish(alloc, text, wish)?;
+    text.extend_from_slice(b"}")
+}
+
+/// Adds the member of a wish.
+fn push_wish(alloc: Global, text: &mut Vec<u8>, wish: Wish<'_>) -> Result<()> {
+    let spec = match wish.spec {
+        Some(spec) => Piece::Json(filled(spec)),
+        None => Piece::Fixed("null"),
+    };
+    let pieces = [
+        Piece::Fixed(",\"wish\":{\"name\":"),
+        Piece::Json(wish.name),
+        Piece::Fixed(",\"needed\":"),
+        Piece::flag(wish.needed),
+        Piece::Fixed(",\"spec\":"),
+        spec,
+        Piece::Fixed("}"),
+    ];
+    push_pieces(alloc, text, &pieces)
+}
+
+/// Adds the array of texts.
+pub(crate) fn push_texts(alloc: Global, text: &mut Vec<u8>, words: &[&str]) -> Result<()> {
+    text.extend_from_slice(b"[")?;
+    let mut front = "";
+    for one in words {
+        push_pieces(alloc, text, &[Piece::Fixed(front), Piece::Json(one)])?;
+        front = ",";
+    }
+    text.extend_from_slice(b"]")
 }

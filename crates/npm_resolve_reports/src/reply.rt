@@ -152,11 +152,7 @@ fn reply_of<F: Fn(&str) -> Result<Option<Value>, LoadError>>(
 
 /// Returns `true` if a lock file of what is selected is asked for, and rules in `overrides` are not read. There is no lock file then: npm
 /// reads the rules, and `npm ci` would refuse the file.
-///
-/// # Memory
-///
-/// Does not allocate.
-pub fn is_unread(format: Format, resolution: &Resolution<'_>, unread: &[&str]) -> bool
+fn is_unread(format: Format, resolution: &Resolution<'_>, unread: &[&str]) -> bool
     ensures { result ≡ Replies.is_unread format resolution.now (map text unread.now) }
 {
     match resolution {

@@ -1,15 +1,8 @@
 //! Lines for a person.
-//!
-//! What is selected is a clause. The words about what cannot be installed together are tested by rows.
-ghost use Rattle.std.specs.Prelude.{◌≡◌, ◌++◌, IfOk, OnOk, map, string_bytes};
-ghost use Rattle.npm_resolve.specs.Answers.{chosen_value};
-ghost use Rattle.npm_resolve_reports.specs.Texts as Texts;
-ghost use Rattle.npm_resolve_reports.specs.Texts.{AreTextLines, AreTexts};
-
 use crate::Result;
+use crate::pieces::{Piece, push_pieces};
 use crate::sentence::{Sentence, wish_of_versions};
-use command_lines::push_shown;
-use npm_resolve::{Ask, Chosen, Conflict, Culprit, Document, Reason, Resolution, Source};
+use npm_resolve::{Chosen, Conflict, Culprit, Document, Reason, Resolution, Source};
 use npm_texts::filled;
 use std::alloc::Global;
 
@@ -18,9 +11,7 @@ pub(crate) fn text_lines(
     alloc: Global,
     documents: &[Document],
     resolution: &Resolution<'_>,
-) -> Result<Vec<u8>>
-    ensures { IfOk result (λ lines. AreTextLines resolution.now lines.items) }
-{
+) -> Result<Vec<u8>> {
     match resolution {
         Resolution::Selected(chosen) => chosen_lines(alloc, chosen),
         Resolution::NoSelection(Some(conflict)) => conflict_lines(alloc, documents, conflict),
@@ -30,57 +21,29 @@ pub(crate) fn text_lines(
 }
 
 /// A line for each version, in the order of the bytes.
-fn chosen_lines(alloc: Global, chosen: &[Chosen<'_>]) -> Result<Vec<u8>>
-    ensures { IfOk result (λ lines. AreTexts (map chosen_value chosen.now) lines.items) }
-{
-    let mut texts = chosen_texts(alloc, chosen)?;
-    texts.sort_unstable();
-    lines_of(alloc, &texts)
-}
-
-/// The texts of the versions.
-fn chosen_texts(alloc: Global, chosen: &[Chosen<'_>]) -> Result<Vec<String>>
-    ensures { IfOk result (λ texts. map string_bytes texts.items ≡ map Texts.chosen_text (map chosen_value chosen.now)) }
-{
+fn chosen_lines(alloc: Global, chosen: &[Chosen<'_>]) -> Result<Vec<u8>> {
     let mut texts = Vec::with_capacity(alloc, chosen.len())?;
     for one in chosen {
         texts.push(chosen_text(alloc, *one)?)?;
     }
-    Ok(texts)
-}
-
-/// The text of a version: `react@18.2.0`.
-fn chosen_text(alloc: Global, chosen: Chosen<'_>) -> Result<String>
-    ensures { IfOk result (λ text. string_bytes text ≡ Texts.chosen_text (chosen_value chosen.entry)) }
-{
-    let mut text = String::from_str(alloc, chosen.name)?;
-    text.push_str("@")?;
-    if chosen.name != chosen.package {
-        text.push_str("npm:")?;
-        text.push_str(chosen.package)?;
-        text.push_str("@")?;
-    }
-    text.push_str(chosen.key)?;
-    Ok(text)
-}
-
-/// A line for each text.
-fn lines_of(alloc: Global, texts: &[String]) -> Result<Vec<u8>>
-    ensures { IfOk result (λ lines. lines.items ≡ Texts.lines_of (map string_bytes texts.now)) }
-{
+    texts.sort_unstable();
     let mut lines = Vec::new(alloc);
-    for text in texts {
-        push_line(&mut lines, text.as_str())?;
+    for text in &texts {
+        push_pieces(alloc, &mut lines, &[Piece::Shown(text), Piece::Fixed("\n")])?;
     }
     Ok(lines)
 }
 
-/// Adds the line of a text.
-fn push_line(lines: &mut Vec<u8>, text: &str) -> Result<()>
-    ensures { OnOk result (lines.new.items ≡ lines.old.items ++ Texts.line_of text.now) }
-{
-    push_shown(lines, text)?;
-    lines.extend_from_slice(b"\n")
+/// The text of a version: `react@18.2.0`, and `old@npm:react@17.0.2` of an alias.
+fn chosen_text(alloc: Global, chosen: Chosen<'_>) -> Result<String> {
+    let (front, package, end) = if chosen.name == chosen.package {
+        ("@", "", "")
+    } else {
+        ("@npm:", chosen.package, "@")
+    };
+    let name = chosen.name;
+    let key = chosen.key;
+    format!(in alloc; "{name}{front}{package}{end}{key}")
 }
 
 /// What cannot be installed together, why, and what would fit.
@@ -91,7 +54,7 @@ fn conflict_lines(
 ) -> Result<Vec<u8>> {
     let mut lines = culprit_lines(alloc, documents, &conflict.culprits)?;
     push_known(alloc, &mut lines, documents, conflict.reasons.as_ref())?;
-    push_all_fitting(&mut lines, &conflict.culprits)?;
+    push_fitting(alloc, &mut lines, &conflict.culprits)?;
     Ok(lines)
 }
 
@@ -182,31 +145,35 @@ fn culprit_lines(
     culprits: &[Culprit<'_>],
 ) -> Result<Vec<u8>> {
     let mut lines = Vec::new(alloc);
-    if culprits.len() == 1 {
-        lines.extend_from_slice(b"This cannot be installed:\n")?;
-    } else {
-        lines.extend_from_slice(b"These cannot be installed together:\n")?;
-    }
+    let words = match culprits {
+        [_] => "This cannot be installed:\n",
+        _ => "These cannot be installed together:\n",
+    };
+    lines.extend_from_slice(words.as_bytes())?;
     for culprit in culprits {
-        push_culprit(&mut lines, documents, culprit.ask)?;
+        push_culprit(alloc, &mut lines, documents, *culprit)?;
     }
     Ok(lines)
 }
 
 /// Adds the line of a culprit.
-fn push_culprit(lines: &mut Vec<u8>, documents: &[Document], ask: Ask<'_>) -> Result<()> {
-    push_ask(lines, ask)?;
-    lines.extend_from_slice(asked_words(ask.needed).as_bytes())?;
-    lines.extend_from_slice(document_words(has_document(documents, ask.name)).as_bytes())?;
-    lines.extend_from_slice(b"\n")
-}
-
-/// Adds a name and its spec.
-fn push_ask(lines: &mut Vec<u8>, ask: Ask<'_>) -> Result<()> {
-    lines.extend_from_slice(b"  ")?;
-    push_shown(lines, ask.name)?;
-    lines.extend_from_slice(b" ")?;
-    push_shown(lines, filled(ask.spec))
+fn push_culprit(
+    alloc: Global,
+    lines: &mut Vec<u8>,
+    documents: &[Document],
+    culprit: Culprit<'_>,
+) -> Result<()> {
+    let ask = culprit.ask;
+    let pieces = [
+        Piece::Fixed("  "),
+        Piece::Shown(ask.name),
+        Piece::Fixed(" "),
+        Piece::Shown(filled(ask.spec)),
+        Piece::Fixed(asked_words(ask.needed)),
+        Piece::Fixed(document_words(has_document(documents, ask.name))),
+        Piece::Fixed("\n"),
+    ];
+    push_pieces(alloc, lines, &pieces)
 }
 
 /// What the root does with a name.
@@ -229,33 +196,28 @@ fn document_words(has_document: bool) -> &'static str {
 
 /// Returns `true` if a name has a document.
 pub(crate) fn has_document(documents: &[Document], name: &str) -> bool {
-    documents
-        .iter()
-        .any(|document| document.name.as_str() == name)
+    for document in documents {
+        if document.name.as_str() == name {
+            return true;
+        }
+    }
+    false
 }
 
 /// Adds a line for each culprit with a version that would fit in its place.
-fn push_all_fitting(lines: &mut Vec<u8>, culprits: &[Culprit<'_>]) -> Result<()> {
+fn push_fitting(alloc: Global, lines: &mut Vec<u8>, culprits: &[Culprit<'_>]) -> Result<()> {
     for culprit in culprits {
-        push_fitting(lines, *culprit)?;
+        if let Some(key) = culprit.would_fit {
+            let pieces = [
+                Piece::Shown(culprit.ask.name),
+                Piece::Fixed(" "),
+                Piece::Shown(key),
+                Piece::Fixed(" would fit, outside the range.\n"),
+            ];
+            push_pieces(alloc, lines, &pieces)?;
+        }
     }
     Ok(())
-}
-
-/// Adds the line of a culprit, if a version would fit.
-fn push_fitting(lines: &mut Vec<u8>, culprit: Culprit<'_>) -> Result<()> {
-    match culprit.would_fit {
-        Some(key) => push_change(lines, culprit.ask.name, key),
-        None => Ok(()),
-    }
-}
-
-/// Adds the line of a version that would fit.
-fn push_change(lines: &mut Vec<u8>, name: &str, key: &str) -> Result<()> {
-    push_shown(lines, name)?;
-    lines.extend_from_slice(b" ")?;
-    push_shown(lines, key)?;
-    lines.extend_from_slice(b" would fit, outside the range.\n")
 }
 
 /// What is said if it takes too long to find what cannot be installed together.

@@ -1,81 +1,76 @@
-//! Errors, and kinds by their names.
-use crate::arguments::word_at;
-use named_calls::CallError;
-use node_semver::{Range, SemverError, SemverErrorKind, Version};
-use std::alloc::{AllocError, Global};
+//! Calls on identifiers, errors and kinds of errors.
+use crate::borrowed::prints_alike;
+use crate::word::{text_at, word_at};
+use crate::written::{alike, are_alike, put, put_made, put_one_way, put_refusal, put_truth};
+use crate::{Call, orders};
+use named_calls::{CallError, Written};
+use node_semver::{SemverError, SemverErrorKind};
 
-/// Whether an error holds this text, with an empty span at its byte offset.
-pub(crate) fn is_of_text(error: &SemverError, text: &str) -> bool {
-    let span = error.span();
-    error.input() == text && span.offset() == error.offset() && span.len() == 0
-}
-
-/// The kind, byte offset, line and column of an error.
-pub(crate) fn described(alloc: Global, error: &SemverError) -> Result<String, AllocError> {
-    let (kind, offset) = (error.kind(), error.offset());
-    let (line, column) = error.location();
-    format!(in alloc; "{kind:?} at {offset} ({line}, {column})")
-}
-
-/// The error of a text that is refused: the words are `version` or `range`, and the text.
-pub(crate) fn error_of(alloc: Global, words: &[String]) -> Result<SemverError, CallError> {
-    let text = word_at(words, 1);
-    let error = match word_at(words, 0) {
-        "version" => Version::parse(alloc, text).err(),
-        "range" => Range::parse(alloc, text).err(),
-        _ => return Err(CallError::Words),
-    };
-    error.ok_or(CallError::Text)
+pub(crate) fn answer(call: &Call<'_>, out: &mut String) -> Written {
+    let alloc = call.alloc;
+    match (call.name, call.words) {
+        ("Identifier::fmt", [word]) => put_one_way(alloc, out, &word.identifier),
+        ("Identifier::clone", [word]) => put_made(out, word.identifier.clone()),
+        ("Identifier::cmp", [one, other]) => {
+            orders::of_identifiers(out, &one.identifier, &other.identifier)
+        }
+        ("SemverErrorKind::fmt", [word]) => put_one_way(alloc, out, &kind_of(&word.text)?),
+        ("SemverErrorKind::eq", [one, other]) => {
+            let (kind, other) = (kind_of(&one.text)?, kind_of(&other.text)?);
+            are_alike(kind.clone()? == kind)?;
+            put_truth(out, kind == other, &[other == kind])
+        }
+        _ => of_errors(call, out),
+    }
 }
 
 /// A kind, by its name and its value: of digits that make no `u64`, the error of `parse`.
-pub(crate) fn kind_of(name: &str) -> Result<SemverErrorKind, CallError> {
-    Ok(match name {
-        "Context version" => SemverErrorKind::Context("version"),
-        "Context range" => SemverErrorKind::Context("range"),
-        "MaxLengthError" => SemverErrorKind::MaxLengthError,
-        "IncompleteInput" => SemverErrorKind::IncompleteInput,
-        "NoValidRanges" => SemverErrorKind::NoValidRanges,
-        "Other" => SemverErrorKind::Other,
-        "OutOfMemory" => SemverErrorKind::OutOfMemory,
-        _ => return kind_of_digits(name),
+fn kind_of(name: &str) -> Result<SemverErrorKind, CallError> {
+    let (word, value) = name.split_once(' ').unwrap_or((name, ""));
+    Ok(match (word, value.parse::<u64>()) {
+        ("Context", _) if value == "version" => SemverErrorKind::Context("version"),
+        ("Context", _) => SemverErrorKind::Context("range"),
+        ("MaxLengthError", _) => SemverErrorKind::MaxLengthError,
+        ("IncompleteInput", _) => SemverErrorKind::IncompleteInput,
+        ("NoValidRanges", _) => SemverErrorKind::NoValidRanges,
+        ("Other", _) => SemverErrorKind::Other,
+        ("OutOfMemory", _) => SemverErrorKind::OutOfMemory,
+        ("MaxIntError", Ok(number)) => SemverErrorKind::MaxIntError(number),
+        ("ParseIntError", Err(error)) => SemverErrorKind::ParseIntError(error),
+        _ => return Err(CallError::Words),
     })
 }
 
-fn kind_of_digits(name: &str) -> Result<SemverErrorKind, CallError> {
-    let (name, digits) = name.split_once(' ').ok_or(CallError::Words)?;
-    match (name, digits.parse::<u64>()) {
-        ("MaxIntError", Ok(number)) => Ok(SemverErrorKind::MaxIntError(number)),
-        ("ParseIntError", Err(error)) => Ok(SemverErrorKind::ParseIntError(error)),
+fn of_errors(call: &Call<'_>, out: &mut String) -> Written {
+    match (call.name, error_at(call, 0)?) {
+        ("SemverError::fmt", error) => {
+            are_alike(prints_alike(call.alloc, error.kind(), error))?;
+            put_one_way(call.alloc, out, error)
+        }
+        ("SemverError::clone", error) => {
+            let copy = error.clone()?;
+            are_alike(equals(&copy, error)?)?;
+            put_refusal(out, error.input(), &copy)
+        }
+        ("SemverError::eq", error) => put(out, &equals(error, error_at(call, 2)?)?),
         _ => Err(CallError::Words),
     }
 }
 
-/// Whether two kinds are equal, and nothing where both ways do not agree, or the first is not equal to its copy.
-pub(crate) fn are_equal_kinds(kind: &SemverErrorKind, other: &SemverErrorKind) -> Option<bool> {
-    let equal = kind == other;
-    if (other == kind) == equal && is_copied_kind(kind) {
-        Some(equal)
-    } else {
-        None
-    }
+/// The error of a text that is refused: the words are `version` or `range`, and the text.
+fn error_at<'c>(call: &'c Call<'c>, place: usize) -> Result<&'c SemverError, CallError> {
+    let word = word_at(call, place.saturating_add(1))?;
+    let error = match text_at(call, place) {
+        "version" => word.version.as_ref().err(),
+        "range" => word.range.as_ref().err(),
+        _ => None,
+    };
+    error.ok_or(CallError::Words)
 }
 
-fn is_copied_kind(kind: &SemverErrorKind) -> bool {
-    match kind.clone() {
-        Ok(copy) => copy == *kind,
-        Err(_) => false,
-    }
-}
-
-/// Whether two errors are equal, and nothing where both ways do not agree, or where the spans are not equal exactly if the
-/// offsets are.
-pub(crate) fn are_equal_errors(error: &SemverError, other: &SemverError) -> Option<bool> {
-    let equal = error == other;
-    let spans = error.span() == other.span();
-    if (other == error) == equal && spans == (error.offset() == other.offset()) {
-        Some(equal)
-    } else {
-        None
-    }
+/// Whether two errors are equal, as both ways say. Their spans are equal exactly if their offsets are.
+fn equals(error: &SemverError, other: &SemverError) -> Result<bool, CallError> {
+    let is_same_place = error.offset() == other.offset();
+    are_alike((error.span() == other.span()) == is_same_place)?;
+    alike(error == other, &[other == error])
 }

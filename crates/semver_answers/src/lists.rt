@@ -1,83 +1,112 @@
-//! Texts of lists. They are made within a call, so that no list outlives what it borrows.
-use node_semver::{Identifiers, Version};
-use semver_cuts::{Cut, Span, join};
-use std::alloc::{AllocError, Global};
-use std::fmt;
+//! Calls on versions with blanks between, and on a range or on ranges with ` & ` between.
+use crate::Call;
+use crate::borrowed::are_same;
+use crate::word::{range_of, text_at, version_of};
+use crate::written::{alike, are_alike, put, put_truth};
+use named_calls::{CallError, Written, list_of};
+use node_semver::{
+    AllOf, OrderedVersion, Range, Version, VersionRef, max_satisfying, min_satisfying,
+};
+use std::alloc::Global;
 
-/// Appends what stands between items, if there is an item already.
-pub(crate) fn separate(text: &mut String, separator: &str) -> Result<(), AllocError> {
-    if text.is_empty() {
-        return Ok(());
+pub(crate) fn answer(call: &Call<'_>, out: &mut String) -> Written {
+    let versions = versions_of(call.alloc, text_at(call, 0))?;
+    let ranges = ranges_of(call.alloc, text_at(call, 1))?;
+    match ranges.as_slice() {
+        [range] if !call.name.starts_with("AllOf") => of_range(call, out, &versions, range),
+        ranges => of_all(call, out, &versions, ranges),
     }
-    text.push_str(separator)
 }
 
-/// The texts of the cuts at the ends of sets.
-pub(crate) fn text_of_sets(alloc: Global, sets: &[Span<Version>]) -> Result<String, AllocError> {
-    let mut text = String::new(alloc);
-    for set in sets {
-        push_span(alloc, &mut text, set)?;
-    }
-    Ok(text)
+fn versions_of(alloc: Global, texts: &str) -> Result<Vec<Version>, CallError> {
+    let texts = texts.split_whitespace();
+    Ok(list_of!(alloc, texts, text => version_of(alloc, text).ok().ok_or(CallError::Words)?))
 }
 
-/// The identifiers of a list, with blanks between.
-pub(crate) fn text_of_identifiers(
-    alloc: Global,
-    list: Identifiers<'_>,
-) -> Result<String, AllocError> {
-    let mut text = String::new(alloc);
-    for identifier in list.to_vec(alloc)?.iter() {
-        separate(&mut text, " ")?;
-        let print = identifier.to_string(alloc)?;
-        text.push_str(print.as_str())?;
+/// The empty text has no ranges.
+fn ranges_of(alloc: Global, texts: &str) -> Result<Vec<Range>, CallError> {
+    if texts.is_empty() {
+        return Ok(Vec::new(alloc));
     }
-    Ok(text)
+    let texts = texts.split(" & ");
+    Ok(list_of!(alloc, texts, text => range_of(alloc, text).ok().ok_or(CallError::Words)?))
 }
 
-/// The joined spans of the numbers from a first to a last one, which stand side by side in a list.
-pub(crate) fn text_of_joined(alloc: Global, ends: &[u64]) -> Result<String, AllocError> {
-    let mut text = String::new(alloc);
-    let spans = join(alloc, spans_of(alloc, ends)?)?;
-    for span in spans.iter() {
-        push_span(alloc, &mut text, span)?;
-    }
-    Ok(text)
+fn read_borrowed<'a>(alloc: Global, texts: &'a str) -> Result<Vec<VersionRef<'a>>, CallError> {
+    let texts = texts.split_whitespace();
+    Ok(list_of!(alloc, texts, text => VersionRef::parse(text).ok().ok_or(CallError::Words)?))
 }
 
-fn spans_of(alloc: Global, ends: &[u64]) -> Result<Vec<Span<u64>>, AllocError> {
-    let mut spans = Vec::new(alloc);
-    for i in 0..ends.len() / 2 {
-        if let Some(span) = Span::new(Cut::Before(ends[2 * i]), Cut::After(ends[2 * i + 1])) {
-            spans.push(span)?;
+fn of_range(call: &Call<'_>, out: &mut String, versions: &[Version], range: &Range) -> Written {
+    let found = found_of(call.name, versions, range)?;
+    if let Ok(borrowed) = &read_borrowed(call.alloc, text_at(call, 0)) {
+        are_alike(is_same(found_of(call.name, borrowed, range)?, found))?;
+    }
+    found_version(out, found)
+}
+
+type Found<'v, V> = Result<Option<&'v V>, CallError>;
+
+fn found_of<'v, V: OrderedVersion>(name: &str, versions: &'v [V], range: &Range) -> Found<'v, V> {
+    Ok(match name {
+        "max_satisfying" => max_satisfying(versions, range),
+        "min_satisfying" => min_satisfying(versions, range),
+        "WithPrereleases::max_satisfying" => range.with_prereleases().max_satisfying(versions),
+        "WithPrereleases::min_satisfying" => range.with_prereleases().min_satisfying(versions),
+        _ => return Err(CallError::Words),
+    })
+}
+
+fn is_same(one: Option<&VersionRef<'_>>, other: Option<&Version>) -> bool {
+    match (one, other) {
+        (Some(one), Some(other)) => {
+            other.cmp_ref(one).is_eq() && are_same(&other.build, one.build())
+        }
+        (one, other) => one.is_none() && other.is_none(),
+    }
+}
+
+fn found_version(out: &mut String, found: Option<&Version>) -> Written {
+    match found {
+        Some(version) => put(out, version),
+        None => Ok(out.push_str("nothing")?),
+    }
+}
+
+fn of_all(call: &Call<'_>, out: &mut String, versions: &[Version], ranges: &[Range]) -> Written {
+    let all = AllOf::new(ranges);
+    match (call.name, versions, ranges) {
+        ("AllOf::max_satisfying", versions, _) => in_all(out, all.max_satisfying(versions), ranges),
+        ("AllOf::min_satisfying", versions, _) => in_all(out, all.min_satisfying(versions), ranges),
+        ("AllOf::satisfies", [version, ..], _) => {
+            let each = satisfies_each(version, ranges);
+            put_truth(out, all.satisfies(version), &[each])
+        }
+        ("AllOf::satisfies, with prereleases", [version, ..], [one, other]) => {
+            let views = [one.with_prereleases(), other.with_prereleases()];
+            let each = one.contains(version) && other.contains(version);
+            put_truth(out, AllOf::new(&views).satisfies(version), &[each])
+        }
+        _ => Err(CallError::Words),
+    }
+}
+
+/// A version that satisfies all ranges, and each of them.
+fn in_all(out: &mut String, found: Option<&Version>, ranges: &[Range]) -> Written {
+    if let Some(version) = found {
+        let all = AllOf::new(ranges);
+        let forms = [version.satisfies(&all), all.satisfies(version)];
+        alike(satisfies_each(version, ranges), &forms)?;
+        are_alike(all.satisfies(version))?;
+    }
+    found_version(out, found)
+}
+
+fn satisfies_each(version: &Version, ranges: &[Range]) -> bool {
+    for range in ranges {
+        if !version.satisfies(range) {
+            return false;
         }
     }
-    Ok(spans)
-}
-
-/// Appends the two ends of a span.
-fn push_span<T: Ord + fmt::Display>(
-    alloc: Global,
-    text: &mut String,
-    span: &Span<T>,
-) -> Result<(), AllocError> {
-    separate(text, "; ")?;
-    let (lower, upper) = span.ends();
-    push_cut(alloc, text, lower)?;
-    text.push_str(" to ")?;
-    push_cut(alloc, text, upper)
-}
-
-fn push_cut<T: Ord + fmt::Display>(
-    alloc: Global,
-    text: &mut String,
-    cut: &Cut<T>,
-) -> Result<(), AllocError> {
-    let print = match cut {
-        Cut::Start => String::from_str(alloc, "start"),
-        Cut::Before(value) => format!(in alloc; "before {value}"),
-        Cut::After(value) => format!(in alloc; "after {value}"),
-        Cut::End => String::from_str(alloc, "end"),
-    }?;
-    text.push_str(print.as_str())
+    true
 }

@@ -1,37 +1,45 @@
 //! Makes calls of `node_semver`, `npm_semver` and `semver_keys`, and writes what they return.
 //!
-//! Each line of standard input is a JSON array of strings: the name of a call and its arguments. The program writes a line for
-//! each of them: the answer, as a JSON string. Where a function has several forms, as one for a version and one for a version
-//! that borrows its text, all are called, and an answer says that they give different results.
-//!
-//! With the word `twice` the program makes one call twice, as `named_calls` says.
+//! `named_calls` says how calls are given. Where a function has several forms, as one for a version and one for a version that borrows
+//! its text, all are called, and an answer says that they give different results.
 #![tactic(auto)]
 
-mod answer;
-mod arguments;
 mod borrowed;
-mod call;
 mod errors;
-mod forms;
-mod key_calls;
-mod list_calls;
+mod keys;
 mod lists;
-mod made_calls;
-mod npm_calls;
+mod made;
 mod orders;
-mod pair_calls;
 mod parts;
-mod print_calls;
-mod range_calls;
+mod ranges;
 mod satisfied;
-mod text_calls;
-mod trees;
-mod version_calls;
+mod texts;
+mod two_ranges;
+mod versions;
+mod word;
+mod written;
 
-use call::Call;
-use named_calls::run;
+use named_calls::{CallError, Calls, Written, answer_of_first, run};
+use std::alloc::{AllocError, Global};
 use std::process::ExitCode;
+use word::Word;
+
+type Call<'c> = named_calls::Call<'c, Word>;
+
+struct SemverCalls;
+
+impl Calls for SemverCalls {
+    type Word = Word;
+
+    fn word_of(alloc: Global, text: &str) -> Result<Word, AllocError> {
+        Word::of_text(alloc, text)
+    }
+
+    fn answer(call: &Call<'_>, out: &mut String) -> Written {
+        answer_of_first! { call, out, texts, versions, ranges, two_ranges, keys, errors, made, lists }
+    }
+}
 
 fn main(rt: HostRuntime) -> ExitCode {
-    run::<Call>(&rt)
+    run::<SemverCalls>(&rt)
 }

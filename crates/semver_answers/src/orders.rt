@@ -1,74 +1,49 @@
 //! Orders, and equality with their hashes.
-use crate::answer::{Answer, order, truth};
-use crate::forms::hash_of;
+use crate::written::{alike, are_alike, put_order, put_truth};
+use named_calls::Written;
 use node_semver::{Identifier, Range, Version, VersionRef};
+use npm_semver::compare_build;
 use std::cmp::Ordering;
+use std::hash::{DefaultHasher, Hash, Hasher};
+
+pub(crate) fn hash_of(value: &impl Hash) -> u64 {
+    let mut state = DefaultHasher::new();
+    value.hash(&mut state);
+    state.finish()
+}
 
 /// The order of two versions. The texts are theirs, or write them by their parts.
-pub(crate) fn order_of(one: &Version, other: &Version, text: &str, other_text: &str) -> Answer {
-    let found = one.cmp(other);
-    let agrees = versions_compare(one, other, found)
-        && borrowed_compare(one, text, other_text, found);
-    order(found, agrees)
-}
-
-/// Whether `partial_cmp`, `==`, `<` and the order the other way agree, and the hashes are the same exactly for equal
-/// versions.
-fn versions_compare(v: &Version, w: &Version, wanted: Ordering) -> bool {
-    v.partial_cmp(w) == Some(wanted)
-        && w.cmp(v) == wanted.reverse()
-        && (v == w) == wanted.is_eq()
-        && (v < w) == wanted.is_lt()
-        && (hash_of(v) == hash_of(w)) == wanted.is_eq()
-}
-
-/// Whether these calls agree for versions that borrow these texts, if both are read, and for `v` and one that does.
-fn borrowed_compare(v: &Version, text: &str, other: &str, wanted: Ordering) -> bool {
-    match (&VersionRef::parse(text), &VersionRef::parse(other)) {
-        (Ok(one), Ok(two)) => {
-            one.cmp(two) == wanted
-                && two.cmp(one) == wanted.reverse()
-                && (one == two) == wanted.is_eq()
-                && v.cmp_ref(two) == wanted
-        }
-        _ => true,
+pub(crate) fn of_versions(out: &mut String, v: &Version, w: &Version, texts: [&str; 2]) -> Written {
+    let found = v.cmp(w);
+    let compared = v.partial_cmp(w) == Some(Ordering::Equal);
+    alike(found.is_eq(), &[v == w, compared, hash_of(v) == hash_of(w)])?;
+    are_alike((v < w) == found.is_lt())?;
+    if let (Ok(a), Ok(b)) = (&VersionRef::parse(texts[0]), &VersionRef::parse(texts[1])) {
+        are_alike((a == b) == found.is_eq())?;
+        alike(found, &[a.cmp(b), b.cmp(a).reverse(), v.cmp_ref(b)])?;
     }
+    put_order(out, found, &[w.cmp(v).reverse()])
 }
 
 /// The order of two versions with their builds.
-pub(crate) fn build_order_of(
-    one: &Version,
-    other: &Version,
-    text: &str,
-    other_text: &str,
-) -> Answer {
-    let found = npm_semver::compare_build(one, other);
-    let reversed = npm_semver::compare_build(other, one) == found.reverse();
-    order(
-        found,
-        reversed && borrowed_builds_compare(text, other_text, found),
-    )
-}
-
-fn borrowed_builds_compare(text: &str, other: &str, wanted: Ordering) -> bool {
-    match (&VersionRef::parse(text), &VersionRef::parse(other)) {
-        (Ok(one), Ok(two)) => one.compare_build(two) == wanted,
-        _ => true,
+pub(crate) fn with_builds(out: &mut String, v: &Version, w: &Version, texts: [&str; 2]) -> Written {
+    let found = compare_build(v, w);
+    if let (Ok(a), Ok(b)) = (&VersionRef::parse(texts[0]), &VersionRef::parse(texts[1])) {
+        alike(found, &[a.compare_build(b)])?;
     }
+    put_order(out, found, &[compare_build(w, v).reverse()])
 }
 
-/// The order of two identifiers.
-pub(crate) fn identifier_order_of(one: &Identifier, other: &Identifier) -> Answer {
+pub(crate) fn of_identifiers(out: &mut String, one: &Identifier, other: &Identifier) -> Written {
     let found = one.cmp(other);
-    let equal = found.is_eq();
-    let agrees = (one == other) == equal && (hash_of(one) == hash_of(other)) == equal;
-    order(found, agrees && other.cmp(one) == found.reverse())
+    let is_same_hash = hash_of(one) == hash_of(other);
+    alike(found.is_eq(), &[one == other, is_same_hash])?;
+    put_order(out, found, &[other.cmp(one).reverse()])
 }
 
 /// Whether two ranges are equal.
-pub(crate) fn equality_of(one: &Range, other: &Range) -> Answer {
+pub(crate) fn equality(out: &mut String, one: &Range, other: &Range) -> Written {
     let equal = one == other;
-    let alike = hash_of(one) == hash_of(other);
-    let count = !equal || one.set_count() == other.set_count();
-    truth(equal, (other == one) == equal && alike == equal && count)
+    are_alike(!equal || one.set_count() == other.set_count())?;
+    put_truth(out, equal, &[other == one, hash_of(one) == hash_of(other)])
 }

@@ -1,22 +1,19 @@
 //! The parts of a version: `1.2.3-alpha,=1+=5` are the numbers 1, 2 and 3, a prerelease of the text `alpha` and the number
 //! 1, and a build of the number 5. Each text of an identifier may be written so, but for `,` and `+`.
-use crate::arguments::{identifier_of, number_of};
-use named_calls::CallError;
 use node_semver::{Identifier, Version};
 use std::alloc::{AllocError, Global};
 
 /// The version of these parts.
-pub(crate) fn version_of(alloc: Global, text: &str) -> Result<Version, CallError> {
+pub(crate) fn version_of(alloc: Global, text: &str) -> Option<Version> {
     let (text, build) = divided(text, '+');
     let (numbers, prerelease) = divided(text, '-');
-    let mut version = release_of(alloc, numbers)?;
-    if let Some(words) = prerelease {
-        push_identifiers(alloc, &mut version.pre_release, words)?;
-    }
-    if let Some(words) = build {
-        push_identifiers(alloc, &mut version.build, words)?;
-    }
-    Ok(version)
+    let (major, rest) = numbers.split_once('.')?;
+    let (minor, patch) = rest.split_once('.')?;
+    let (major, minor, patch) = (number_of(major)?, number_of(minor)?, number_of(patch)?);
+    let mut version = Version::new(alloc, major, minor, patch);
+    push_identifiers(alloc, &mut version.pre_release, prerelease)?;
+    push_identifiers(alloc, &mut version.build, build)?;
+    Some(version)
 }
 
 /// The text before the first mark and the text after it, if the mark is there.
@@ -27,51 +24,44 @@ fn divided(text: &str, mark: char) -> (&str, Option<&str>) {
     }
 }
 
-fn release_of(alloc: Global, numbers: &str) -> Result<Version, CallError> {
-    let (major, rest) = numbers.split_once('.').ok_or(CallError::Words)?;
-    let (minor, patch) = rest.split_once('.').ok_or(CallError::Words)?;
-    let (major, minor, patch) = (number_of(major)?, number_of(minor)?, number_of(patch)?);
-    Ok(Version::new(alloc, major, minor, patch))
+pub(crate) fn number_of(digits: &str) -> Option<u64> {
+    digits.parse::<u64>().ok()
 }
 
-fn push_identifiers(
-    alloc: Global,
-    identifiers: &mut Vec<Identifier>,
-    words: &str,
-) -> Result<(), CallError> {
+fn push_identifiers(alloc: Global, list: &mut Vec<Identifier>, words: Option<&str>) -> Option<()> {
+    let Some(words) = words else {
+        return Some(());
+    };
     for word in words.split(',') {
-        identifiers.push(identifier_of(alloc, word)?)?;
+        list.push(identifier_of(alloc, word).ok()?).ok()?;
     }
-    Ok(())
+    Some(())
 }
 
-/// The parts of a version.
-pub(crate) fn text_of(alloc: Global, version: &Version) -> Result<String, AllocError> {
+/// The identifier of a word: of `=7` the number 7, and of another word that text.
+pub(crate) fn identifier_of(alloc: Global, word: &str) -> Result<Identifier, AllocError> {
+    match word.strip_prefix('=').and_then(number_of) {
+        Some(number) => Ok(Identifier::Numeric(number)),
+        None => Ok(Identifier::AlphaNumeric(String::from_str(alloc, word)?)),
+    }
+}
+
+/// Appends the parts of a version.
+pub(crate) fn push(out: &mut String, version: &Version) -> Result<(), AllocError> {
     let (major, minor, patch) = (version.major, version.minor, version.patch);
-    let mut text = format!(in alloc; "{major}.{minor}.{patch}")?;
-    write_list(&mut text, "-", &version.pre_release)?;
-    write_list(&mut text, "+", &version.build)?;
-    Ok(text)
+    write!(out, "{major}.{minor}.{patch}")?;
+    push_list(out, "-", &version.pre_release)?;
+    push_list(out, "+", &version.build)
 }
 
-fn write_list(text: &mut String, mark: &str, identifiers: &[Identifier]) -> Result<(), AllocError> {
+fn push_list(out: &mut String, mark: &str, identifiers: &[Identifier]) -> Result<(), AllocError> {
     let mut mark = mark;
     for identifier in identifiers {
-        write_identifier(text, mark, identifier)?;
+        match identifier {
+            Identifier::Numeric(number) => write!(out, "{mark}={number}")?,
+            Identifier::AlphaNumeric(text) => write!(out, "{mark}{text}")?,
+        }
         mark = ",";
-    }
-    Ok(())
-}
-
-fn write_identifier(
-    text: &mut String,
-    mark: &str,
-    identifier: &Identifier,
-) -> Result<(), AllocError> {
-    if matches!(identifier, Identifier::Numeric(_)) {
-        write!(text, "{mark}={identifier}")?;
-    } else {
-        write!(text, "{mark}{identifier}")?;
     }
     Ok(())
 }

@@ -8,7 +8,7 @@ use Rattle.std.specs.declared.cmp.Ordering.{Ordering}
 use Rattle.std.specs.declared.cmp.Ordering.TheVariants.{Less}
 use Rattle.node_semver.specs.Versions.{IsBelow, VersionValue, version_cmp}
 use Rattle.semver_texts.specs.Lemmas.Public.{Less-version, version-Less, version_total}
-use Rattle.semver_command.specs.Listed.{IsBestOf, IsBetter}
+use Rattle.semver_command.specs.Kept.{IsBestOf, IsBetter}
 
 all_weaker : {X : Type 0} (P Q : X → Type 0) (xs : List X) → ((x : X) → P x → Q x) → AllByRecursion P xs
     → AllByRecursion Q xs

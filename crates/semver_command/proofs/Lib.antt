@@ -1,15 +1,9 @@
 pub mod AllTexts
 pub mod Answered
-pub mod ArgumentSteps
 pub mod Best
-pub mod Examples
-pub mod Explanations
 pub mod Gathering
 pub mod Increments
-pub mod InputLines
-pub mod Listing
 pub mod OpenedSets
 pub mod ReadTexts
-pub mod RefusedTexts
 pub mod Satisfying
-pub mod SetLines
+pub mod SetNotes

@@ -14,7 +14,7 @@ use Rattle.semver_texts.specs.Lemmas.Public.{Equal-version, Greater-turned, Less
 use Rattle.semver_texts.specs.Lemmas.Public.{triple-between, version-Equal, version-Less, version_total}
 use Rattle.semver_texts.specs.Order.{before_release, by_identifiers, by_major, by_minor, by_patch}
 use Rattle.semver_command.specs.Opened.{AreOpened, HasPrereleaseOf}
-use Rattle.semver_command.specs.Private.Explaining.{AreBoth, IsFound, IsFoundRelease, above, below, prereleases_set, same}
+use Rattle.semver_command.specs.Private.Opening.{AreBoth, IsFound, IsFoundRelease, above, below, prereleases_set, same}
 
 -- ---- the prereleases of a triple
 

@@ -1,3 +1,2 @@
-pub mod Explaining
 pub mod Gathering
-pub mod Reading
+pub mod Opening

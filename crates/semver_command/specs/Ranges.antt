@@ -5,6 +5,11 @@ use denote.Ref.{Bor}
 use Rattle.semver_cuts.specs.Ends.{Ends}
 use Rattle.npm_semver.specs.NpmRanges.{NpmOptions, NpmSetsAdmit, NpmTextAdmits, with_plain_spaces}
 use Rattle.node_semver.specs.Versions.{VersionValue}
+use Rattle.semver_command.specs.declared.asked.Options.{Options}
+
+-- how the ranges are read
+abbrev pub npm_options : Options → NpmOptions
+npm_options options = record { loose = options.loose; include_prerelease = options.include_prerelease }
 
 -- The text, in npm's own reading, admits the version. A refused text admits none, and neither does a text that is
 -- missing.
@@ -16,7 +21,10 @@ IsAdmittedBy options (Some text) v = NpmTextAdmits options (with_plain_spaces te
 abbrev pub IsAdmittedByAll : NpmOptions → List (Option (List ℕ)) → VersionValue → Type 0
 IsAdmittedByAll options texts v = AllByRecursion (λ text. IsAdmittedBy options text v) texts
 
--- ---- what a contract sees of ranges that were read
+-- ---- what a contract sees of texts, and of ranges that were read
+
+abbrev pub text_value : Option (Bor (List ℕ)) → Option (List ℕ)
+text_value text = option_map (λ t. t.now) text
 
 -- the version satisfies the range or, with prereleases included, lies inside one of its sets
 abbrev pub IsIn : (include_prerelease : Bool) → Option (List (Ends VersionValue)) → VersionValue → Type 0

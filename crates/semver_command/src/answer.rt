@@ -1,11 +1,10 @@
-//! What is written for a command line, and how it ends.
-ghost use Rattle.std.specs.Prelude.{◌≡◌, ◌≢◌, ◌∷◌, [], ℕ, List, IfOk, IsErrOf, MatchOption, None, Some, length, Bool};
+//! What is decided for a request, and written.
+ghost use Rattle.std.specs.Prelude.{◌≡◌, ◌≢◌, ◌∷◌, [], IfOk, IsErrOf, List, MatchOption, length, map};
 ghost use Rattle.std.specs.Bool.{MatchBool};
-ghost use Rattle.std.specs.Io.Buffered.{reader_remaining};
-ghost use Rattle.semver_command.specs.Answer.{IsAnswer, npm_options};
-ghost use Rattle.semver_command.specs.Asked.{asked_value};
-ghost use Rattle.semver_command.specs.Reply.{RefusesTexts};
-ghost use Rattle.semver_command.specs.Private.Gathering.{AreAllKept, HasVersions, IsAnswered, IsKept, IsListed};
+ghost use Rattle.semver_command.specs.Answer.{IsAnswer};
+ghost use Rattle.semver_command.specs.Increment.{IsNoIdentifier, IsRaised};
+ghost use Rattle.semver_command.specs.Kept.{IsKept};
+ghost use Rattle.semver_command.specs.Ranges.{npm_options, text_value};
 ghost use Rattle.semver_command.specs.declared.asked.Listing.TheVariants as Listings;
 ghost use Rattle.node_semver.specs.Versions.{VersionValue};
 
@@ -13,12 +12,11 @@ use crate::asked::{Asked, Listing, Options};
 use crate::command_error::CommandError;
 use crate::ending::Ending;
 use crate::gathered::gather;
-use crate::increment::{incremented, write_incremented};
+use crate::increment::incremented;
 use crate::kept::Kept;
-use crate::lines::{ending_of, put_in_order, write_list};
 use crate::ranges::ranges_of;
 use crate::stopped::Stopped;
-use crate::writing::write_end;
+use crate::writing::{write_end, write_list, write_version};
 use node_semver::Version;
 use npm_semver::{Bump, NpmOptions};
 use std::alloc::Global;
@@ -35,12 +33,7 @@ pub fn answer<R: Read, W: Write>(
     asked: &Asked<'_>,
     reader: &mut BufReader<R>,
     writer: &mut W,
-) -> Result<Ending, CommandError>
-    ensures answered { IfOk result (IsAnswered (asked_value asked.now) (reader_remaining R.remaining reader.old)
-        (reader_remaining R.remaining reader.new) (W.contents writer.old) (W.contents writer.new)) }
-    ensures identifier { IsErrOf result CommandError.Identifier → RefusesTexts (asked_value asked.now)
-        (reader_remaining R.remaining reader.old) (reader_remaining R.remaining reader.new) }
-{
+) -> Result<Ending, CommandError> {
     match asked.increment {
         Some(bump) => answer_increment(alloc, asked, bump, reader, writer),
         None => Ok(answer_list(alloc, asked, reader, writer)?),
@@ -63,49 +56,34 @@ fn answer_list<R: Read, W: Write>(
     asked: &Asked<'_>,
     reader: &mut BufReader<R>,
     writer: &mut W,
-) -> Result<Ending, Stopped>
-    requires { asked.now.increment ≡ None }
-    ensures { IfOk result (IsAnswered (asked_value asked.now) (reader_remaining R.remaining reader.old)
-        (reader_remaining R.remaining reader.new) (W.contents writer.old) (W.contents writer.new)) }
+) -> Result<Ending, Stopped> {
+    let is_json = asked.options.json;
+    let kept = listed(alloc, asked, reader, writer)?;
+    match &kept {
+        Kept::All(versions) => write_list(alloc, writer, versions, is_json)?,
+        Kept::Least(best) | Kept::Greatest(best) => {
+            write_list(alloc, writer, best.as_slice(), is_json)?;
+        }
+        Kept::Written(is_first) => write_end(writer, is_json, *is_first)?,
+    }
+    Ok(kept.ending())
+}
+
+/// The versions that satisfy all ranges, in the order in which they are written.
+fn listed<R: Read, W: Write>(
+    alloc: Global,
+    asked: &Asked<'_>,
+    reader: &mut BufReader<R>,
+    writer: &mut W,
+) -> Result<Kept, Stopped>
+    ensures { IfOk result (IsAnswer asked.now.options (map text_value asked.now.ranges.items)
+        (map (λ word. word.now) asked.now.versions.items)) }
 {
     let options = asked.options;
     let ranges = ranges_of(alloc, &asked.ranges, npm_options(options))?;
-    let listing = options.listing;
-    let kept = gather(
-        alloc,
-        &asked.versions,
-        options,
-        &ranges,
-        listing,
-        reader,
-        writer,
-    )?;
-    write_kept(alloc, kept, options, writer)
-}
-
-/// Writes the versions that are kept, or the text after the last one if all are written.
-fn write_kept<W: Write>(
-    alloc: Global,
-    kept: Kept,
-    options: Options,
-    writer: &mut W,
-) -> Result<Ending, Stopped>
-    ensures { IfOk result (λ ending. (versions : List VersionValue) (before : List ℕ)
-        → IsKept options.listing options.json versions kept before
-        → IsListed options versions before (W.contents writer.old) (W.contents writer.new) ending) }
-{
-    match kept {
-        Kept::All(mut versions) => {
-            put_in_order(&mut versions, options.reverse);
-            write_list(alloc, writer, &versions, options.json)
-        }
-        Kept::Least(best) => write_list(alloc, writer, best.as_slice(), options.json),
-        Kept::Greatest(best) => write_list(alloc, writer, best.as_slice(), options.json),
-        Kept::Written(is_first) => {
-            write_end(writer, options.json, is_first)?;
-            Ok(ending_of(is_first))
-        }
-    }
+    let mut kept = gather(alloc, &asked.versions, options, &ranges, reader, writer)?;
+    kept.put_in_order(options.reverse);
+    Ok(kept)
 }
 
 /// Writes the output of a request with an increment.
@@ -115,61 +93,54 @@ fn answer_increment<R: Read, W: Write>(
     bump: Bump,
     reader: &mut BufReader<R>,
     writer: &mut W,
-) -> Result<Ending, CommandError>
-    requires { asked.now.increment ≡ Some bump }
-    ensures answered { IfOk result (IsAnswered (asked_value asked.now) (reader_remaining R.remaining reader.old)
-        (reader_remaining R.remaining reader.new) (W.contents writer.old) (W.contents writer.new)) }
-    ensures identifier { IsErrOf result CommandError.Identifier → RefusesTexts (asked_value asked.now)
-        (reader_remaining R.remaining reader.old) (reader_remaining R.remaining reader.new) }
-{
-    let versions = all_versions(alloc, asked, reader, writer)?;
-    if is_nothing(&versions) {
-        return Ok(write_list(alloc, writer, &versions, asked.options.json)?);
-    }
-    if !is_nothing(&asked.ranges) {
-        return Ok(Ending::Misused);
-    }
-    let Some(version) = single(&versions) else {
-        return Ok(Ending::Misused);
+) -> Result<Ending, CommandError> {
+    let options = Options {
+        listing: Listing::Ordered,
+        ..asked.options
     };
-    let outcome = incremented(alloc, version, bump, asked.identifier, asked.base)?;
-    write_incremented(alloc, writer, outcome.as_ref(), asked.options.json)?;
-    Ok(Ending::Written)
-}
-
-/// All versions of the texts, in their order.
-fn all_versions<R: Read, W: Write>(
-    alloc: Global,
-    asked: &Asked<'_>,
-    reader: &mut BufReader<R>,
-    writer: &mut W,
-) -> Result<Vec<Version>, Stopped>
-    ensures { IfOk result (λ versions. HasVersions (asked_value asked.now) (reader_remaining R.remaining reader.old)
-        (reader_remaining R.remaining reader.new) versions.items (W.contents writer.old) (W.contents writer.new)) }
-{
-    let words = &asked.versions;
-    let kept = gather(
-        alloc,
-        words,
-        asked.options,
-        &[],
-        Listing::Ordered,
-        reader,
-        writer,
-    )?;
-    Ok(all_of(kept))
+    let kept = gather(alloc, &asked.versions, options, &[], reader, writer)?;
+    let (ending, outcome) = raised(alloc, asked, bump, &all_of(alloc, kept))?;
+    match ending {
+        Ending::Written => write_version(alloc, writer, outcome.as_ref(), options.json)?,
+        Ending::Nothing => write_end(writer, options.json, true)?,
+        Ending::Misused | Ending::Refused | Ending::Unexplained => (),
+    }
+    Ok(ending)
 }
 
 /// The versions that are kept if all are.
-fn all_of(kept: Kept) -> Vec<Version>
-    requires { AreAllKept kept }
-    ensures { (is_json : Bool) (versions : List VersionValue) (before : List ℕ)
-        → IsKept Listings.Ordered is_json versions kept before → result.items ≡ versions }
+fn all_of(alloc: Global, kept: Kept) -> Vec<Version>
+    ensures { (versions : List VersionValue) → IsKept Listings.Ordered versions kept → result.items ≡ versions }
 {
     match kept {
         Kept::All(versions) => versions,
-        Kept::Least(_) | Kept::Greatest(_) | Kept::Written(_) => unreachable!(),
+        Kept::Least(_) | Kept::Greatest(_) | Kept::Written(_) => Vec::new(alloc),
     }
+}
+
+/// The version after the increment, or `None` if there is none, and how the program ends: an increment is made of a single
+/// version, without a range.
+fn raised(
+    alloc: Global,
+    asked: &Asked<'_>,
+    bump: Bump,
+    versions: &[Version],
+) -> Result<(Ending, Option<Version>), CommandError>
+    ensures raised { IfOk result (λ raised. IsRaised bump (text_value asked.now.identifier) asked.now.base
+        (map text_value asked.now.ranges.items) versions.now raised.0 raised.1) }
+    ensures identifier { IsErrOf result CommandError.Identifier → IsNoIdentifier (text_value asked.now.identifier) }
+{
+    if is_nothing(versions) {
+        return Ok((Ending::Nothing, None));
+    }
+    if !is_nothing(&asked.ranges) {
+        return Ok((Ending::Misused, None));
+    }
+    let Some(version) = single(versions) else {
+        return Ok((Ending::Misused, None));
+    };
+    let outcome = incremented(alloc, version, bump, asked.identifier, asked.base)?;
+    Ok((Ending::Written, outcome))
 }
 
 /// Returns `true` if the list is empty.

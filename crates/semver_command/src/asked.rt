@@ -1,16 +1,9 @@
-//! The request of a command line.
-ghost use Rattle.std.specs.Prelude.{◌≡◌, IfOk, OnOk, map, string_bytes};
-ghost use Rattle.semver_command.specs.Arguments.{argument_value, text_value};
-ghost use Rattle.semver_command.specs.Asked as AskedRules;
-ghost use Rattle.semver_command.specs.Asked.{IsAsked, asked_value, with_argument};
-
-use crate::arguments::{Argument, Words, first_argument};
-use crate::name::{Flag, Setting};
+//! The request of a command line, as npm's command reads it.
 use npm_semver::{Bump, IdentifierBase};
 use std::alloc::{AllocError, Global};
 
 /// Which of the versions that are left are written.
-#[derive(Clone, Copy, Debug, PartialEq, Eq, Drop)]
+#[derive(Clone, Copy, Drop)]
 pub enum Listing {
     /// All of them, in order of precedence.
     Ordered,
@@ -23,9 +16,10 @@ pub enum Listing {
 }
 
 /// The options without a value.
-#[derive(Clone, Copy, Debug, PartialEq, Eq, Drop)]
+#[derive(Clone, Copy, Drop)]
 pub struct Options {
     pub help: bool,
+    /// The last one that is given.
     pub listing: Listing,
     /// As a JSON array of strings.
     pub json: bool,
@@ -44,51 +38,88 @@ pub struct Options {
 }
 
 impl Options {
-    /// Returns these options with one more.
-    fn with(self, flag: Flag) -> Options
-        ensures { result ≡ AskedRules.with_flag self flag }
-    {
-        match flag {
-            Flag::Reverse => Options {
-                reverse: true,
-                ..self
-            },
-            Flag::Loose => Options {
-                loose: true,
-                ..self
-            },
-            Flag::IncludePrerelease => Options {
-                include_prerelease: true,
-                ..self
-            },
-            Flag::Coerce => Options {
-                coerce: true,
-                ..self
-            },
-            Flag::Rtl => Options { rtl: true, ..self },
-            Flag::Ltr => Options { rtl: false, ..self },
-            Flag::Unsorted => self.with_listing(Listing::Unsorted),
-            Flag::Least => self.with_listing(Listing::Least),
-            Flag::Greatest => self.with_listing(Listing::Greatest),
-            Flag::Json => Options { json: true, ..self },
-            Flag::Explain => Options {
-                explain: true,
-                ..self
-            },
-            Flag::Help => Options { help: true, ..self },
+    /// Sets the option that this word names. Returns `false` if it names none.
+    fn set(&mut self, name: &str) -> bool {
+        match name {
+            "-l" | "--loose" => self.loose = true,
+            "-p" | "--include-prerelease" => self.include_prerelease = true,
+            "-c" | "--coerce" => self.coerce = true,
+            "--rtl" => self.rtl = true,
+            "--ltr" => self.rtl = false,
+            "-rv" | "-rev" | "--rev" | "--reverse" => self.reverse = true,
+            "-h" | "--help" | "-?" => self.help = true,
+            "--unsorted" => self.listing = Listing::Unsorted,
+            "--least" => self.listing = Listing::Least,
+            "--greatest" => self.listing = Listing::Greatest,
+            "--json" => self.json = true,
+            "--explain" => self.explain = true,
+            _ => return false,
         }
-    }
-
-    /// Returns these options with another listing.
-    fn with_listing(self, listing: Listing) -> Options
-        ensures { result ≡ AskedRules.with_listing self listing }
-    {
-        Options { listing, ..self }
+        true
     }
 }
 
+/// The words that are left: the rest of one that was divided at its `=`, and those after it.
+#[derive(Clone, Copy, Drop)]
+struct Words<'a> {
+    first: Option<&'a str>,
+    rest: &'a [String],
+}
+
+impl<'a> Words<'a> {
+    /// Takes the next word.
+    fn take(&mut self) -> Option<&'a str> {
+        if let Some(first) = self.first {
+            self.first = None;
+            return Some(first);
+        }
+        let (first, rest) = self.rest.split_first()?;
+        self.rest = rest;
+        Some(first.as_str())
+    }
+
+    /// Takes the next word up to its first `=`. The text after the `=` is then the next word: `--inc=major` is `--inc major`.
+    fn take_name(&mut self) -> Option<&'a str> {
+        let word = self.take()?;
+        match word.split_once('=') {
+            Some((name, value)) => {
+                self.first = Some(value);
+                Some(name)
+            }
+            None => Some(word),
+        }
+    }
+
+    /// Takes the next word if it names the level of an increment; if not, the level is the patch.
+    fn take_level(&mut self) -> Bump {
+        let mut later = *self;
+        let level = level_of(later.take().unwrap_or(""));
+        match level {
+            Some(level) => {
+                *self = later;
+                level
+            }
+            None => Bump::Patch,
+        }
+    }
+}
+
+/// The level of an increment that the word names.
+fn level_of(word: &str) -> Option<Bump> {
+    Some(match word {
+        "major" => Bump::Major,
+        "minor" => Bump::Minor,
+        "patch" => Bump::Patch,
+        "prerelease" => Bump::PreRelease,
+        "premajor" => Bump::PreMajor,
+        "preminor" => Bump::PreMinor,
+        "prepatch" => Bump::PrePatch,
+        _ => return None,
+    })
+}
+
 /// The request of a command line.
-#[derive(Debug, Drop)]
+#[derive(Drop)]
 pub struct Asked<'a> {
     pub options: Options,
     pub increment: Option<Bump>,
@@ -103,9 +134,7 @@ pub struct Asked<'a> {
 
 impl<'a> Asked<'a> {
     /// Returns the request without arguments.
-    fn nothing(alloc: Global) -> Asked<'a>
-        ensures { asked_value result ≡ AskedRules.nothing_asked }
-    {
+    fn nothing(alloc: Global) -> Asked<'a> {
         Asked {
             options: Options {
                 help: false,
@@ -126,46 +155,35 @@ impl<'a> Asked<'a> {
         }
     }
 
-    /// Adds one more argument to the request.
-    fn add(&mut self, argument: Argument<'a>) -> Result<(), AllocError>
-        ensures { OnOk result (asked_value self.new ≡ with_argument (asked_value self.old) (argument_value argument.entry)) }
-    {
-        match argument {
-            Argument::Alone(flag) => self.options = self.options.with(flag),
-            Argument::Increment(level) => self.increment = Some(level),
-            Argument::Valued(setting, text) => self.set(setting, text)?,
-        }
-        Ok(())
-    }
-
-    /// Adds an option with its value to the request.
-    fn set(&mut self, setting: Setting, text: Option<&'a str>) -> Result<(), AllocError>
-        ensures { OnOk result (asked_value self.new
-            ≡ AskedRules.with_setting (asked_value self.old) setting (text_value text.entry)) }
-    {
-        match setting {
-            Setting::Version => {
-                if let Some(version) = text {
+    /// Adds the argument that begins with this name, and takes its value from the words. The value is the next word whole,
+    /// so `--range=>=1.2` has the range `>=1.2`. A name that is no option is a version, whatever it is.
+    fn add(&mut self, name: &'a str, words: &mut Words<'a>) -> Result<(), AllocError> {
+        match name {
+            "-r" | "--range" => self.ranges.push(words.take())?,
+            "-i" | "--inc" | "--increment" => self.increment = Some(words.take_level()),
+            "--preid" => self.identifier = words.take(),
+            "-n" => self.base = base_of(words.take()),
+            "-v" | "--version" => {
+                if let Some(version) = words.take() {
                     self.versions.push(version)?;
                 }
             }
-            Setting::Range => self.ranges.push(text)?,
-            Setting::Identifier => self.identifier = text,
-            Setting::Base => self.base = base_of(text),
+            _ => {
+                if !self.options.set(name) {
+                    self.versions.push(name)?;
+                }
+            }
         }
         Ok(())
     }
 }
 
 /// The number that a new prerelease begins with, by the text after `-n`.
-fn base_of(text: Option<&str>) -> IdentifierBase
-    ensures { result ≡ AskedRules.base_of (text_value text.entry) }
-{
+fn base_of(text: Option<&str>) -> IdentifierBase {
     match text {
-        None => IdentifierBase::Zero,
         Some("false") => IdentifierBase::Absent,
         Some("1") => IdentifierBase::One,
-        Some(_) => IdentifierBase::Zero,
+        Some(_) | None => IdentifierBase::Zero,
     }
 }
 
@@ -180,18 +198,17 @@ fn base_of(text: Option<&str>) -> IdentifierBase
 /// # Memory
 ///
 /// Allocates the lists of versions and of ranges. The texts stay in the words.
-pub fn read_arguments<'a>(alloc: Global, words: &'a [String]) -> Result<Asked<'a>, AllocError>
-    ensures { IfOk result (λ asked. IsAsked (map string_bytes words.now) (asked_value asked)) }
-{
+pub fn read_arguments<'a>(alloc: Global, words: &'a [String]) -> Result<Asked<'a>, AllocError> {
     let mut asked = Asked::nothing(alloc);
-    let mut left = Words::new(words);
-    'arguments: loop {
-        match first_argument(left) {
-            None => return Ok(asked),
-            Some((argument, rest)) => {
-                asked.add(argument)?;
-                left = rest;
-            }
-        }
+    let mut left = Words {
+        first: None,
+        rest: words,
+    };
+    for _ in 0..u64::MAX {
+        let Some(name) = left.take_name() else {
+            break;
+        };
+        asked.add(name, &mut left)?;
     }
+    Ok(asked)
 }

@@ -1,7 +1,7 @@
 //! The version of a text that satisfies all ranges.
 ghost use Rattle.std.specs.Prelude.{[], ◌∷◌, IfOk, MatchOption, OnOk};
 ghost use Rattle.semver_command.specs.Chosen.{IsChosen, IsLeftOut};
-ghost use Rattle.semver_command.specs.Private.Gathering.{Gathers};
+ghost use Rattle.semver_command.specs.Private.Gathering.{Grows};
 ghost use Rattle.semver_command.specs.Ranges.{IsInAll};
 
 use crate::asked::Options;
@@ -23,8 +23,8 @@ pub fn add_chosen<W: Write>(
     kept: &mut Kept,
     writer: &mut W,
 ) -> Result<(), Stopped>
-    ensures { OnOk result (Gathers options (IsInAll options.include_prerelease ranges.now) (text.now ∷ [])
-        kept.old kept.new (W.contents writer.old) (W.contents writer.new)) }
+    ensures { OnOk result (Grows options (IsInAll options.include_prerelease ranges.now) (text.now ∷ [])
+        kept.old kept.new) }
 {
     match chosen_version(alloc, text, options, ranges)? {
         Some(version) => kept.add(alloc, version, options.json, writer),

@@ -8,7 +8,7 @@ use std::alloc::AllocError;
 use thiserror::Error;
 
 /// Why the program did not do what it was asked for.
-#[derive(Debug, PartialEq, Eq, Drop, Error)]
+#[derive(Debug, Drop, Error)]
 pub enum CommandError {
     /// The argument at this place, from 1, is not in UTF-8.
     #[error("argument {0} is not in UTF-8")]

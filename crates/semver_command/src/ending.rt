@@ -1,7 +1,7 @@
 //! How the program ends.
 
 /// How the program ends.
-#[derive(Clone, Copy, Debug, PartialEq, Eq, Drop)]
+#[derive(Clone, Copy, PartialEq, Drop)]
 pub enum Ending {
     /// A text was written.
     Written,

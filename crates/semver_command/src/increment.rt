@@ -1,17 +1,14 @@
 //! The version after an increment.
-ghost use Rattle.std.specs.Prelude.{◌≡◌, ◌≢◌, ◌⊎◌, IfErr, IfOk, IsErrOf, OnOk, Option, option_map};
-ghost use Rattle.std.specs.Io.KnownBytes.{Appends};
+ghost use Rattle.std.specs.Prelude.{◌≡◌, ◌≢◌, ◌⊎◌, IfErr, IfOk, IsErrOf, option_map};
 ghost use Rattle.semver_texts.specs.Identifier.{value_of};
-ghost use Rattle.semver_command.specs.Arguments.{text_value};
-ghost use Rattle.semver_command.specs.Increment.{IsIdentifierGiven, IsIncremented, IsNoIdentifier, incremented_text, null_text};
+ghost use Rattle.semver_command.specs.Increment.{IsIdentifierGiven, IsIncremented, IsNoIdentifier};
+ghost use Rattle.semver_command.specs.Ranges.{text_value};
 
 use crate::command_error::CommandError;
 use crate::stopped::Stopped;
-use crate::writing::{write_end, write_item, write_text};
 use node_semver::{Identifier, Version};
 use npm_semver::{Bump, BumpError, IdentifierBase, inc, read_identifier};
 use std::alloc::Global;
-use std::io::Write;
 
 /// Returns the version after an increment, or `None` if there is none.
 pub fn incremented(
@@ -44,32 +41,6 @@ fn stop_without_memory(error: BumpError) -> Result<(), Stopped>
         BumpError::OutOfMemory => Err(Stopped::Memory),
         BumpError::NoIdentifier | BumpError::SameIdentifier | BumpError::NumberTooLarge => Ok(()),
     }
-}
-
-/// Writes the version, or `null` if there is none.
-pub fn write_incremented<W: Write>(
-    alloc: Global,
-    writer: &mut W,
-    version: Option<&Version>,
-    is_json: bool,
-) -> Result<(), Stopped>
-    ensures { OnOk result (Appends (W.contents writer.old) (W.contents writer.new)
-        (incremented_text is_json (option_map (λ v. v.now) version.entry))) }
-{
-    match version {
-        Some(version) => {
-            write_item(alloc, writer, version, is_json, true)?;
-            write_end(writer, is_json, false)
-        }
-        None => write_text(writer, null_text(is_json)),
-    }
-}
-
-/// What is written in the place of a version.
-fn null_text(is_json: bool) -> &'static [u8]
-    ensures { result.now ≡ null_text is_json }
-{
-    if is_json { b"[null]\n" } else { b"null\n" }
 }
 
 /// The identifier of the text after `--preid`; the empty text means none.

@@ -1,16 +1,10 @@
 //! A line of standard input.
-ghost use Rattle.std.specs.Prelude.{◌≡◌, ◌++◌, ◌∷◌, [], IfOk};
-ghost use Rattle.std.specs.Bool.{MatchBool};
-ghost use Rattle.std.specs.Io.{StopsAt};
-ghost use Rattle.std.specs.Io.Buffered.{reader_remaining};
-ghost use Rattle.semver_command.specs.Input.{HasNoNewline};
-ghost use Rattle.semver_command.specs.Private.Reading.{IsLineRead};
 
 use crate::stopped::Stopped;
 use std::io::{BufRead, BufReader, ErrorKind, Read};
 
 /// What was read.
-#[derive(Clone, Copy, Debug, PartialEq, Eq, Drop)]
+#[derive(Clone, Copy, Drop)]
 pub enum InputLine {
     /// A line, and the newline byte that ends it.
     Ended,
@@ -24,10 +18,7 @@ pub enum InputLine {
 pub fn read_line<R: Read>(
     reader: &mut BufReader<R>,
     line: &mut Vec<u8>,
-) -> Result<InputLine, Stopped>
-    ensures { IfOk result (λ read. IsLineRead read line.new.items
-        (reader_remaining R.remaining reader.old) (reader_remaining R.remaining reader.new)) }
-{
+) -> Result<InputLine, Stopped> {
     line.clear();
     match reader.read_until(b'\n', line) {
         Ok(0) => Ok(InputLine::End),
@@ -41,12 +32,7 @@ pub fn read_line<R: Read>(
 }
 
 /// Takes the newline byte from the end of a line, if it is there.
-fn take_newline(line: &mut Vec<u8>) -> bool
-    requires { StopsAt line.old.items 10 }
-    ensures { MatchBool result
-        (HasNoNewline line.new.items × (line.old.items ≡ line.new.items ++ (10 ∷ [])))
-        (HasNoNewline line.new.items × (line.new.items ≡ line.old.items)) }
-{
+fn take_newline(line: &mut Vec<u8>) -> bool {
     let Some(last) = line.len().checked_sub(1) else {
         return false;
     };

@@ -1,12 +1,15 @@
 //! What is kept of the versions that were read.
-ghost use Rattle.std.specs.Prelude.{◌++◌, ◌∷◌, [], List, OnOk, Bool, IsTrue, ◌↔◌};
+ghost use Rattle.std.specs.Prelude.{◌≡◌, ◌≢◌, ◌++◌, ◌∷◌, [], List, OnOk, IsTrue, ◌↔◌};
 ghost use Rattle.std.specs.Bool.{MatchBool};
 ghost use Rattle.std.specs.Option.{option_copied};
 ghost use Rattle.node_semver.specs.Versions.{VersionValue};
-ghost use Rattle.semver_command.specs.Listed.{IsBestOf, IsBetter};
-ghost use Rattle.semver_command.specs.Private.Gathering.{Adds, IsBest, IsKept};
+ghost use Rattle.semver_command.specs.Kept.{AreInOrder, IsBest, IsBestOf, IsBetter, IsKept, IsListed, ending_of};
+ghost use Rattle.semver_command.specs.declared.asked.Listing.{Listing};
+ghost use Rattle.semver_command.specs.declared.asked.Options.{Options};
 
+use crate::answer::is_nothing;
 use crate::asked::Listing;
+use crate::ending::Ending;
 use crate::stopped::Stopped;
 use crate::writing::write_item;
 use node_semver::Version;
@@ -15,7 +18,7 @@ use std::cmp::Ordering;
 use std::io::Write;
 
 /// What is kept of the versions that were read.
-#[derive(Debug, Drop)]
+#[derive(Drop)]
 pub enum Kept {
     /// All of them.
     All(Vec<Version>),
@@ -30,7 +33,7 @@ pub enum Kept {
 impl Kept {
     /// Returns the value that is kept before the first version.
     pub fn new(alloc: Global, listing: Listing) -> Kept
-        ensures { (is_json : Bool) → IsKept listing is_json [] result [] }
+        ensures { IsKept listing [] result }
     {
         match listing {
             Listing::Ordered => Kept::All(Vec::new(alloc)),
@@ -48,11 +51,15 @@ impl Kept {
         is_json: bool,
         writer: &mut W,
     ) -> Result<(), Stopped>
-        ensures { OnOk result (Adds is_json (version ∷ []) self.old self.new
-            (W.contents writer.old) (W.contents writer.new)) }
+        ensures { OnOk result ((listing : Listing) (versions : List VersionValue)
+            → IsKept listing versions self.old → IsKept listing (versions ++ (version ∷ [])) self.new) }
     {
         match self {
-            Kept::All(versions) => versions.push(version).map_err(|_| Stopped::Memory)?,
+            Kept::All(versions) => {
+                if versions.push(version).is_err() {
+                    return Err(Stopped::Memory);
+                }
+            }
             Kept::Least(best) => keep_best(best, version, true),
             Kept::Greatest(best) => keep_best(best, version, false),
             Kept::Written(is_first) => {
@@ -61,6 +68,52 @@ impl Kept {
             }
         }
         Ok(())
+    }
+
+    /// Puts the versions in ascending order of precedence, or in descending order.
+    pub fn put_in_order(&mut self, reverse: bool)
+        ensures { (options : Options) (versions : List VersionValue) → IsKept options.listing versions self.old
+            → options.reverse ≡ reverse → IsListed options versions self.new }
+    {
+        match self {
+            Kept::All(versions) => put_in_order(versions, reverse),
+            Kept::Least(_) | Kept::Greatest(_) | Kept::Written(_) => {}
+        }
+    }
+
+    /// Returns `true` if there was no version.
+    fn is_nothing(&self) -> bool
+        ensures { (options : Options) (versions : List VersionValue)
+            → IsListed options versions self.now → MatchBool result (versions ≡ []) (versions ≢ []) }
+    {
+        match self {
+            Kept::All(versions) => is_nothing(versions),
+            Kept::Least(best) => best.is_none(),
+            Kept::Greatest(best) => best.is_none(),
+            Kept::Written(is_nothing) => *is_nothing,
+        }
+    }
+
+    /// Returns `Nothing` if there was no version.
+    pub fn ending(&self) -> Ending
+        ensures { (options : Options) (versions : List VersionValue)
+            → IsListed options versions self.now → result ≡ ending_of versions }
+    {
+        if self.is_nothing() {
+            Ending::Nothing
+        } else {
+            Ending::Written
+        }
+    }
+}
+
+/// Puts the versions in ascending order of precedence, or in descending order.
+fn put_in_order(versions: &mut Vec<Version>, reverse: bool)
+    ensures { AreInOrder reverse versions.old.items versions.new.items }
+{
+    versions.sort_unstable();
+    if reverse {
+        versions.reverse();
     }
 }
 

@@ -7,7 +7,6 @@ ghost use Rattle.std.specs.Prelude.{◌≡◌, IfErr, IfOk, false, true};
 ghost use Rattle.semver_command.specs.Status.{status_of_ending};
 
 mod answer;
-mod arguments;
 mod asked;
 mod chosen;
 mod command_error;
@@ -18,8 +17,6 @@ mod help;
 mod increment;
 mod input_line;
 mod kept;
-mod lines;
-mod name;
 mod opened;
 mod ranges;
 mod refused_text;

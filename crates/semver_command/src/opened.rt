@@ -3,8 +3,8 @@ ghost use Rattle.std.specs.Prelude.{◌≡◌, ◌∷◌, [], ⊤, IfOk};
 ghost use Rattle.semver_cuts.specs.Ends.{Ends};
 ghost use Rattle.node_semver.specs.Ranges.{IsRangeCut, IsRangeEnd, IsRangeSet, Opens};
 ghost use Rattle.node_semver.specs.Versions.{VersionValue, least_of, release};
-ghost use Rattle.semver_command.specs.Opened.{AreOpened};
-ghost use Rattle.semver_command.specs.Private.Explaining.{AreBoth, IsFound, prereleases_set, releases_of};
+ghost use Rattle.semver_command.specs.Opened.{AreOpened, releases_of};
+ghost use Rattle.semver_command.specs.Private.Opening.{AreBoth, IsFound, prereleases_set};
 ghost use Rattle.node_semver.specs.Cuts.{Before};
 
 use node_semver::{Range, Version};
@@ -15,7 +15,7 @@ use std::cmp::Ordering;
 use std::slice;
 
 /// The releases whose prereleases satisfy a set, in ascending order: two at most, since a set has two ends.
-#[derive(Debug, Drop)]
+#[derive(Drop)]
 pub enum Opened {
     Nothing,
     One(Version),

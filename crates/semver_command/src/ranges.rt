@@ -2,8 +2,7 @@
 ghost use Rattle.std.specs.Prelude.{◌≡◌, ◌↔◌, IfOk, IsTrue, map};
 ghost use Rattle.npm_semver.specs.NpmRanges.{NpmOptions};
 ghost use Rattle.node_semver.specs.Versions.{VersionValue};
-ghost use Rattle.semver_command.specs.Arguments.{text_value};
-ghost use Rattle.semver_command.specs.Ranges.{IsAdmittedBy, IsAdmittedByAll, IsIn, IsInAll, range_value};
+ghost use Rattle.semver_command.specs.Ranges.{IsAdmittedBy, IsAdmittedByAll, IsIn, IsInAll, range_value, text_value};
 
 use node_semver::{Range, Version};
 use npm_semver::{NpmOptions, parse_range};

@@ -1,7 +1,4 @@
 //! A range text that is refused, with a mark at its fault.
-ghost use Rattle.std.specs.Prelude.{◌≡◌, IfOk, drop, length, replicate, take};
-ghost use Rattle.semver_command.specs.RefusedText.{refused_lines};
-
 use command_lines::push_shown_bytes;
 use std::alloc::{AllocError, Global};
 
@@ -15,13 +12,12 @@ use std::alloc::{AllocError, Global};
 /// # Examples
 ///
 /// `>=1.2 foo` with offset 6: this line, and the line `      ^`.
-pub fn lines_of_refused(alloc: Global, text: &str, offset: usize) -> Result<Vec<u8>, AllocError>
-    ensures { IfOk result (λ lines. lines.items ≡ refused_lines text.now offset) }
-{
+pub fn lines_of_refused(alloc: Global, text: &str, offset: usize) -> Result<Vec<u8>, AllocError> {
     let (before, after) = parted(text.as_bytes(), offset);
     let mut lines = Vec::new(alloc);
     push_shown_bytes(&mut lines, before)?;
-    let blanks = blanks(alloc, &lines)?;
+    let mut blanks = Vec::new(alloc);
+    blanks.resize(lines.len(), b' ')?;
     push_shown_bytes(&mut lines, after)?;
     lines.push(b'\n')?;
     lines.extend_from_slice(&blanks)?;
@@ -30,21 +26,9 @@ pub fn lines_of_refused(alloc: Global, text: &str, offset: usize) -> Result<Vec<
 }
 
 /// The bytes before the offset, and those after it. All are before it if there are fewer.
-fn parted(text: &[u8], offset: usize) -> (&[u8], &[u8])
-    ensures before { result.0.now ≡ take offset text.now }
-    ensures after { result.1.now ≡ drop offset text.now }
-{
+fn parted(text: &[u8], offset: usize) -> (&[u8], &[u8]) {
     if offset > text.len() {
         return (text, &[]);
     }
     text.split_at(offset)
-}
-
-/// As many blanks as the line has bytes.
-fn blanks(alloc: Global, line: &[u8]) -> Result<Vec<u8>, AllocError>
-    ensures { IfOk result (λ blanks. blanks.items ≡ replicate (length line.now) 32) }
-{
-    let mut blanks = Vec::new(alloc);
-    blanks.resize(line.len(), b' ')?;
-    Ok(blanks)
 }

@@ -1,18 +1,11 @@
 //! What the words of the command line and standard input are replied with.
-ghost use Rattle.std.specs.Prelude.{◌≡◌, IfOk, IsErrOf, map, string_bytes};
-ghost use Rattle.std.specs.Io.Buffered.{reader_remaining};
-ghost use Rattle.std.specs.Io.KnownBytes.{Appends};
-ghost use Rattle.semver_command.specs.Reply.{Refuses, Replies};
-
 use crate::answer::{answer, is_nothing};
 use crate::asked::read_arguments;
 use crate::command_error::CommandError;
 use crate::ending::Ending;
 use crate::explained::explain;
-use crate::gathered::flush;
 use crate::help::HELP;
-use crate::stopped::Stopped;
-use crate::writing::write_text;
+use crate::writing::{flush, write_text};
 use std::alloc::Global;
 use std::io::{BufReader, Read, Write};
 
@@ -49,13 +42,7 @@ pub fn run<R: Read, W: Write, E: Write>(
     reader: &mut BufReader<R>,
     writer: &mut W,
     errors: &mut E,
-) -> Result<Ending, CommandError>
-    ensures reply { IfOk result (Replies (map string_bytes words.now) (reader_remaining R.remaining reader.old)
-        (reader_remaining R.remaining reader.new) (W.contents writer.old) (W.contents writer.new)
-        (E.contents errors.old) (E.contents errors.new)) }
-    ensures identifier { IsErrOf result CommandError.Identifier → Refuses (map string_bytes words.now)
-        (reader_remaining R.remaining reader.old) (reader_remaining R.remaining reader.new) }
-{
+) -> Result<Ending, CommandError> {
     let ending = reply(alloc, words, reader, writer, errors)?;
     flush(writer)?;
     Ok(ending)
@@ -68,31 +55,14 @@ fn reply<R: Read, W: Write, E: Write>(
     reader: &mut BufReader<R>,
     writer: &mut W,
     errors: &mut E,
-) -> Result<Ending, CommandError>
-    ensures reply { IfOk result (Replies (map string_bytes words.now) (reader_remaining R.remaining reader.old)
-        (reader_remaining R.remaining reader.new) (W.contents writer.old) (W.contents writer.new)
-        (E.contents errors.old) (E.contents errors.new)) }
-    ensures identifier { IsErrOf result CommandError.Identifier → Refuses (map string_bytes words.now)
-        (reader_remaining R.remaining reader.old) (reader_remaining R.remaining reader.new) }
-{
-    if is_nothing(words) {
-        return Ok(help(writer)?);
-    }
+) -> Result<Ending, CommandError> {
     let asked = read_arguments(alloc, words)?;
-    if asked.options.help {
-        return Ok(help(writer)?);
+    if is_nothing(words) || asked.options.help {
+        write_text(writer, HELP.as_bytes())?;
+        return Ok(Ending::Written);
     }
     if asked.options.explain {
         return Ok(explain(alloc, &asked, writer, errors)?);
     }
     answer(alloc, &asked, reader, writer)
-}
-
-/// Writes the text about the program.
-fn help<W: Write>(writer: &mut W) -> Result<Ending, Stopped>
-    ensures { IfOk result (λ ending. (ending ≡ Ending.Written)
-        × Appends (W.contents writer.old) (W.contents writer.new) HELP.now) }
-{
-    write_text(writer, HELP.as_bytes())?;
-    Ok(Ending::Written)
 }

@@ -14,7 +14,11 @@ pub fn words_of<E: Env>(alloc: Global, env: &E) -> Result<Vec<String>, CommandEr
             break;
         };
         match String::from_utf8(bytes) {
-            Ok(word) => words.push(word).map_err(|_| Stopped::Memory)?,
+            Ok(word) => {
+                if words.push(word).is_err() {
+                    return Err(CommandError::Stopped(Stopped::Memory));
+                }
+            }
             Err(_) => return Err(CommandError::NoUtf8(place)),
         }
     }

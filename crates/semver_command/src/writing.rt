@@ -1,81 +1,82 @@
 //! Writing versions, a line each or as a JSON array of strings.
-ghost use Rattle.std.specs.Prelude.{◌≡◌, OnOk};
-ghost use Rattle.std.specs.Io.KnownBytes.{Appends};
-ghost use Rattle.semver_texts.specs.Print.{version_text};
-ghost use Rattle.semver_command.specs.Lines.{array_end, array_mark, end_text, item_text, string_text};
-
 use crate::stopped::Stopped;
 use node_semver::Version;
 use std::alloc::Global;
 use std::io::Write;
 
 /// Writes a text.
-pub fn write_text<W: Write>(writer: &mut W, text: &[u8]) -> Result<(), Stopped>
-    ensures { OnOk result (Appends (W.contents writer.old) (W.contents writer.new) text.now) }
-{
+pub fn write_text<W: Write>(writer: &mut W, text: &[u8]) -> Result<(), Stopped> {
     match writer.write_all(text) {
         Ok(()) => Ok(()),
         Err(_) => Err(Stopped::Write),
     }
 }
 
-/// Writes a version.
-fn write_version<W: Write>(alloc: Global, writer: &mut W, version: &Version) -> Result<(), Stopped>
-    ensures { OnOk result (Appends (W.contents writer.old) (W.contents writer.new) (version_text version.now)) }
-{
-    let text = format!(in alloc; "{version}")?;
-    write_text(writer, text.as_bytes())
+/// Writes the bytes in the writer's buffer.
+pub fn flush<W: Write>(writer: &mut W) -> Result<(), Stopped> {
+    match writer.flush() {
+        Ok(()) => Ok(()),
+        Err(_) => Err(Stopped::Write),
+    }
 }
 
-/// Writes a version as a string of JSON.
-fn write_string<W: Write>(alloc: Global, writer: &mut W, version: &Version) -> Result<(), Stopped>
-    ensures { OnOk result (Appends (W.contents writer.old) (W.contents writer.new) (string_text version.now)) }
-{
-    write_text(writer, b"\"")?;
-    write_version(alloc, writer, version)?;
-    write_text(writer, b"\"")
+/// The texts before and after a version: a line, or an element of a JSON array. No character of a version is escaped in JSON.
+fn marks(is_json: bool, is_first: bool) -> (&'static str, &'static str) {
+    match (is_json, is_first) {
+        (false, _) => ("", "\n"),
+        (true, true) => ("[\"", "\""),
+        (true, false) => (",\"", "\""),
+    }
 }
 
-/// The text before an element of a JSON array.
-fn array_mark(is_first: bool) -> &'static [u8]
-    ensures { result.now ≡ array_mark is_first }
-{
-    if is_first { b"[" } else { b"," }
-}
-
-/// The text after the last element.
-fn array_end(is_empty: bool) -> &'static [u8]
-    ensures { result.now ≡ array_end is_empty }
-{
-    if is_empty { b"[]\n" } else { b"]\n" }
-}
-
-/// Writes one version: a line, or an element of a JSON array.
+/// Writes one version.
 pub fn write_item<W: Write>(
     alloc: Global,
     writer: &mut W,
     version: &Version,
     is_json: bool,
     is_first: bool,
-) -> Result<(), Stopped>
-    ensures { OnOk result (Appends (W.contents writer.old) (W.contents writer.new)
-        (item_text is_json is_first version.now)) }
-{
-    if is_json {
-        write_text(writer, array_mark(is_first))?;
-        return write_string(alloc, writer, version);
-    }
-    write_version(alloc, writer, version)?;
-    write_text(writer, b"\n")
+) -> Result<(), Stopped> {
+    let (before, after) = marks(is_json, is_first);
+    let text = format!(in alloc; "{before}{version}{after}")?;
+    write_text(writer, text.as_bytes())
 }
 
 /// Writes the text after the last version, also if there is none.
-pub fn write_end<W: Write>(writer: &mut W, is_json: bool, is_empty: bool) -> Result<(), Stopped>
-    ensures { OnOk result (Appends (W.contents writer.old) (W.contents writer.new) (end_text is_json is_empty)) }
-{
-    if is_json {
-        write_text(writer, array_end(is_empty))
-    } else {
-        write_text(writer, b"")
+pub fn write_end<W: Write>(writer: &mut W, is_json: bool, is_empty: bool) -> Result<(), Stopped> {
+    let end = match (is_json, is_empty) {
+        (false, _) => "",
+        (true, true) => "[]\n",
+        (true, false) => "]\n",
+    };
+    write_text(writer, end.as_bytes())
+}
+
+/// Writes the versions in the order of the list.
+pub fn write_list<W: Write>(
+    alloc: Global,
+    writer: &mut W,
+    versions: &[Version],
+    is_json: bool,
+) -> Result<(), Stopped> {
+    let mut is_first = true;
+    for version in versions {
+        write_item(alloc, writer, version, is_json, is_first)?;
+        is_first = false;
+    }
+    write_end(writer, is_json, is_first)
+}
+
+/// Writes the version, or `null` if there is none.
+pub fn write_version<W: Write>(
+    alloc: Global,
+    writer: &mut W,
+    version: Option<&Version>,
+    is_json: bool,
+) -> Result<(), Stopped> {
+    match version {
+        Some(version) => write_list(alloc, writer, std::slice::from_ref(version), is_json),
+        None if is_json => write_text(writer, b"[null]\n"),
+        None => write_text(writer, b"null\n"),
     }
 }

@@ -1,15 +1,12 @@
 -- What is known of choices that are first.
-use Rattle.std.proofs.Common.{◌≡◌, ◌≢◌, ◌⊎◌, ◌<◌, ◌∙◌, ◌==◌, ℕ, Bool, true, false, cond, List, [], ◌∷◌, Option, Some, None, IfSome, All, Contains, inl, inr, refl, ap, sym, subst}
+use Rattle.std.proofs.Common.{◌≡◌, ◌≢◌, ◌⊎◌, ◌∙◌, ◌==◌, ℕ, Bool, true, false, cond, List, [], ◌∷◌, Option, Some, None, All, Contains, inl, inr, refl, ap, sym, subst}
 use Rattle.std.proofs.lemmas.Bool.Decides.{Decides-eqb}
-use Rattle.std.proofs.lemmas.List.Elements.{All-append, All-contains, All-contains_itself, All-weaker, Contains-append_cases, Contains-append_left, Contains-append_right}
+use Rattle.std.proofs.lemmas.List.Elements.{All-contains, All-contains_itself, All-weaker, Contains-append_cases, Contains-append_left, Contains-append_right}
 use Rattle.version_solving.specs.declared.demand.Demand.{Demand}
 use Rattle.version_solving.specs.declared.outcome.Choice.{Choice}
-use Rattle.version_solving.specs.Solving.{AreFirst, Fits, Holds, IsGrounded, IsNeeded, IsTheSelection, Keeps, NoneFits, Problem, Selection, demands_so_far, next_name, selection_of}
+use Rattle.version_solving.specs.Solving.{AreFirst, Holds, IsGrounded, IsNeeded, IsTheSelection, Keeps, Problem, Selection, demands_so_far, next_name, selection_of}
 use Rattle.version_solving.specs.Solving.IsNeeded.{by_candidate, by_root}
-use Rattle.version_solving.specs.declared.path.Try.{Try}
-use Rattle.version_solving.specs.Private.Paths.{Allows, IsGathered, IsOpen, choices_of}
-use Rattle.version_solving.specs.Private.Terms.{IsIn, Meets, is_of}
-use Rattle.version_solving.specs.declared.terms.Term.{Term}
+use Rattle.version_solving.specs.Private.Paths.{Allows, AreThere}
 use Rattle.version_solving.proofs.OpenDemands.{needed_has, open_found}
 
 -- ---- what a list of choices selects
@@ -43,102 +40,18 @@ selected_cases choice earlier name candidate is = by_kind (choice.name == name) 
       inl ((Decides-eqb choice.name name).0 same, cc)
   by_kind false other = inr (sym (ap (λ b. cond b (Some choice.candidate) (selection_of earlier name)) other) ∙ is)
 
+pub keeps_more : (s : Selection) (choices : List Choice) (choice : Choice) → Keeps s choices → s choice.name ≡ Some choice.candidate
+    → Keeps s (choice ∷ choices)
+keeps_more s choices choice keeps has name candidate is = by_case (selected_cases choice choices name candidate is) where
+  by_case : ((choice.name ≡ name) × (choice.candidate ≡ candidate)) ⊎ (selection_of choices name ≡ Some candidate) → s name ≡ Some candidate
+  by_case (inl same) = sym (ap s same.0) ∙ (has ∙ ap Some same.1)
+  by_case (inr old) = keeps name candidate old
+
 -- ---- a selection that fits and keeps the choices
 
 module _ (p : Problem) where
   pub free_of : (earlier : List Choice) (name : ℕ) → next_name p earlier ≡ Some name → selection_of earlier name ≡ None
   free_of earlier name next = (open_found (selection_of earlier) (demands_so_far p earlier) name next).free
-
-  module _ (s : Selection) (fits : Fits p s) where
-    -- all demands so far hold in it
-    pub all_hold : (choices : List Choice) → AreFirst p choices → Keeps s choices → All (Holds p s) (demands_so_far p choices)
-    all_hold [] first keeps = fits.root
-    all_hold (choice ∷ earlier) first keeps = All-append (Holds p s) (demands_so_far p earlier) (p.demands choice.name choice.candidate)
-        (all_hold earlier first.0 (λ name candidate is. keeps name candidate
-        (stays choice earlier (free_of earlier choice.name first.1) name candidate is)))
-        (fits.candidates choice.name choice.candidate (keeps choice.name choice.candidate (newest choice earlier)))
-
-    -- it has a candidate for the next name
-    pub next_has : (choices : List Choice) (name : ℕ) → AreFirst p choices → Keeps s choices → next_name p choices ≡ Some name
-        → (o : Option ℕ) → s name ≡ o → (candidate : ℕ) × (s name ≡ Some candidate)
-    next_has choices name first keeps next (Some candidate) is = (candidate, is)
-    next_has choices name first keeps next None is =
-        let found = open_found (selection_of choices) (demands_so_far p choices) name next in
-        let holds : Holds p s found.demand = All-contains (Holds p s) (demands_so_far p choices) found.demand (all_hold choices first keeps) found.inside in
-        let none : s found.demand.name ≡ None = ap s found.named ∙ is in
-        let limits : found.demand.needed ≡ false = rw none at holds in
-        let no : true ≡ false = sym found.needed ∙ limits in absurd (cc)
-
-    pub keeps_more : (choices : List Choice) (choice : Choice) → Keeps s choices → s choice.name ≡ Some choice.candidate → Keeps s (choice ∷ choices)
-    keeps_more choices choice keeps has name candidate is = by_case (selected_cases choice choices name candidate is) where
-      by_case : ((choice.name ≡ name) × (choice.candidate ≡ candidate)) ⊎ (selection_of choices name ≡ Some candidate) → s name ≡ Some candidate
-      by_case (inl same) = sym (ap s same.0) ∙ (has ∙ ap Some same.1)
-      by_case (inr old) = keeps name candidate old
-
-  -- ---- where none fits
-
-  -- no candidate of the next name fits, so nothing does
-  pub none_left : (choices : List Choice) (name : ℕ) → AreFirst p choices → next_name p choices ≡ Some name
-      → ((candidate : ℕ) → candidate < p.count name → NoneFits p (record { name = name; candidate = candidate } ∷ choices))
-      → NoneFits p choices
-  none_left choices name first next none s fits keeps =
-      let has = next_has s fits choices name first keeps next (s name) refl in
-      none has.0 (fits.existing name has.0 has.1) s fits
-      (keeps_more s fits choices (record { name = name; candidate = has.0 }) keeps has.1)
-
-  allows_from : (s t : Selection) → ((name candidate : ℕ) → t name ≡ Some candidate → s name ≡ Some candidate) → (d : Demand)
-      → Holds p s d → Allows p t d
-  allows_from s t keeps d holds = by_kind (t d.name) refl where
-    by_kind : (o : Option ℕ) → t d.name ≡ o → IfSome o (λ candidate. p.allows d.range candidate ≡ true)
-    by_kind None is = tt
-    by_kind (Some candidate) is =
-        let has : s d.name ≡ Some candidate = keeps d.name candidate is in
-        rw has at holds
-
-  -- a selected name has a candidate that is not allowed
-  pub not_allowed : (choices : List Choice) → AreFirst p choices
-      → (All (Allows p (selection_of choices)) (demands_so_far p choices) → ⊥) → NoneFits p choices
-  not_allowed choices first differs s fits keeps = differs (All-weaker (Holds p s) (Allows p (selection_of choices))
-      (allows_from s (selection_of choices) keeps) (demands_so_far p choices) (all_hold s fits choices first keeps))
-
-  -- ---- the choices of a path
-
-  meets_kept : (s : Selection) (choices : List Choice) → Keeps s choices → (terms : List Term) → Meets p (selection_of choices) terms → Meets p s terms
-  meets_kept s choices keeps terms meets = All-weaker (IsIn p (selection_of choices)) (IsIn p s)
-      (λ t. by_kind t (selection_of choices t.name) refl) terms meets where
-        by_kind : (t : Term) (u : Option ℕ) → selection_of choices t.name ≡ u → IsIn p (selection_of choices) t → IsIn p s t
-        by_kind t None is h = let no : ⊥ = rw is at h in absurd no
-        by_kind t (Some candidate) is h =
-            let of : is_of p t.name t.kind candidate ≡ true = rw is at h in
-            let has : s t.name ≡ Some candidate = keeps t.name candidate is in
-            rw has of
-
-  earlier_fail : (earlier : List Choice) (name candidate : ℕ) (terms : List Term) → next_name p earlier ≡ Some name
-      → IsGathered p earlier name candidate terms → (better : ℕ) → better < candidate
-      → NoneFits p (record { name = name; candidate = better } ∷ earlier)
-  earlier_fail earlier name candidate terms next gathered better small s fits keeps =
-      gathered.fails better small s fits
-      (meets_kept s earlier (λ other c is. keeps other c (stays (record { name = name; candidate = better }) earlier (free_of earlier name next) other c is)) terms gathered.met)
-      (keeps name better (newest (record { name = name; candidate = better }) earlier))
-
-  pub are_first : (tries : List Try) → IsOpen p tries → AreFirst p (choices_of tries)
-  are_first [] opened = tt
-  are_first (tried ∷ earlier) opened = (
-    are_first earlier opened.0,
-    opened.1.name,
-    earlier_fail (choices_of earlier) tried.choice.name tried.choice.candidate tried.gathered.items opened.1.name opened.1.gathered,
-  )
-
-  pub there : (tries : List Try) → IsOpen p tries → (name candidate : ℕ) → selection_of (choices_of tries) name ≡ Some candidate → candidate < p.count name
-  there [] opened name candidate is = absurd (cc)
-  there (tried ∷ earlier) opened name candidate is =
-      by_case (there earlier opened.0 name candidate) (selected_cases tried.choice (choices_of earlier) name candidate is) where
-        by_case : (selection_of (choices_of earlier) name ≡ Some candidate → candidate < p.count name)
-            → ((tried.choice.name ≡ name) × (tried.choice.candidate ≡ candidate)) ⊎ (selection_of (choices_of earlier) name ≡ Some candidate) → candidate < p.count name
-        by_case before (inl same) =
-            let there_first : tried.choice.candidate < p.count tried.choice.name = opened.2 in
-            rw (same.0, same.1) at there_first
-        by_case before (inr old) = before old
 
   -- the demands of a selected candidate are among those so far
   pub demands_within : (choices : List Choice) → AreFirst p choices → (name candidate : ℕ) → selection_of choices name ≡ Some candidate
@@ -219,25 +132,22 @@ module _ (p : Problem) where
         let allows : p.allows d.range candidate ≡ true = rw is at allow in
         rw is allows
 
-  pub selection_done : (tries : List Try) → IsOpen p tries → All (Allows p (selection_of (choices_of tries))) (demands_so_far p (choices_of tries))
-      → next_name p (choices_of tries) ≡ None → IsTheSelection p (choices_of tries)
-  selection_done tries opened allowed complete = record {
+  pub selection_done : (choices : List Choice) → AreFirst p choices → AreThere p choices
+      → All (Allows p (selection_of choices)) (demands_so_far p choices) → next_name p choices ≡ None → IsTheSelection p choices
+  selection_done choices first there allowed complete = record {
     fits = record {
-      existing = there tries opened;
-      root = each p.root (root_within (choices_of tries));
-      candidates = λ name candidate is. each (p.demands name candidate) (demands_within (choices_of tries) first name candidate is);
+      existing = there;
+      root = each p.root (root_within choices);
+      candidates = λ name candidate is. each (p.demands name candidate) (demands_within choices first name candidate is);
     };
-    grounded = grounded (choices_of tries) first;
+    grounded = grounded choices first;
     first = first;
     complete = complete;
   } where
-    first : AreFirst p (choices_of tries)
-    first = are_first tries opened
+    hold : (d : Demand) → Contains (demands_so_far p choices) d → Holds p (selection_of choices) d
+    hold d inside = holds_from (selection_of choices) d
+        (All-contains (Allows p (selection_of choices)) (demands_so_far p choices) d allowed inside)
+        (needed_has (selection_of choices) (demands_so_far p choices) complete d inside)
 
-    hold : (d : Demand) → Contains (demands_so_far p (choices_of tries)) d → Holds p (selection_of (choices_of tries)) d
-    hold d inside = holds_from (selection_of (choices_of tries)) d
-        (All-contains (Allows p (selection_of (choices_of tries))) (demands_so_far p (choices_of tries)) d allowed inside)
-        (needed_has (selection_of (choices_of tries)) (demands_so_far p (choices_of tries)) complete d inside)
-
-    each : (xs : List Demand) → ((d : Demand) → Contains xs d → Contains (demands_so_far p (choices_of tries)) d) → All (Holds p (selection_of (choices_of tries))) xs
-    each xs within = All-weaker (Contains xs) (Holds p (selection_of (choices_of tries))) (λ d inside. hold d (within d inside)) xs (All-contains_itself xs)
+    each : (xs : List Demand) → ((d : Demand) → Contains xs d → Contains (demands_so_far p choices) d) → All (Holds p (selection_of choices)) xs
+    each xs within = All-weaker (Contains xs) (Holds p (selection_of choices)) (λ d inside. hold d (within d inside)) xs (All-contains_itself xs)

@@ -1,57 +1,26 @@
--- The demands so far, with those who made them.
-use Rattle.std.proofs.Common.{◌≡◌, ◌<◌, ◌+◌, ◌++◌, ◌∙◌, ◌&&◌, ℕ, suc, zero, Bool, true, false, List, [], ◌∷◌, length, Option, Some, None, is_none, Contains, get_or, map, take, drop, arith, refl, ap, sym}
-use Rattle.std.proofs.lemmas.List.{drop_more, map-append, map_more, take-append-drop}
-use Rattle.version_solving.specs.declared.agenda.Entry.{Entry}
+-- The first open demand, along the demands so far.
+use Rattle.std.proofs.Common.{◌≡◌, ◌<◌, ◌+◌, ◌++◌, ◌∙◌, ◌&&◌, ℕ, Bool, true, false, List, [], ◌∷◌, length, Option, Some, None, is_none, get_or, take, drop, refl, ap, sym}
+use Rattle.std.proofs.lemmas.List.{drop_more, take-append-drop, take_more}
 use Rattle.version_solving.specs.declared.demand.Demand.{Demand}
-use Rattle.version_solving.specs.declared.outcome.Choice.{Choice}
-use Rattle.version_solving.specs.Solving.{Problem, Selection, demands_so_far, first_open, is_open}
-use Rattle.version_solving.specs.Private.Paths.{agenda_of, demand_of, entry_of}
+use Rattle.version_solving.specs.Solving.{Selection, first_open, is_open}
 use Rattle.version_solving.proofs.OpenDemands.{first_at, open_none-append}
 
--- ---- the demands of entries
+module _ (s : Selection) (ds : List Demand) (at : ℕ) (d : Demand) (small : at < length ds)
+    (none : first_open s (take at ds) ≡ None) where
+  split_at : ds ≡ take at ds ++ get_or ds at d ∷ drop (at + 1) ds
+  split_at = sym (take-append-drop at ds) ∙ ap (λ ys. take at ds ++ ys) (drop_more ds at d small)
 
-demands_back : (owner : Option ℕ) (ds : List Demand) → map demand_of (map (entry_of owner) ds) ≡ ds
-demands_back owner [] = refl
-demands_back owner (d ∷ ds) = ap (λ rest. d ∷ rest) (demands_back owner ds)
-
-pub demands_of_agenda : (p : Problem) (choices : List Choice) → map demand_of (agenda_of p choices) ≡ demands_so_far p choices
-demands_of_agenda p [] = demands_back None p.root
-demands_of_agenda p (choice ∷ earlier) =
-    map-append demand_of (agenda_of p earlier) (map (entry_of (Some choice.name)) (p.demands choice.name choice.candidate))
-    ∙ (ap (λ xs. xs ++ map demand_of (map (entry_of (Some choice.name)) (p.demands choice.name choice.candidate))) (demands_of_agenda p earlier)
-    ∙ ap (λ ys. demands_so_far p earlier ++ ys) (demands_back (Some choice.name) (p.demands choice.name choice.candidate)))
-
-contains_at : (es : List Entry) (e : Entry) (k : ℕ) → k < length es → get_or es k e ≡ e → Contains (map demand_of es) e.demand
-contains_at [] e k small is = absurd (omega arith)
-contains_at (x ∷ es) e zero small is = (0, omega arith, ap demand_of is)
-contains_at (x ∷ es) e (suc k) small is =
-    let rest = contains_at es e k (omega arith) is in
-    (suc rest.0, omega arith, rest.2)
-
-pub Contains-map : (es : List Entry) (e : Entry) → Contains es e → Contains (map demand_of es) e.demand
-Contains-map es e inside = contains_at es e inside.0 inside.1 inside.2
-
--- ---- the first open demand, along the entries
-
-module _ (s : Selection) (es : List Entry) (at : ℕ) (d : Entry) (small : at < length es)
-    (none : first_open s (map demand_of (take at es)) ≡ None) where
-  split_at : map demand_of es ≡ map demand_of (take at es) ++ (get_or es at d).demand ∷ map demand_of (drop (at + 1) es)
-  split_at =
-      ap (map demand_of) (sym (take-append-drop at es))
-      ∙ (map-append demand_of (take at es) (drop at es)
-      ∙ ap (λ ys. map demand_of (take at es) ++ map demand_of ys) (drop_more es at d small))
-
-  pub open_here : is_open s (get_or es at d).demand ≡ true → first_open s (map demand_of es) ≡ Some (get_or es at d).demand.name
+  pub open_here : is_open s (get_or ds at d) ≡ true → first_open s ds ≡ Some (get_or ds at d).name
   open_here is =
       ap (first_open s) split_at
-      ∙ (open_none-append s (map demand_of (take at es)) ((get_or es at d).demand ∷ map demand_of (drop (at + 1) es)) none
-      ∙ first_at s (get_or es at d).demand (map demand_of (drop (at + 1) es)) true is)
+      ∙ (open_none-append s (take at ds) (get_or ds at d ∷ drop (at + 1) ds) none
+      ∙ first_at s (get_or ds at d) (drop (at + 1) ds) true is)
 
-  pub open_further : is_open s (get_or es at d).demand ≡ false → first_open s (map demand_of (take (at + 1) es)) ≡ None
+  pub open_further : is_open s (get_or ds at d) ≡ false → first_open s (take (at + 1) ds) ≡ None
   open_further is =
-      ap (first_open s) (map_more demand_of es at d small)
-      ∙ (open_none-append s (map demand_of (take at es)) ((get_or es at d).demand ∷ []) none
-      ∙ first_at s (get_or es at d).demand [] false is)
+      ap (first_open s) (take_more ds at d small)
+      ∙ (open_none-append s (take at ds) (get_or ds at d ∷ []) none
+      ∙ first_at s (get_or ds at d) [] false is)
 
 -- ---- a demand that is not open stays so, with more choices
 

@@ -1,17 +1,12 @@
 -- Demands that are kept on the way to the culprits.
-use Rattle.std.proofs.Common.{◌≡◌, ◌⊎◌, ◌<◌, ◌≤◌, ◌+◌, ◌++◌, ◌∷◌, ◌∙◌, ℕ, List, [], All, Contains, append_assoc, drop, inl, inr, length, get_or, take, reverse, ap, arith, sym, subst}
-use Rattle.std.proofs.lemmas.List.{append-nil, reverse-append, take-append-drop, take-take, take_all, take_more}
+use Rattle.std.proofs.Common.{◌≡◌, ◌⊎◌, ◌<◌, ◌≤◌, ◌+◌, ◌++◌, ◌∷◌, ◌∙◌, ℕ, List, [], All, Contains, append_assoc, inl, inr, length, get_or, take, reverse, ap, arith, sym, subst}
+use Rattle.std.proofs.lemmas.List.{append-nil, reverse-append, take_all, take_more}
 use Rattle.std.proofs.lemmas.List.Elements.{All-head, All-tail, All-contains, All-contains_itself, All-push, All-weaker, Contains-append_cases, Contains-append_left, Contains-append_right, Contains-get_or}
 use Rattle.version_solving.specs.declared.demand.Demand.{Demand}
 use Rattle.version_solving.specs.declared.outcome.Choice.{Choice}
-use Rattle.std.specs.Prelude.{Vec}
-use Rattle.std.specs.declared.alloc.Global.{Global}
-use Rattle.version_solving.specs.declared.outcome.Outcome.{Outcome}
-use Rattle.version_solving.specs.declared.outcome.Outcome.TheVariants.{NoSelection, Selected}
-use Rattle.version_solving.specs.Outcomes.{IfNoSelection, IfSelected}
 use Rattle.version_solving.specs.Culprits.{AreCulprits, CanBeMet, with_root}
 use Rattle.version_solving.specs.Solving.{Holds, IsTheSelection, NoneFits, Problem, selection_of}
-use Rattle.version_solving.specs.Private.Missed.{AreMissed}
+use Rattle.version_solving.specs.Private.Missed.{AreMissed, AreTooMany}
 
 All-reverse : (P : Demand → Type 0) (ds : List Demand) → All P ds → All P (reverse ds)
 All-reverse P [] all = all
@@ -97,28 +92,6 @@ module _ (p : Problem) where
           ∙ ap (λ e. take place p.root ++ e ∷ (before ++ after)) same))
           (missed.without_one before after one rest)
 
-  -- fewer of the first demands cannot be met either
-  pub fewer_left : (few many : ℕ) (kept : List Demand) → few ≤ many → AreMissed p many kept
-      → (CanBeMet p (take few p.root ++ reverse kept) → ⊥) → AreMissed p few kept
-  fewer_left few many kept less missed none = record {
-    within = missed.within;
-    together = none;
-    without_one = λ before after one is.
-        fewer_can (take few p.root ++ (before ++ after)) (take many p.root ++ (before ++ after)) (inside before after)
-        (missed.without_one before after one is);
-  } where
-    parts : take many p.root ≡ take few p.root ++ drop few (take many p.root)
-    parts = sym (take-append-drop few (take many p.root))
-        ∙ ap (λ ds. ds ++ drop few (take many p.root)) (take-take few many p.root less)
-
-    inside : (before after : List Demand) (e : Demand) → Contains (take few p.root ++ (before ++ after)) e
-        → Contains (take many p.root ++ (before ++ after)) e
-    inside before after e is = by_case (Contains-append_cases (take few p.root) (before ++ after) e is) where
-      by_case : Contains (take few p.root) e ⊎ Contains (before ++ after) e → Contains (take many p.root ++ (before ++ after)) e
-      by_case (inl first) = Contains-append_left (take many p.root) (before ++ after) e
-          (rw parts (Contains-append_left (take few p.root) (drop few (take many p.root)) e first))
-      by_case (inr second) = Contains-append_right (take many p.root) (before ++ after) e second
-
   -- ---- the beginning and the end
 
   pub all_missed : (CanBeMet p p.root → ⊥) → (n : ℕ) → length p.root ≤ n → AreMissed p n []
@@ -138,16 +111,23 @@ module _ (p : Problem) where
     without_one = missed.without_one;
   }
 
-  -- ---- outcomes of a search
+  -- ---- demands that cannot be met together
 
-  pub none_by : (given others : List Demand) (outcome : Outcome) → given ≡ others → outcome ≡ NoSelection
-      → IfNoSelection outcome (NoneFits (with_root p given) []) → CanBeMet p others → ⊥
-  none_by given others outcome same is none =
-      let none_of_given : NoneFits (with_root p given) [] = rw is at none in
-      none_can others (subst (λ ds. NoneFits (with_root p ds) []) same none_of_given)
+  pub none_of : (demands : List Demand) → (CanBeMet p demands → ⊥) → NoneFits (with_root p demands) []
+  none_of demands together s fits keeps = together (s, fits)
 
-  pub can_by : (given others : List Demand) (outcome : Outcome) (choices : Vec Choice Global) → given ≡ others
-      → outcome ≡ Selected choices → IfSelected outcome (IsTheSelection (with_root p given)) → CanBeMet p others
-  can_by given others outcome choices same is selection =
-      let selected : IsTheSelection (with_root p given) (reverse choices.items) = rw is at selection in
-      same_can given others same (selected_can given (reverse choices.items) selected)
+  pub all_too_many : NoneFits p [] → AreTooMany p p.root
+  all_too_many none = record { within = All-contains_itself p.root; together = λ can. none can.0 can.1 (λ name candidate is. absurd (cc)) }
+
+  pub fewer_too_many : (kept fewer : List Demand) → AreTooMany p kept → All (Contains kept) fewer → NoneFits (with_root p fewer) [] → AreTooMany p fewer
+  fewer_too_many kept fewer are within none = record {
+    within = All-weaker (Contains kept) (Contains p.root) (λ d inside. All-contains (Contains p.root) kept d are.within inside) fewer within;
+    together = none_can fewer none;
+  }
+
+  pub culprits_of_fewer : (few demands : List Demand) → AreTooMany p few → AreCulprits (with_root p few) demands → AreCulprits p demands
+  culprits_of_fewer few demands are culprits = record {
+    within = All-weaker (Contains few) (Contains p.root) (λ d inside. All-contains (Contains p.root) few d are.within inside) demands culprits.within;
+    together = culprits.together;
+    without_one = culprits.without_one;
+  }

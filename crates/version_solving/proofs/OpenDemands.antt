@@ -23,7 +23,7 @@ and_true true true h = (refl, refl)
 and_true true false h = absurd (cc)
 and_true false b h = absurd (cc)
 
-none_from : (o : Option ℕ) → is_none o ≡ true → o ≡ None
+pub none_from : (o : Option ℕ) → is_none o ≡ true → o ≡ None
 none_from None h = refl
 none_from (Some x) h = absurd (cc)
 

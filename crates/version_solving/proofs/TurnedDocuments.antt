@@ -1,7 +1,7 @@
 -- A range that is added to documents, and a demand for it.
-use Rattle.std.proofs.Common.{◌≡◌, ◌⊎◌, ◌↔◌, ◌<◌, ◌≤◌, ◌+◌, ◌++◌, ◌∙◌, ℕ, Bool, true, false, List, [], ◌∷◌, Option, Some, None, All, Contains, length, get_or, slice_get, unwrap_or, zero, suc, inl, inr, refl, ap, sym, subst, arith}
-use Rattle.std.proofs.lemmas.List.Elements.{All-contains, All-nil, Contains-get_or}
-use Rattle.std.proofs.lemmas.Option.{get_or_from_slice_get, slice_get_past, slice_get_within}
+use Rattle.std.proofs.Common.{◌≡◌, ◌↔◌, ◌<◌, ◌++◌, ◌∙◌, ℕ, true, false, List, [], ◌∷◌, Option, Some, None, All, length, slice_get, zero, suc, refl, ap, sym, subst, arith}
+use Rattle.std.proofs.lemmas.List.Elements.{All-nil}
+use Rattle.std.proofs.lemmas.Option.{get_or_from_slice_get, slice_get_within}
 use Rattle.version_solving.specs.declared.demand.Demand.{Demand}
 use Rattle.version_solving.specs.declared.documents.Candidate.{Candidate}
 use Rattle.version_solving.specs.declared.documents.Documents.{Documents}

@@ -1,10 +1,7 @@
 -- The first candidate outside a range is that of the first choice, where a demand for what is outside is the first one.
-use Rattle.std.proofs.Common.{◌≡◌, ◌≢◌, ◌⊎◌, ◌↔◌, ◌<◌, ◌≤◌, ◌+◌, ◌++◌, ◌∙◌, ℕ, Bool, true, false, List, [], ◌∷◌, Option, Some, None, MatchOption, All, Contains, length, get_or, reverse, take, drop, slice_get, zero, suc, inl, inr, refl, ap, sym, subst, arith}
-use Rattle.std.specs.Prelude.{Vec}
-use Rattle.std.specs.declared.alloc.Global.{Global}
+use Rattle.std.proofs.Common.{◌≡◌, ◌↔◌, ◌<◌, ◌++◌, ◌∙◌, ℕ, true, false, List, [], ◌∷◌, Option, Some, None, MatchOption, All, get_or, reverse, slice_get, zero, suc, ap, sym, subst, arith}
 use Rattle.std.proofs.lemmas.List.{reverse-append}
-use Rattle.std.proofs.lemmas.List.Elements.{All-append, All-head, All-tail, All-nil}
-use Rattle.version_solving.specs.declared.change.Change.{Change}
+use Rattle.std.proofs.lemmas.List.Elements.{All-append, All-head, All-tail}
 use Rattle.version_solving.specs.declared.change.Change.TheVariants.{First}
 use Rattle.version_solving.specs.declared.demand.Demand.{Demand}
 use Rattle.version_solving.specs.declared.outcome.Choice.{Choice}
@@ -129,7 +126,7 @@ module _ (p q : Problem) (name range number : ℕ) (is : IsTurned p q name range
         let fits = fits_up t earlier would.fits would.selected would.outside in
         let chosen : t x.name ≡ Some earlier = ap t named ∙ would.selected in
         first.2 earlier small t fits
-        (keeps_more q t fits [] (record { name = x.name; candidate = earlier }) (none_keeps t) chosen)
+        (keeps_more t [] (record { name = x.name; candidate = earlier }) (none_keeps t) chosen)
 
     first_would : IsFirst p name range (First x.candidate)
     first_would = (

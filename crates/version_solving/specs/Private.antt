@@ -1,5 +1,4 @@
-pub mod Terms  -- candidates of several names that never fit together
-pub mod Learnt  -- those that are kept
+pub mod Values  -- sets of values, and what rules values out
 pub mod Paths  -- choices and the table of them
 pub mod Missed  -- demands that are kept on the way to the culprits
 pub mod Numbers  -- the numbers of names

@@ -1,14 +1,20 @@
 //! Which demands of a root cannot be met together.
-ghost use Rattle.std.specs.Prelude.{◌≡◌, ◌+◌, ◌<◌, ◌≤◌, ◌++◌, [], IfOk, IfSome, OnOk, IsTrue, All, Contains, length, reverse, take, true};
+ghost use Rattle.std.specs.Prelude.{◌≡◌, ◌+◌, ◌<◌, ◌++◌, [], IfOk, IfSome, All, Contains, length, reverse, true};
 ghost use Rattle.version_solving.specs.Documents.{problem_of};
 ghost use Rattle.version_solving.specs.Solving.{NoneFits};
-ghost use Rattle.version_solving.specs.Culprits.{AreCulprits, CanBeMet};
-ghost use Rattle.version_solving.specs.Private.Missed.{AreMissed};
+ghost use Rattle.version_solving.specs.Culprits.{AreCulprits};
+ghost use Rattle.version_solving.specs.Private.Missed.{AreMissed, AreTooMany};
 
-use crate::{Demand, Documents, Outcome, solve};
+use crate::certificate::Step;
+use crate::told::any_of;
+use crate::witness::can_be_met;
+use crate::{Demand, Documents};
 use std::alloc::{AllocError, Global};
 
 /// Returns demands of a root that no selection fits: together they cannot be met, and without any one of them the others can.
+///
+/// They are sought among the demands from which the search found that nothing fits, which are few. Parts of the root can be harder to
+/// solve than the whole.
 ///
 /// Returns `None` if a search for one of these answers takes more steps than it may.
 pub fn culprits(
@@ -20,66 +26,85 @@ pub fn culprits(
     requires { NoneFits (problem_of root.now documents.now) [] }
     ensures culprits { IfOk result (λ found. IfSome found (λ demands. AreCulprits (problem_of root.now documents.now) demands.items)) }
 {
-    let mut kept = Vec::new(alloc);
-    let mut left = root.len();
-    for at in (0..root.len()).rev() {
-        if at < left {
-            left = fewest(alloc, root, documents, steps, left, &kept)?;
+    let few = too_many(alloc, root, documents, steps)?;
+    least_of(alloc, &few, documents, steps)
+}
+
+/// Returns demands of the root that cannot be met together: those from which the search found that nothing fits.
+fn too_many(
+    alloc: Global,
+    root: &[Demand],
+    documents: &Documents,
+    steps: u64,
+) -> Result<Vec<Demand>, AllocError>
+    requires { NoneFits (problem_of root.now documents.now) [] }
+    ensures { IfOk result (λ demands. AreTooMany (problem_of root.now documents.now) demands.items) }
+{
+    let mut kept = Vec::from_slice(alloc, root)?;
+    for _ in root {
+        let fewer = asked_of(alloc, &kept, documents, steps)?;
+        if kept.len() <= fewer.len() {
+            break;
         }
-        if at < left {
-            if !keep_if_missed(alloc, root, documents, steps, at, &mut kept)? {
-                return Ok(None);
+        match can_be_met(alloc, &fewer, documents, steps)? {
+            Some(false) => kept = fewer,
+            Some(true) | None => break,
+        }
+    }
+    Ok(kept)
+}
+
+/// Returns the demands of a root from which the search finds that nothing fits.
+fn asked_of(
+    alloc: Global,
+    root: &[Demand],
+    documents: &Documents,
+    steps: u64,
+) -> Result<Vec<Demand>, AllocError>
+    ensures { IfOk result (λ demands. All (Contains root.now) demands.items) }
+{
+    let told = any_of(alloc, root, documents, steps)?;
+    let mut demands = Vec::new(alloc);
+    if let Some(last) = told.lessons.last() {
+        for (place, demand) in root.iter().enumerate() {
+            if is_asked(&last.steps, place) {
+                demands.push(*demand)?;
             }
-            left = at;
+        }
+    }
+    Ok(demands)
+}
+
+/// Returns `true` if a step is that of the demand at a place.
+fn is_asked(steps: &[Step], place: usize) -> bool {
+    for step in steps {
+        if let Step::Ask(other) = step {
+            if *other == place {
+                return true;
+            }
+        }
+    }
+    false
+}
+
+/// Returns the culprits of demands that cannot be met together.
+fn least_of(
+    alloc: Global,
+    root: &[Demand],
+    documents: &Documents,
+    steps: u64,
+) -> Result<Option<Vec<Demand>>, AllocError>
+    requires { NoneFits (problem_of root.now documents.now) [] }
+    ensures culprits { IfOk result (λ found. IfSome found (λ demands. AreCulprits (problem_of root.now documents.now) demands.items)) }
+{
+    let mut kept = Vec::new(alloc);
+    for at in (0..root.len()).rev() {
+        if !keep_if_missed(alloc, root, documents, steps, at, &mut kept)? {
+            return Ok(None);
         }
     }
     kept.reverse();
     Ok(Some(kept))
-}
-
-/// Returns how many of the first demands cannot be met with those that are kept: the fewest that halving finds. So a few culprits among
-/// many demands take few searches.
-fn fewest(
-    alloc: Global,
-    root: &[Demand],
-    documents: &Documents,
-    steps: u64,
-    most: usize,
-    kept: &[Demand],
-) -> Result<usize, AllocError>
-    requires most { most ≤ length root.now }
-    requires missed { AreMissed (problem_of root.now documents.now) most kept.now }
-    ensures fewer { IfOk result (λ left. left ≤ most) }
-    ensures missed { IfOk result (λ left. AreMissed (problem_of root.now documents.now) left kept.now) }
-{
-    let mut few = 0;
-    let mut many = most;
-    while few < many {
-        let middle = few + (many - few) / 2;
-        if is_too_much(alloc, root, documents, steps, middle, kept)? {
-            many = middle;
-        } else {
-            few = middle + 1;
-        }
-    }
-    Ok(many)
-}
-
-/// Returns `true` if the search finds that the first demands cannot be met with those that are kept.
-fn is_too_much(
-    alloc: Global,
-    root: &[Demand],
-    documents: &Documents,
-    steps: u64,
-    count: usize,
-    kept: &[Demand],
-) -> Result<bool, AllocError>
-    requires { count ≤ length root.now }
-    ensures { IfOk result (λ is. is ≡ true → CanBeMet (problem_of root.now documents.now) (take count root.now ++ reverse kept.now) → ⊥) }
-{
-    let demands = joined(alloc, &root[..count], kept)?;
-    let outcome = solve(alloc, &demands, documents, steps)?;
-    Ok(matches!(outcome, Outcome::NoSelection))
 }
 
 /// Keeps a demand if the demands before it, with those that are kept, can be met without it. Returns `false` if that is undecided.
@@ -96,13 +121,13 @@ fn keep_if_missed(
     ensures missed { IfOk result (λ is_decided. is_decided ≡ true → AreMissed (problem_of root.now documents.now) at kept.new.items) }
 {
     let others = joined(alloc, &root[..at], kept)?;
-    match solve(alloc, &others, documents, steps)? {
-        Outcome::Selected(_) => {
+    match can_be_met(alloc, &others, documents, steps)? {
+        Some(true) => {
             kept.push(root[at])?;
             Ok(true)
         }
-        Outcome::NoSelection => Ok(true),
-        Outcome::Undecided => Ok(false),
+        Some(false) => Ok(true),
+        None => Ok(false),
     }
 }
 

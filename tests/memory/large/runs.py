@@ -5,19 +5,10 @@ import os
 from large.findings import Finding, advisory_rule, at_dependency, at_mismatch, at_package, github, sarif
 from large.lock_files import GROUPS, LEVELS, NAMES, NESTED, asked, at_root, audits, cases, lock_of, mismatch, osv_audits, text_of
 from large.rows import LONG, MANY, alternatives
+from support import rows
 
-VERDICTS = {
-    "missing": " is not installed, so nothing satisfies ",
-    "invalid": " does not satisfy ",
-    "engine": " does not satisfy ",
-    "peer-local": " is installed inside the package that has it as a peer: ",
-}
+WORDS = rows.words("npm_lock_check")
 DEEP = 60  # So many packages are inside one another: a text nests at most 128 deep.
-REASONS = {
-    "tag": ": a tag",
-    "location": ": a URL, a repository, a file or a folder",
-    "override": ": overrides that are not read",
-}
 
 
 class Run:
@@ -47,36 +38,35 @@ class Run:
 def asker(lock, at):
     """The package that asks, in a sentence."""
     if not at:
-        return "the root asks for"
+        return WORDS["by the root"]
     version = lock["packages"][at].get("version") if "packages" in lock else "1.0.0"
     folder, modules, name = at.rpartition("node_modules/")
-    said = f" {version}" if version else ""
-    return f"{name}{said} asks for ({at})" if modules else f"{at}{said} asks for"
+    said = f"{WORDS['which']} {name if modules else at}{f' {version}' if version else ''} {WORDS['asks']}"
+    return f"{said} ({at})" if modules else said
 
 
 def sentence(lock, one):
     """The sentence of a problem, or of a dependency that is not checked."""
     version = f" {one['version']}" if "version" in one else ""
-    said = VERDICTS[one["problem"]] if "problem" in one else " is not checked against "
-    why = REASONS[one["unchecked"]] if "unchecked" in one else ""
-    return f"{one['name']}{version}{said}{one['spec']}, which {asker(lock, one['from'])}{why}"
+    said = WORDS[{"engine": "invalid"}.get(one.get("problem"), one.get("problem", "unchecked"))]
+    why = WORDS[one["unchecked"]] if "unchecked" in one else ""
+    return f"{one['name']}{version} {said} {one['spec']}{asker(lock, one['from'])}{why}"
 
 
 def hit_sentence(one):
-    advisories = ", and by ".join(f"{it['id']} ({it['severity']}): {it['title']}" for it in one["advisories"])
-    offer = f"{one['least']} is not, but does not satisfy all that ask for it"
-    if "admitted" in one:
-        offer = f"{one['admitted']} is not, and satisfies all that ask for it"
-    return f"{one['name']} {one['version']} is hit by {advisories}; {offer} ({one['folder']})"
+    advisories = f"{WORDS['and']} ".join(f"{it['id']} ({it['severity']}): {it['title']}" for it in one["advisories"])
+    offer = f"{one['admitted']} {WORDS['fits']}" if "admitted" in one else f"{one['least']} {WORDS['does not fit']}"
+    return f"{one['name']} {one['version']} {WORDS['hit']} {advisories}; {offer} ({one['folder']})"
 
 
 def side(one, key):
-    return f'"{one[key]}"' if key in one else "absent"
+    return f'"{one[key]}"' if key in one else WORDS["absent"]
 
 
 def mismatch_sentence(one):
     manifest = f"{one['from']}/package.json" if one["from"] else "package.json"
-    return f"{one['name']} in {one['group']} is {side(one, 'spec')} in {manifest}, and {side(one, 'locked')} in the lock file"
+    said = f"{one['name']} {{in}} {one['group']} {{is}} {side(one, 'spec')} {{in}} {manifest}{{but}} {side(one, 'locked')} {{locked}}"
+    return rows.said(said, WORDS)
 
 
 def annotated(lock, words, found, notes, error, files=()):
@@ -119,7 +109,8 @@ def check_runs():
 def read_of(advisories):
     """How many advisories a file has, as it is told: one of OSV's has `affected`, and npm's form has a list for each name."""
     lists = [[advisories]] if "affected" in advisories else advisories.values() if isinstance(advisories, dict) else [advisories]
-    return f"{sum(map(len, lists))} advisories read"
+    count = sum(map(len, lists))
+    return f"{count} advisor{'y' if count == 1 else 'ies'} read"
 
 
 def audit_runs():
@@ -160,11 +151,11 @@ def exception_runs():
     for advisories, lock, _, hits in list(audits())[0:3:2]:
         counts = f"{len(lock['packages'])} packages, {len(hits)} dependencies, 0 problems, 0 not checked"
         pairs = [(told["id"], one) for one in hits for told in one["advisories"]]
-        said = [f"excepted: {one['name']} {one['version']} is hit by {known}: why ({one['folder']})" for known, one in pairs]
+        said = [f"excepted: {one['name']} {one['version']} {WORDS['hit']} {known}: why ({one['folder']})" for known, one in pairs]
         exceptions = [(known, one["name"]) for known, one in pairs]
         yield ExceptedRun(lock, [], f"{counts}, 0 hit, {read_of(advisories)}, {len(pairs)} excepted", said, exceptions, advisories)
         idle = [(known, name + "-") for known, name in exceptions]
-        said = [f"exception: {known} of {name} applies to nothing: why" for known, name in idle]
+        said = [f"exception: {known} of {name} {WORDS['idle']}: why" for known, name in idle]
         yield ExceptedRun(lock, list(map(text_of, hits)), f"{counts}, {len(hits)} hit, {read_of(advisories)}", said, idle, advisories)
 
 

@@ -105,4 +105,4 @@ function documentText({ versions, staged, restricted, times, tags, before, known
         + `${memberText('stagedVersions', stagedText)}${memberText('policyRestrictions', restrictedText)},"time":{${time}}}`;
 }
 
-module.exports = { documentText, textOfTime };
+module.exports = { documentText, quoted, textOfTime, wellFormed };

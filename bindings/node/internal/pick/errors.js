@@ -4,7 +4,6 @@
 
 const { validRange } = require('../ranges.js');
 const { valid } = require('../versions.js');
-const { STATUS } = require('./key.js');
 
 // What npm takes for a file, a folder, a repository, an address or another package.
 const LOCATION = /^(?:\.|~\/|[a-z]:|(?:git\+)?[a-z]+:)|\/|\.(?:tgz|tar.gz|tar)$/i;
@@ -79,24 +78,24 @@ function invalidWanted(asked) {
     return invalidTag(packument.name, isTag(wanted.trim()) ? below(asked) : wanted);
 }
 
-// The error of a status.
-function errorOf(status, asked) {
-    switch (status) {
-    case STATUS.INVALID_WANTED:
+// The error of an outcome.
+function errorOf(outcome, asked) {
+    switch (outcome) {
+    case 'invalid_wanted':
         return invalidWanted(asked);
-    case STATUS.NO_VERSIONS:
+    case 'no_versions':
         return noVersions(asked);
-    case STATUS.ONLY_AVOIDED:
+    case 'only_avoided':
         return onlyAvoided(asked);
-    case STATUS.NO_TAG:
+    case 'no_tag':
         return LOCATION.test(asked.wanted) ? new Error(UNSUPPORTED) : noTarget(asked, false);
-    case STATUS.NO_VERSION:
-    case STATUS.NONE_IN_RANGE:
+    case 'no_version':
+    case 'none_in_range':
         return noTarget(asked, false);
-    case STATUS.FORBIDDEN:
+    case 'forbidden':
         return noTarget(asked, true);
     default:
-        return new Error(`the document cannot be read: status ${status}`);
+        return new Error(`the document cannot be read: ${outcome}`);
     }
 }
 

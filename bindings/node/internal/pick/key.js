@@ -3,16 +3,13 @@
 'use strict';
 
 const { valid } = require('../versions.js');
-const { documentText, textOfTime } = require('./document.js');
+const { call } = require('../calls/native.js');
+const { objectText } = require('../calls/members.js');
+const { documentText, quoted, textOfTime } = require('./document.js');
 const { keysOf, own } = require('./members.js');
-const native = require('./native.js');
 
-// What a call of the library returns, as `npm_pick.h` has it.
-const STATUS = {
-    OK: 0, INVALID_WANTED: 1, NO_TAG: 2, NO_VERSION: 3, NO_VERSIONS: 4, NONE_IN_RANGE: 5, FORBIDDEN: 6, ONLY_AVOIDED: 7,
-};
-
-const ZERO = 48;
+// The outcome if a version is picked. Others say why there is none.
+const PICKED = 'picked';
 // A text that is a tag, if it is anything: no version and no range begins with such a letter.
 const TAG = /^[a-uwyz][\w.~-]*$/i;
 
@@ -71,18 +68,28 @@ function questionOf({ packument, wanted, options, staged, restricted }) {
 
 // ---- the result ----
 
-const timeOf = (before) => (before === null || Number.isNaN(before) ? '' : textOfTime(before));
+const timeOf = (before) => (before === null || Number.isNaN(before) ? undefined : quoted(textOfTime(before)));
 
 // An engine whose text is no version is passed as 0.0.0, which nothing fits in such a document.
-const engineOf = (version) => (version === null ? '0.0.0' : version || '');
+const engineOf = (version) => (version === undefined ? undefined : quoted(version ?? '0.0.0'));
 
-// Asks the library for the version of these keys, and maybe one more.
+const textIfAny = (text) => (text === '' ? undefined : quoted(text));
+
+// Asks the library for the version of these keys, and maybe one more. The answer is an object of npm_calls.h.
 function ask(question, keys, more = '') {
     const { text, defaultTag, avoid, before, known, avoidStrict, includeStaged } = question;
-    const answer = native.pick(documentText(question, keys, more), text, defaultTag, avoid, timeOf(before),
-        engineOf(known.node), engineOf(known.npm), avoidStrict, includeStaged);
-    return typeof answer === 'number' ? { status: answer, key: '', marks: 0 }
-        : { status: STATUS.OK, key: answer.slice(1), marks: answer.charCodeAt(0) - ZERO };
+    const { refusal, answer } = call('pick', objectText({
+        packument: documentText(question, keys, more),
+        wanted: quoted(text),
+        tag: textIfAny(defaultTag),
+        avoid: textIfAny(avoid),
+        before: timeOf(before),
+        node: engineOf(known.node),
+        npm: engineOf(known.npm),
+        avoid_strict: avoidStrict,
+        include_staged: includeStaged,
+    }));
+    return refusal ? { outcome: refusal.name } : answer;
 }
 
 // The keys of a few versions in each of the objects.
@@ -106,10 +113,11 @@ function quickAnswer(question) {
         return null;
     }
     const answer = ask(question, few(question, keys), byDefault ? twin(byDefault) : '');
-    return answer.status === STATUS.OK && answer.marks === 0 && keys.includes(answer.key) ? answer : null;
+    const { outcome, version, avoided, outside } = answer;
+    return outcome === PICKED && !avoided && !outside && keys.includes(version) ? answer : null;
 }
 
-// The status, the key of the version that is picked, and the sum of its marks.
+// The outcome, the key of the version that is picked, and its marks.
 function keyOf(asked) {
     const question = questionOf(asked);
     const { versions, staged, restricted } = question;
@@ -117,4 +125,4 @@ function keyOf(asked) {
         ?? ask(question, { versions: keysOf(versions), staged: keysOf(staged), restricted: keysOf(restricted) });
 }
 
-module.exports = { keyOf, STATUS };
+module.exports = { keyOf, PICKED };

@@ -92,18 +92,12 @@ function printed(call, slot, place) {
     }
 }
 
-// The same of a print that has letters, where there is memory for it.
-function printedLetters(call, slot) {
+// The text of a print that has letters, where there is memory for it.
+function print(call, slot) {
     const length = printed(call, slot);
     if (length === 0) {
         throw outOfMemory();
     }
-    return length;
-}
-
-// The text of such a print.
-function print(call, slot) {
-    const length = printedLetters(call, slot);
     return taken(m.room, length);
 }
 
@@ -118,4 +112,4 @@ function bytes(call, slot, place) {
 // The same as a Buffer, where there are Buffers. Not amid a call.
 const bufferOf = (copy) => (typeof Buffer === 'undefined' ? copy : Buffer.from(copy.buffer));
 
-module.exports = { SHORT, put, makeRoomFor, taken, printedLetters, print, bytes, bufferOf };
+module.exports = { SHORT, put, makeRoomFor, print, bytes, bufferOf };

@@ -6,14 +6,16 @@
 const { codeAt, lengthOf, numberOf, set } = require('../builtins.js');
 const { m, A, B, D, ANY, ANSWER, FAULT, OK, REFUSED, calls, check, enter, leave, view } = require('./memory.js');
 const { outOfMemory, wrongType } = require('./errors.js');
-const { SHORT, put, makeRoomFor, print, printedLetters, taken, bytes, bufferOf } = require('./texts.js');
+const { SHORT, put, makeRoomFor, print, bytes, bufferOf } = require('./texts.js');
 
 // What `compare`, `compareBuild` and `diff` return where the first key, or the second, is no version.
 const [FIRST_REFUSED, SECOND_REFUSED] = [16, 17];
 const INVALID_IDENTIFIER = 6;
 
-const [ZERO, NINE, LETTER_V] = [48, 57, 118];
+const [DOT, ZERO, NINE, LETTER_V] = [46, 48, 57, 118];
 const SMALL = 65536;
+// A number of so many digits is one that JavaScript has, and that is allowed.
+const MOST_DIGITS = 15;
 
 // A version that no text writes: the bytes of its key, and its print.
 class HeldVersion {
@@ -116,26 +118,36 @@ const [IS_TRIPLE, HAS_MORE, LARGE, FORMS] = [1, 2, 4, 8];
 
 const packed = (isLarge, numbers, form) => (isLarge ? LARGE + form : numbers * FORMS + form);
 
-// The numbers and the form of a text that the library has read as a version, from its bytes.
-function parts(at, end) {
-    const { u8 } = m;
+// The numbers and the form of what begins at a place of a text and goes up to its end. With IS_TRIPLE that is a version for certain: three
+// numbers of at most 15 digits, without a zero before others. Else the library has read it as a version, or the result means nothing.
+function parts(text, at) {
+    const { length } = text;
     let number = 0;
     let numbers = 0;
+    let digits = 0;
+    let dots = 0;
     let isLarge = false;
-    for (; at < end; at++) {
-        const digit = u8[at] - 48;
-        if (digit >= 0 && digit <= 9) {
-            number = number * 10 + digit;
+    for (; at < length; at++) {
+        const code = codeAt(text, at);
+        if (code >= ZERO && code <= NINE) {
+            if (digits === MOST_DIGITS || (number === 0 && digits !== 0)) {
+                return LARGE + HAS_MORE;
+            }
+            number = number * 10 + code - ZERO;
+            digits++;
             continue;
         }
         isLarge ||= number >= SMALL;
         numbers = numbers * SMALL + number;
-        number = 0;
-        if (digit !== -2) {
+        if (code !== DOT || digits === 0 || dots === 2) {
             return packed(isLarge, numbers, HAS_MORE);
         }
+        number = 0;
+        digits = 0;
+        dots++;
     }
-    return packed(isLarge || number >= SMALL, numbers * SMALL + number, IS_TRIPLE);
+    const isTriple = dots === 2 && digits !== 0;
+    return packed(isLarge || number >= SMALL, numbers * SMALL + number, isTriple ? IS_TRIPLE : HAS_MORE);
 }
 
 function partsOfHeld(key) {
@@ -151,16 +163,23 @@ function startOf(length) {
     return m.f.node_semver_contains_strict(m.at + ANY, at, end - at, m.at + ANSWER) === OK ? at : 0;
 }
 
+// The library reads all but triples: a call of it takes longer than to read one.
 function partsOfText(text) {
-    const length = put(0, text);
-    const start = startOf(length);
-    return start === 0 ? 0 : parts(start, m.texts[0] + length);
+    const found = parts(text, 0);
+    if ((found & IS_TRIPLE) !== 0) {
+        return found;
+    }
+    const start = startOf(put(0, text));
+    return start === 0 ? 0 : start === m.texts[0] ? found : parts(text, 1);
 }
 
 // Whether a text is that of a version.
 function isVersion(text) {
     if (typeof text !== 'string') {
         throw wrongType('no text of a version');
+    }
+    if ((parts(text, 0) & IS_TRIPLE) !== 0) {
+        return true;
     }
     enter();
     return leave(startOf(put(0, text)) !== 0);
@@ -194,21 +213,36 @@ function freeBoth(result) {
     return result;
 }
 
+// The numbers of a text that is a triple of small numbers, as `readVersion` returns them, or 0. No memory is allocated for them.
+function tripleOf(key) {
+    const found = typeof key === 'string' ? partsOfText(key) : 0;
+    return (found & IS_TRIPLE + LARGE) === IS_TRIPLE ? found : 0;
+}
+
+// The order of two triples of small numbers is that of these numbers.
+function orderOf(one, other, call) {
+    const first = tripleOf(one);
+    const second = first === 0 ? 0 : tripleOf(other);
+    if (second !== 0) {
+        return first === second ? 0 : first < second ? -1 : 1;
+    }
+    const refused = readBoth(one, other);
+    return refused === OK ? freeBoth(call(m.at + A, m.at + B)) : refused;
+}
+
 // -1, 0 or 1, or which key is refused.
 function compare(one, other) {
     checkVersion(one);
     checkVersion(other);
     enter();
-    const refused = readBoth(one, other);
-    return leave(refused === OK ? freeBoth(m.f.node_semver_version_compare(m.at + A, m.at + B)) : refused);
+    return leave(orderOf(one, other, m.f.node_semver_version_compare));
 }
 
 function compareBuild(one, other) {
     checkVersion(one);
     checkVersion(other);
     enter();
-    const refused = readBoth(one, other);
-    return leave(refused === OK ? freeBoth(m.f.node_semver_version_compare_build(m.at + A, m.at + B)) : refused);
+    return leave(orderOf(one, other, m.f.node_semver_version_compare_build));
 }
 
 // The number of the bump in node_semver.h, or which key is refused.
@@ -291,10 +325,10 @@ const coerce = calls((text, rtl, full) => {
         free(slot);
         return numbers;
     }
-    const letters = printedLetters(m.f.node_semver_version_print, slot);
+    const printed = print(m.f.node_semver_version_print, slot);
     free(slot);
-    const found = parts(m.room, m.room + letters);
-    return (found & IS_TRIPLE + LARGE) === IS_TRIPLE ? found : taken(m.room, letters);
+    const found = parts(printed, 0);
+    return (found & IS_TRIPLE + LARGE) === IS_TRIPLE ? found : printed;
 });
 
 const keyBytes = calls((key) => {

@@ -1,5 +1,5 @@
 # SPDX-License-Identifier: Apache-2.0
-"""The version of a package that npm would install. The native part is loaded by the first call."""
+"""The version of a package that npm would install."""
 
 import collections.abc
 import datetime
@@ -7,14 +7,17 @@ import json
 import typing
 from typing import Any, Literal
 
+from ._calling import call, document_of, text_of
+
 PickFault = Literal["Wanted", "NoTag", "NoVersion", "NoVersions", "NoneInRange", "Forbidden", "Avoided"]
 
 #: npm's codes.
 PickCode = Literal["EINVALIDTAGNAME", "ETARGET", "ENOVERSIONS", "E403"]
 
-# By the status of the native part.
-_KINDS: dict[int, PickFault] = {
-    1: "Wanted", 2: "NoTag", 3: "NoVersion", 4: "NoVersions", 5: "NoneInRange", 6: "Forbidden", 7: "Avoided",
+# By the outcome of a call.
+_KINDS: dict[str, PickFault] = {
+    "invalid_wanted": "Wanted", "no_tag": "NoTag", "no_version": "NoVersion", "no_versions": "NoVersions",
+    "none_in_range": "NoneInRange", "forbidden": "Forbidden", "only_avoided": "Avoided",
 }  # fmt: skip
 
 # By the kind of the error: npm's code, and the reason.
@@ -28,11 +31,8 @@ _FAULTS: dict[PickFault, tuple[PickCode, str]] = {
     "Avoided": ("ETARGET", "there are only versions to avoid"),
 }
 
-_REFUSED = {
-    9: "the document is no JSON, or it is nested too deep",
-    10: "a text is not UTF-8",
-    11: "before must be a time, and node and npm must be versions",
-}
+_NO_DOCUMENT = "the document is no JSON, or it is nested too deep"
+_NO_OPTION = "before must be a time, and node and npm must be versions"
 
 # What is read of a manifest, and of a document beside its versions.
 _OF_MANIFEST = ("deprecated", "engines")
@@ -139,6 +139,12 @@ def _text(text: str | None, name: str) -> str:
     return str.__str__(text)
 
 
+def option(text: str | None, name: str) -> str | None:
+    """The JSON of a text, unless it is empty."""
+    given = _text(text, name)
+    return text_of(given) if given else None
+
+
 def pick(
     packument: collections.abc.Mapping[str, Any] | str | bytes,
     wanted: str = "",
@@ -164,18 +170,19 @@ def pick(
     >>> pick(document, '^1', avoid='1.2').version
     '1.3.0'
     """
-    from . import _pick
-
     if not isinstance(packument, (collections.abc.Mapping, str, bytes)):
         raise TypeError("a packument must be a dict, a str or bytes")
     document = _document(packument) if isinstance(packument, collections.abc.Mapping) else exact(packument)
     asked = _text(wanted, "wanted")
-    texts = (_text(default_tag, "default_tag"), _text(avoid, "avoid"), _text(_time(before), "before"),
-             _text(node, "node"), _text(npm, "npm"))  # fmt: skip
-    answer = _pick.pick(document, asked, *texts, avoid_strict, include_staged)
-    if isinstance(answer, tuple):
-        return Picked(*answer)
-    if answer in _REFUSED:
-        raise ValueError(_REFUSED[answer])
+    refused, answer = call("pick", {
+        "packument": document_of(document), "wanted": text_of(asked), "tag": option(default_tag, "default_tag"),
+        "avoid": option(avoid, "avoid"), "before": option(_time(before), "before"), "node": option(node, "node"),
+        "npm": option(npm, "npm"), "avoid_strict": text_of(bool(avoid_strict)),
+        "include_staged": text_of(bool(include_staged)),
+    })  # fmt: skip
+    if refused:
+        raise ValueError(_NO_DOCUMENT if refused["name"] == "no_json" else _NO_OPTION)
+    if answer["outcome"] == "picked":
+        return Picked(answer["version"], answer["avoided"], answer["outside"], answer["major"])
     name = packument.get("name") if isinstance(packument, collections.abc.Mapping) else None
-    raise PickError(name if isinstance(name, str) else "", asked, _KINDS[answer])
+    raise PickError(name if isinstance(name, str) else "", asked, _KINDS[answer["outcome"]])

@@ -1,39 +1,36 @@
 # SPDX-License-Identifier: Apache-2.0
-"""Versions of packages that fit together. The native part is loaded by the first call."""
+"""Versions of packages that fit together."""
 
 import collections.abc
 import datetime
-import json
 import typing
 from typing import Any, Literal
 
-from ._picking import _text, _time
+from ._calling import Refusal, call, document_of, text_of
+from ._picking import _time, option
 from ._shorter import Given, documents_json, lock_json, manifest_json
 
 #: Groups of dependencies.
 Group = Literal["dev", "optional", "peer"]
 _GROUPS: tuple[Group, ...] = typing.get_args(Group)
 
+# By the name of what is wrong, and the member. See npm_calls.h.
 _REFUSED = {
-    2: "a text is not UTF-8",
-    3: "before must be a time, and node a version",
-    4: "the manifest is no JSON, or it is nested too deep",
-    5: "the manifest is no object, or its version or a dependency is no string",
-    6: "the documents are no JSON, or they are nested too deep",
-    7: "the documents are no object",
-    8: "the lock file is no JSON, or it is nested too deep",
-    9: "the lock file: `lockfileVersion` is not 2 or 3",
-    10: "the lock file: `packages` is no object",
-    11: "the lock file: npm does not write the folder of a package so, or it has more than 4096 bytes",
-    12: "the lock file: `workspaces` of the root is no list",
-    13: "the lock file: a member of `packages` is no object",
-    14: "the lock file: `resolved` of a link names no package of the file",
-    15: "the lock file: `version` of a package is no string",
-    16: "the lock file: the dependencies of a package are no object",
-    17: "the lock file: a dependency of a package is no string",
-    18: "lockfile takes flat: without it dependencies of versions are not selected",
-    19: "lockfile takes no omit: a lock file has all groups",
+    "no_json manifest": "the manifest is no JSON, or it is nested too deep",
+    "invalid_manifest manifest": "the manifest is no object, or its version or a dependency is no string",
+    "no_json packuments": "the documents are no JSON, or they are nested too deep",
+    "no_object packuments": "the documents are no object",
+    "no_json lock": "the lock file is no JSON, or it is nested too deep",
+    "not_flat lockfile": "lockfile takes flat: without it dependencies of versions are not selected",
+    "omits lockfile": "lockfile takes no omit: a lock file has all groups",
 }
+
+
+def _sentence(refused: Refusal) -> str:
+    member = refused["member"][0] if refused["member"] else ""
+    if member == "lock" and refused["name"] == "invalid_lock":
+        return f"the lock file: {refused['message']}"
+    return _REFUSED.get(f"{refused['name']} {member}", "before must be a time, and node a version")
 
 
 class Chosen(typing.TypedDict):
@@ -84,21 +81,34 @@ class Reason(typing.TypedDict, total=False):
     lines: list[int]
 
 
-class Selected(typing.TypedDict):
+class Names(typing.TypedDict):
+    """Names that an answer is about.
+
+    `left_out`: optional dependencies of which no version is in the range. `missing`: packages without a document, so that versions which
+    need them are left out. `refused`: dependencies that ask no registry. `unread`: packages whose rule in `overrides` is not read.
+    """
+
+    left_out: list[str]
+    missing: list[str]
+    refused: list[str]
+    unread: list[str]
+
+
+class Selected(Names):
     """Versions that fit together, in the order in which they are first needed."""
 
     outcome: Literal["selected"]
     packages: list[Chosen]
 
 
-class LockFile(typing.TypedDict):
+class LockFile(Names):
     """Versions that fit together, as the text of a package-lock.json."""
 
     outcome: Literal["selected"]
     lockfile: str
 
 
-class NoSelection(typing.TypedDict):
+class NoSelection(Names):
     """No versions fit together, and why. The culprits are None if it takes more steps to find them, and so are the reasons."""
 
     outcome: Literal["none"]
@@ -106,13 +116,13 @@ class NoSelection(typing.TypedDict):
     reasons: list[Reason] | None
 
 
-class Undecided(typing.TypedDict):
+class Undecided(Names):
     """The steps were used up before either was known."""
 
     outcome: Literal["undecided"]
 
 
-class Unread(typing.TypedDict):
+class Unread(Names):
     """There is no lock file: the rules in `overrides` for these names are not read, and `npm ci` would refuse it."""
 
     outcome: Literal["unread"]
@@ -125,26 +135,26 @@ Resolution = Selected | NoSelection | Undecided
 #: What `resolve` returns for `lockfile=True`.
 LockResolution = LockFile | Unread | NoSelection | Undecided
 
-def _omits(omit: Group | collections.abc.Iterable[Group]) -> list[bool]:
+def _omits(omit: Group | collections.abc.Iterable[Group]) -> str:
     groups = [omit] if isinstance(omit, str) else list(omit)
     if any(group not in _GROUPS for group in groups):
         raise ValueError("omit takes dev, optional and peer")
-    return [group in groups for group in _GROUPS]
+    return text_of([group for group in _GROUPS if group in groups])
 
 
-def _steps(steps: int) -> int:
+def _steps(steps: int) -> str:
     if not isinstance(steps, int):
         raise TypeError("steps must be an int")
     steps = int.__index__(steps)
     if not 0 <= steps < 1 << 64:
         raise ValueError("steps must be 0 or more, and below 2**64")
-    return steps
+    return text_of(steps)
 
 
-def _mark(mark: bool, name: str) -> bool:
+def _mark(mark: bool, name: str) -> str:
     if not isinstance(mark, bool):
         raise TypeError(f"{name} must be True or False")
-    return mark
+    return text_of(mark)
 
 
 @typing.overload
@@ -239,14 +249,14 @@ def resolve(
     >>> '"node_modules/react"' in answer['lockfile']
     True
     """
-    from . import _resolve
-
-    marks = [_mark(flat, "flat"), _mark(lowest, "lowest"), _mark(lockfile, "lockfile")]
-    given = (manifest_json(manifest, lockfile), documents_json(documents, lockfile))
-    texts = (_text(default_tag, "default_tag"), _text(_time(before), "before"), _text(node, "node"))
-    answer = _resolve.resolve(*given, *texts, lock_json(lock), _steps(steps), *_omits(omit), *marks)
-    if isinstance(answer, int):
-        raise ValueError(_REFUSED[answer])
-    if answer.startswith("{\n"):
-        return LockFile(outcome="selected", lockfile=answer)
-    return typing.cast(Resolution, json.loads(answer))
+    marks = {"flat": _mark(flat, "flat"), "lowest": _mark(lowest, "lowest"), "lockfile": _mark(lockfile, "lockfile")}
+    file = lock_json(lock)
+    refused, answer = call("resolve", {
+        "manifest": document_of(manifest_json(manifest, lockfile)),
+        "packuments": document_of(documents_json(documents, lockfile)),
+        "tag": option(default_tag, "default_tag"), "before": option(_time(before), "before"), "node": option(node, "node"),
+        "lock": document_of(file) if file else None, "steps": _steps(steps), "omit": _omits(omit), **marks,
+    })  # fmt: skip
+    if refused:
+        raise ValueError(_sentence(refused))
+    return typing.cast(Resolution, answer)

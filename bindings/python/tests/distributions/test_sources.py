@@ -46,7 +46,7 @@ class Sources(unittest.TestCase):
         self.library = os.path.join(self.room, "prefix", "lib", "libnode_semver.a")
         self.include = os.path.join(self.room, "prefix", "include")
         os.makedirs(os.path.dirname(self.library))
-        for name in ("libnode_semver.a", "libnpm_pick.a", "libnpm_resolve.a"):
+        for name in ("libnode_semver.a", "libnpm_calls.a"):
             shutil.copy(os.path.join(C_PACKAGE, "build", name), os.path.dirname(self.library))
         shutil.copytree(os.path.join(C_PACKAGE, "include"), self.include)
 
@@ -85,7 +85,7 @@ class Sources(unittest.TestCase):
             self.assertEqual(status, 1, said)
             lines = [line.strip() for line in said.split("\n")]
             self.assertIn("error: NODE_SEMVER_LIBRARY is not set.", lines, how)
-            self.assertIn(f"libnode_semver.a, libnpm_pick.a and libnpm_resolve.a of version {VERSION}.", said)
+            self.assertIn(f"libnode_semver.a and libnpm_calls.a of version {VERSION}.", said)
             self.assertIn(f"unpack denimscree-{VERSION}-linux-x86_64.tar.gz", said)
             self.assertNotIn("Traceback", said)
             self.assertEqual(glob(os.path.join(self.room, "made", "*")), [])

@@ -12,9 +12,9 @@ from made import PACKAGE, PRINTED, PROGRAM, PYTHON, ROOT, VERSION, WHEEL, conten
 
 INFO = f"denimscree_semver-{VERSION}.dist-info"
 FILES = [
-    "node_semver/__init__.py", "node_semver/_error.py", "node_semver/_native.abi3.so", "node_semver/_native.pyi",
-    "node_semver/_pick.abi3.so", "node_semver/_pick.pyi", "node_semver/_picking.py", "node_semver/_resolve.abi3.so",
-    "node_semver/_resolve.pyi", "node_semver/_resolving.py", "node_semver/_shorter.py", "node_semver/_types.py",
+    "node_semver/__init__.py", "node_semver/_calling.py", "node_semver/_calls.abi3.so", "node_semver/_calls.pyi",
+    "node_semver/_checking.py", "node_semver/_error.py", "node_semver/_native.abi3.so", "node_semver/_native.pyi",
+    "node_semver/_picking.py", "node_semver/_resolving.py", "node_semver/_shorter.py", "node_semver/_types.py",
     "node_semver/py.typed",
     f"{INFO}/LICENSE", f"{INFO}/METADATA", f"{INFO}/RECORD", f"{INFO}/WHEEL", f"{INFO}/top_level.txt",
 ]  # fmt: skip
@@ -86,7 +86,7 @@ class Wheel(unittest.TestCase):
                 self.assertEqual(said, PRINTED)
             seen.append(self.installed())
         fresh, full, _, left = seen
-        self.assertEqual(len([path for path in full - fresh if path.endswith((".so", ".pyi"))]), 6)
+        self.assertEqual(len([path for path in full - fresh if path.endswith((".so", ".pyi"))]), 4)
         self.assertEqual(left, fresh)
 
 

@@ -24,10 +24,8 @@ SOURCE = 'const char *node_semver_satisfies_text(void)\n{\n    return "the %s li
 
 MAKEFILE = """
 all: build/libnode_semver.a
-pick: all
-\tcp build/libnode_semver.a build/libnpm_pick.a
-resolve: all
-\tcp build/libnode_semver.a build/libnpm_resolve.a
+calls: all
+\tcp build/libnode_semver.a build/libnpm_calls.a
 build/libnode_semver.a: ../../crates/one/source.c
 \tmkdir -p build
 \tcc -fPIC -c -o build/source.o $<
@@ -46,7 +44,7 @@ class Setup(unittest.TestCase):
         skipped = shutil.ignore_patterns("build", "tests", "__pycache__", "*.egg-info")
         shutil.copytree(PACKAGE, self.python, ignore=skipped)
         os.makedirs(os.path.join(self.c, "include"))
-        for name in ("node_semver.h", "npm_pick.h", "npm_resolve.h"):
+        for name in ("node_semver.h", "npm_calls.h"):
             header = os.path.join("include", name)
             shutil.copy(os.path.join(os.path.dirname(PACKAGE), "c", header), os.path.join(self.c, header))
         os.makedirs(os.path.dirname(self.source))
@@ -116,18 +114,18 @@ class Setup(unittest.TestCase):
         self.assertEqual(self.linked(NODE_SEMVER_LIBRARY=older), "first")
         moved = os.path.join(self.python, "moved")
         os.mkdir(moved)
-        for name in ("libnode_semver.a", "libnpm_pick.a", "libnpm_resolve.a"):
+        for name in ("libnode_semver.a", "libnpm_calls.a"):
             shutil.copy(os.path.join(os.path.dirname(older), name), moved)
         headers = os.path.join(self.c, "include")
         moved = os.path.join(moved, "libnode_semver.a")
         self.assertEqual(self.linked(NODE_SEMVER_LIBRARY=moved, NODE_SEMVER_INCLUDE=headers), "first")
-        both = f"{moved}:{os.path.join(os.path.dirname(older), 'libnpm_pick.a')}"
+        both = f"{moved}:{os.path.join(os.path.dirname(older), 'libnpm_calls.a')}"
         self.assertEqual(self.linked(NODE_SEMVER_LIBRARY=both, NODE_SEMVER_INCLUDE=headers), "first")
 
     def test_says_what_is_missing(self) -> None:
         library = self.installed()
-        header = os.path.join(os.path.dirname(os.path.dirname(library)), "include", "npm_pick.h")
-        pick, resolve = (os.path.join(os.path.dirname(library), name) for name in ("libnpm_pick.a", "libnpm_resolve.a"))
+        header = os.path.join(os.path.dirname(os.path.dirname(library)), "include", "npm_calls.h")
+        calls = os.path.join(os.path.dirname(library), "libnpm_calls.a")
         shutil.rmtree(self.c)
         self.refused("NODE_SEMVER_LIBRARY is not set.")
         self.refused("NODE_SEMVER_LIBRARY is not set.", NODE_SEMVER_LIBRARY="")
@@ -142,12 +140,11 @@ class Setup(unittest.TestCase):
         self.refused(f"There is no header {header}.", NODE_SEMVER_LIBRARY=library)
         self.write(header, text)
         self.assertEqual(self.linked(NODE_SEMVER_LIBRARY=library), "first")
-        for missing in (resolve, pick):
-            os.remove(missing)
-            self.refused(f"There is no library {missing}.", NODE_SEMVER_LIBRARY=library)
+        os.remove(calls)
+        self.refused(f"There is no library {calls}.", NODE_SEMVER_LIBRARY=library)
 
     def test_says_that_make_failed(self) -> None:
-        self.write(os.path.join(self.c, "Makefile"), "all pick resolve:\n\t@echo rt is not in PATH >&2; exit 1\n")
+        self.write(os.path.join(self.c, "Makefile"), "all calls:\n\t@echo rt is not in PATH >&2; exit 1\n")
         status, said = self.build()
         self.assertEqual(status, 1, said)
         self.assertIn("\nrt is not in PATH\n", "\n" + said)

@@ -1,8 +1,8 @@
 //! What the arguments mean.
 
+use crate::Format;
 use crate::arguments::argument_error::ArgumentError;
 use crate::arguments::paths::Paths;
-use crate::{Format, Kinds};
 use clap::ArgMatches;
 use command_lines::Quoted;
 use npm_advisories::Severity;
@@ -20,8 +20,8 @@ pub struct Arguments<'a> {
     /// The text after `--node`.
     pub node: Option<&'a str>,
     pub format: Option<Format>,
-    /// The kinds after each `--ignore`.
-    pub ignored: Kinds,
+    /// The kind after each `--ignore`.
+    pub ignored: Vec<&'a str>,
     /// Dependencies that are not checked are listed too.
     pub unchecked: bool,
     /// What is not checked counts for the status.
@@ -49,6 +49,10 @@ impl<'a> Arguments<'a> {
             Some(texts) => Vec::from_slice(alloc, texts)?,
             None => standard_input(alloc)?,
         };
+        let ignored = match found.get_strs("ignore") {
+            Some(words) => Vec::from_slice(alloc, words)?,
+            None => Vec::new(alloc),
+        };
         let registries = registries_in(alloc, found)?;
         let strict = found.get_flag("strict");
         Ok(Arguments {
@@ -62,7 +66,7 @@ impl<'a> Arguments<'a> {
             },
             node: found.get_str("node"),
             format: format_in(found),
-            ignored: ignored_in(found),
+            ignored,
             unchecked: found.get_flag("unchecked"),
             strict,
             exact: found.get_flag("exact"),
@@ -141,17 +145,6 @@ fn format_in(found: &ArgMatches<'_>) -> Option<Format> {
         "html" => Some(Format::Pages(PageFormat::Html)),
         "junit" => Some(Format::Pages(PageFormat::Junit)),
         _ => None,
-    }
-}
-
-/// The kinds that are left out.
-fn ignored_in(found: &ArgMatches<'_>) -> Kinds {
-    Kinds {
-        group: has(found, "ignore", "group"),
-        missing: has(found, "ignore", "missing"),
-        invalid: has(found, "ignore", "invalid"),
-        peer_local: has(found, "ignore", "peer-local"),
-        engine: has(found, "ignore", "engine"),
     }
 }
 

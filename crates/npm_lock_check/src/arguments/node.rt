@@ -1,9 +1,6 @@
 //! The version of Node that an argument names.
 //!
 //! See docs/DECISIONS.md, "A shorter version of Node is the text with zeros".
-ghost use Rattle.std.specs.Prelude.{◌++◌, codes, IfOk, MatchOption};
-ghost use Rattle.node_semver.specs.Versions.{IsVersionText};
-ghost use Rattle.npm_lock_check.specs.NodeVersion.{IsNode, IsNoVersion};
 
 use node_semver::Version;
 use std::alloc::{AllocError, Global};
@@ -18,9 +15,7 @@ use std::alloc::{AllocError, Global};
 /// # Memory
 ///
 /// Allocates the version, and for the time of the call the text with zeros.
-pub fn node_of(alloc: Global, text: &str) -> Result<Option<Version>, AllocError>
-    ensures { IfOk result (IsNode text.now) }
-{
+pub fn node_of(alloc: Global, text: &str) -> Result<Option<Version>, AllocError> {
     if let Some(version) = version_with(alloc, text, "")? {
         return Ok(Some(version));
     }
@@ -31,10 +26,7 @@ pub fn node_of(alloc: Global, text: &str) -> Result<Option<Version>, AllocError>
 }
 
 /// The version of the text with these numbers after it.
-fn version_with(alloc: Global, text: &str, zeros: &str) -> Result<Option<Version>, AllocError>
-    ensures { IfOk result (λ version. MatchOption version (IsNoVersion (text.now ++ zeros.now))
-        (IsVersionText (text.now ++ zeros.now))) }
-{
+fn version_with(alloc: Global, text: &str, zeros: &str) -> Result<Option<Version>, AllocError> {
     let mut whole = String::from_str(alloc, text)?;
     whole.push_str(zeros)?;
     match Version::parse(alloc, whole.as_str()) {

@@ -1,9 +1,9 @@
 //! The check of one lock file.
-ghost use Rattle.std.specs.Prelude.{◌≡◌, List, ℕ, IfErr, IfOk, filter, map, not};
+ghost use Rattle.std.specs.Prelude.{◌≡◌, List, IfErr, IfOk, filter, map, not};
 ghost use Rattle.std.specs.Fn.{FnOnceReturnsAt};
 ghost use Rattle.serde_json.specs.View.{view};
 ghost use Rattle.npm_advisories.specs.Audit.{FoundValue};
-ghost use Rattle.npm_lock_check.specs.Kinds.{has};
+ghost use Rattle.npm_lock_check.specs.Kinds.{has, kinds_value};
 ghost use Rattle.npm_lock_check.specs.Check.{IsReported, IsStopped};
 ghost use Rattle.npm_lock_check.specs.Written.{IsOutput};
 ghost use Rattle.npm_lock_check.specs.Private.Refusals.{IsRefused};
@@ -89,8 +89,8 @@ fn report_of<'f>(
 ) -> Result<(Report, Output<'f>), RunError>
     ensures found { IfOk result (λ made. (found : List FoundValue)
         × IsReportOf (view lock) (loaded_value loaded) (wanted_value wanted.entry) made.0 found
-        × IsOutput (wanted_value wanted.entry) text.now made.0 found made.1) }
-    ensures refused { IfErr result (IsRefused text.now (view lock) (placed (view lock)
+        × IsOutput wanted.entry.format made.0 found made.1) }
+    ensures refused { IfErr result (IsRefused (view lock) (placed (view lock)
         (manifests_of (wanted_value wanted.entry).manifest (loaded_value loaded).linked))
         (loaded_value loaded).linked (wanted_value wanted.entry)) }
 {
@@ -189,8 +189,8 @@ fn problems_of(
 }
 
 /// Removes the problems of ignored kinds.
-fn leave_out(list: &mut Vec<Problem>, ignored: Kinds)
-    ensures { list.new.items ≡ filter (λ problem. not (has ignored problem.kind)) list.old.items }
+fn leave_out(list: &mut Vec<Problem>, ignored: Kinds<'_>)
+    ensures { list.new.items ≡ filter (λ problem. not (has (kinds_value ignored.entry) problem.kind)) list.old.items }
 {
     list.retain(|problem| !ignored.has(problem.kind));
 }

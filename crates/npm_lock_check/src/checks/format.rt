@@ -3,7 +3,7 @@ use npm_lock_findings::{AnnotationFormat, PageFormat};
 use npm_lock_reports::ReportFormat;
 
 /// A format.
-#[derive(Clone, Copy, Debug, PartialEq, Eq, Drop)]
+#[derive(Clone, Copy, Drop)]
 pub enum Format {
     /// A line for each thing that is found.
     Report(ReportFormat),

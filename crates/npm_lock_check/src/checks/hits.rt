@@ -1,12 +1,8 @@
 //! The installed packages of a lock file that an advisory hits, and those that count.
-ghost use Rattle.std.specs.Prelude.{◌≡◌, IfErr, IfOk, map, option_map, string_bytes};
+ghost use Rattle.std.specs.Prelude.{IfErr, IfOk, map};
 ghost use Rattle.serde_json.specs.View.{view};
 ghost use Rattle.npm_advisories.specs.Audit.{found_value};
-ghost use Rattle.npm_advisories.specs.Faults.{fault_value};
-ghost use Rattle.npm_advisories.specs.Ids.{id_value};
-ghost use Rattle.npm_lock_check.specs.Check.{IsFaultShown};
-ghost use Rattle.npm_lock_check.specs.ListNames.{id_text};
-ghost use Rattle.npm_lock_check.specs.Private.Refusals.{AreRefusedAs, IsAuditRefused, IsNameOf};
+ghost use Rattle.npm_lock_check.specs.Private.Refusals.{AreRefusedAs, IsAuditRefused};
 ghost use Rattle.npm_lock_check.specs.Report.{AreCounted, AreHit, wanted_value};
 ghost use Rattle.npm_lock_reports.specs.Counted.{counted_value};
 
@@ -16,7 +12,7 @@ use crate::checks::wanted::Wanted;
 use json_places::Path;
 use npm_advisories::{AdvisoryId, AuditError, Fault, Found, audit_sound_lock, fault_steps};
 use npm_lock::SoundLock;
-use npm_lock_faults::ShownPlace;
+use npm_lock_findings::ShownPlace;
 use npm_lock_reports::{CountedHits, counted_hits};
 use serde_json::Value;
 use std::alloc::{AllocError, Global};
@@ -28,8 +24,7 @@ pub(crate) fn counted_of<'f, 'v>(
     wanted: Wanted<'f, '_>,
 ) -> Result<CountedHits<'f, 'v>, RunError>
     ensures found { IfOk result (λ counted. AreCounted (view lock.now) (wanted_value wanted.entry) (counted_value counted)) }
-    ensures refused { IfErr result (IsAuditRefused wanted.entry.today (view lock.now) (wanted_value wanted.entry).advisories
-        (wanted_value wanted.entry).advisories_text) }
+    ensures refused { IfErr result (IsAuditRefused wanted.entry.today (view lock.now) (wanted_value wanted.entry).advisories) }
 {
     let found = match hits_of(alloc, lock, wanted) {
         Ok(found) => found,
@@ -55,8 +50,7 @@ fn hits_of<'f, 'v>(
 ) -> Result<Vec<Found<'f, 'v>>, RunError>
     ensures found { IfOk result (λ found. AreHit wanted.entry.today (view lock.now) (wanted_value wanted.entry).advisories
         wanted.entry.level (map found_value found.items)) }
-    ensures refused { IfErr result (IsAuditRefused wanted.entry.today (view lock.now) (wanted_value wanted.entry).advisories
-        (wanted_value wanted.entry).advisories_text) }
+    ensures refused { IfErr result (IsAuditRefused wanted.entry.today (view lock.now) (wanted_value wanted.entry).advisories) }
 {
     let Some(file) = wanted.advisories else {
         return Ok(Vec::new(alloc));
@@ -82,7 +76,7 @@ fn no_advisories(
     lock: &Value,
     fault: Fault<'_>,
 ) -> RunError
-    ensures { AreRefusedAs (view lock.now) (view file.now) text.now (fault_value fault.entry) result }
+    ensures { AreRefusedAs fault.entry.kind result }
 {
     let Ok(name) = list_name(alloc, fault) else {
         return RunError::Memory;
@@ -100,9 +94,7 @@ fn shown_fault(
     text: &str,
     lock: &Value,
     fault: Fault<'_>,
-) -> Result<ShownPlace, AllocError>
-    ensures { IfOk result (IsFaultShown (view lock.now) (view file.now) text.now (fault_value fault.entry)) }
-{
+) -> Result<ShownPlace, AllocError> {
     let Ok(steps) = fault_steps(alloc, file, lock, fault) else {
         return Err(AllocError);
     };
@@ -116,30 +108,12 @@ fn shown_fault(
 }
 
 /// The name and the id of the advisory with a fault.
-fn list_name(alloc: Global, fault: Fault<'_>) -> Result<ListName, AllocError>
-    ensures { IfOk result (IsNameOf (fault_value fault.entry)) }
-{
+fn list_name(alloc: Global, fault: Fault<'_>) -> Result<ListName, AllocError> {
     let text = String::from_str(alloc, fault.name)?;
-    let id = known_id(alloc, fault.id)?;
+    let id = match fault.id {
+        Some(AdvisoryId::Number(number)) => Some(number.to_string(alloc)?),
+        Some(AdvisoryId::Text(text)) => Some(String::from_str(alloc, text)?),
+        None => None,
+    };
     Ok(ListName { text, id })
-}
-
-/// The text of an id, if there is one.
-fn known_id(alloc: Global, id: Option<AdvisoryId<'_>>) -> Result<Option<String>, AllocError>
-    ensures { IfOk result (λ text. option_map string_bytes text ≡ option_map id_text (option_map id_value id.entry)) }
-{
-    match id {
-        Some(id) => Ok(Some(id_text(alloc, id)?)),
-        None => Ok(None),
-    }
-}
-
-/// The text of an id.
-fn id_text(alloc: Global, id: AdvisoryId<'_>) -> Result<String, AllocError>
-    ensures { IfOk result (λ text. string_bytes text ≡ id_text (id_value id.entry)) }
-{
-    match id {
-        AdvisoryId::Number(number) => number.to_string(alloc),
-        AdvisoryId::Text(text) => String::from_str(alloc, text),
-    }
 }

@@ -1,11 +1,10 @@
 //! Why a lock file was not checked. In front of each text the program writes what `subject` says.
 use crate::checks::list_name::{ListName, PlacedFault};
-use advisory_exceptions::ExceptionsError;
 use command_lines::InputError;
 use npm_advisories::FaultKind;
 use npm_lock::Fault;
-use npm_lock_faults::{FaultPlace, ShownPlace};
-use npm_lock_reports::FolderName;
+use npm_lock_findings::{FaultPlace, ShownPlace};
+use npm_lock_reports::{ExceptionsError, FolderName};
 use npm_manifest_files::{LoadError, ManifestError};
 use thiserror::Error;
 

@@ -8,7 +8,7 @@ ghost use Rattle.npm_lock_check.specs.Private.Refusals.{IsLockRefused};
 
 use crate::checks::run_error::RunError;
 use npm_lock::{CheckError, SoundLock, convert, is_version_one};
-use npm_lock_faults::lock_fault_place;
+use npm_lock_findings::lock_fault_place;
 use serde_json::Value;
 use std::alloc::Global;
 
@@ -25,7 +25,7 @@ pub(crate) fn converted(
     ensures later { IfOk result (λ made. VersionOne.is_version_one (view made) ≡ false) }
     ensures sound { IfOk result (λ made. VersionOne.is_version_one (view lock) ≡ true → lock_fault (view made) ≡ None) }
     ensures refused { IfErr result
-        (IsLockRefused text.now (view lock) (option_map (λ manifest. view manifest.now) manifest.entry)) }
+        (IsLockRefused (view lock) (option_map (λ manifest. view manifest.now) manifest.entry)) }
 {
     if !is_version_one(&lock) {
         return Ok(lock);
@@ -45,7 +45,7 @@ fn refuse(alloc: Global, lock: &Value, text: &str, manifest: Option<&Value>) -> 
     ensures sound { OnOk result
         (any_fault (view lock.now) (option_map (λ manifest. view manifest.now) manifest.entry) ≡ None) }
     ensures refused { IfErr result
-        (IsLockRefused text.now (view lock.now) (option_map (λ manifest. view manifest.now) manifest.entry)) }
+        (IsLockRefused (view lock.now) (option_map (λ manifest. view manifest.now) manifest.entry)) }
 {
     match lock_fault_place(alloc, text, lock, manifest) {
         Ok(None) => Ok(()),
@@ -62,7 +62,7 @@ pub(crate) fn sound_lock<'v>(
 ) -> Result<SoundLock<'v>, RunError>
     requires { VersionOne.is_version_one (view lock.now) ≡ false }
     ensures file { IfOk result (λ sound. sound ≡ lock.now) }
-    ensures refused { IfErr result (IsLockRefused text.now (view lock.now) None) }
+    ensures refused { IfErr result (IsLockRefused (view lock.now) None) }
 {
     match SoundLock::of(alloc, lock) {
         Ok(sound) => Ok(sound),

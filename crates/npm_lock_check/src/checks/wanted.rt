@@ -28,7 +28,7 @@ pub struct Wanted<'a, 'f> {
     /// The version of Node that each package is checked with.
     pub node: Option<&'a Version>,
     /// The kinds of problems that are left out.
-    pub ignored: Kinds,
+    pub ignored: Kinds<'a>,
     /// What is suspicious in where packages come from counts.
     pub sources: bool,
     /// The registries that packages come from, or none if any will do.

@@ -1,7 +1,6 @@
 //! The output for one lock file.
 ghost use Rattle.std.specs.Prelude.{◌≡◌, IfOk, map};
 ghost use Rattle.npm_advisories.specs.Audit.{found_value};
-ghost use Rattle.npm_lock_check.specs.Report.{wanted_value};
 ghost use Rattle.npm_lock_check.specs.Written.{IsOutput};
 ghost use Rattle.npm_lock_reports.specs.Lines.{line_count, thing_count};
 
@@ -22,7 +21,7 @@ pub(crate) fn output_of<'f>(
     found: &[Found<'_, '_>],
     wanted: Wanted<'_, 'f>,
 ) -> Result<Output<'f>, AllocError>
-    ensures { IfOk result (IsOutput (wanted_value wanted.entry) text.now report.now (map found_value found.now)) }
+    ensures { IfOk result (IsOutput wanted.entry.format report.now (map found_value found.now)) }
 {
     match wanted.format {
         Format::Report(format) => Ok(Output {

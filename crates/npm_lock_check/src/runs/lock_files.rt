@@ -4,8 +4,8 @@
 ghost use Rattle.std.specs.Prelude.{◌≡◌, ◌≢◌, ℕ, List, IfErr, IfOk, IsErrOf, IsSome, OnOk, map};
 ghost use Rattle.std.specs.Fn.{FnReturnsAt};
 ghost use Rattle.std.specs.Io.KnownBytes.{Appends};
-ghost use Rattle.npm_lock_check.specs.Paths.{paths_value};
-ghost use Rattle.npm_lock_check.specs.Files.{AreChecked, IsAdded, IsRunText, IsStopText, is_complete};
+ghost use Rattle.npm_lock_check.specs.Files.{AreChecked, IsAdded};
+ghost use Rattle.npm_lock_check.specs.Written.{IsWritten};
 ghost use Rattle.npm_lock_check.specs.declared.checks.output.Output.{Output};
 
 use crate::runs::outputs::text_of;
@@ -56,8 +56,7 @@ pub fn run<'f, W: Write, F: Fn(&'f str) -> Result<(Report, Output<'f>), StopErro
     requires { F.IsAlwaysCallable check }
     ensures written { IfOk result (λ outcomes. (outputs : List Output) × (text : List ℕ)
         × AreChecked (FnReturnsAt F.Fn check) (map (λ file. file.now) files.now) outcomes.items outputs
-        × IsRunText writing.entry.format (paths_value writing.entry.asked) writing.entry.outer.now
-        (map (λ file. file.now) files.now) outcomes.items outputs text
+        × IsWritten writing.entry.format outputs text
         × Appends (W.contents writer.old.inner) (W.contents writer.new.inner) text) }
     ensures error { IfErr result (λ error. error ≢ RunError.Write → (error ≡ RunError.Memory) × (writer.new ≡ writer.old)) }
     ensures failed { IsErrOf result RunError.Write → IsSome writer.new.failure }
@@ -85,10 +84,7 @@ pub fn stop_text(
     alloc: Global,
     writing: Writing<'_>,
     error: &StopError,
-) -> Result<Vec<u8>, AllocError>
-    ensures { IfOk result (λ text. IsStopText writing.entry.format (paths_value writing.entry.asked)
-        writing.entry.outer.now error.now text.items) }
-{
+) -> Result<Vec<u8>, AllocError> {
     let mut refusals = Vec::new(alloc);
     push_refusal(
         alloc,
@@ -118,8 +114,7 @@ fn run_text(
     outcomes: &[Result<Report, StopError>],
     outputs: Vec<Output<'_>>,
 ) -> Result<Vec<u8>, AllocError>
-    ensures { IfOk result (λ text. IsRunText writing.entry.format (paths_value writing.entry.asked)
-        writing.entry.outer.now (map (λ file. file.now) files.now) outcomes.now outputs.entry.items text.items) }
+    ensures { IfOk result (λ text. IsWritten writing.entry.format outputs.entry.items text.items) }
 {
     let refusals = refusals_of(alloc, writing.asked, writing.outer, files, outcomes)?;
     let checked = checked_files(alloc, files, outcomes)?;
@@ -152,9 +147,7 @@ fn checked_files<'f>(
 }
 
 /// Returns `true` if every lock file was checked.
-fn is_complete(outcomes: &[Result<Report, StopError>]) -> bool
-    ensures { result ≡ is_complete outcomes.now }
-{
+fn is_complete(outcomes: &[Result<Report, StopError>]) -> bool {
     for outcome in outcomes {
         if outcome.is_err() {
             return false;

@@ -1,6 +1,4 @@
 //! Which exceptions may apply to something: each excepted hit marks its exception, so that no exception is looked up among all hits.
-ghost use Rattle.std.specs.Prelude.{◌≡◌, IfOk, replicate, slice_set, true};
-ghost use Rattle.npm_lock_check.specs.Private.Marks.{AreMarks, marked};
 
 use crate::StopError;
 use npm_lock_reports::{Excepted, Report};
@@ -11,9 +9,7 @@ pub fn marks_of(
     alloc: Global,
     count: usize,
     outcomes: &[Result<Report, StopError>],
-) -> Result<Vec<bool>, AllocError>
-    ensures { IfOk result (λ marks. AreMarks count outcomes.now marks.items) }
-{
+) -> Result<Vec<bool>, AllocError> {
     let mut marks = all_alike(alloc, false, count)?;
     for outcome in outcomes {
         match outcome {
@@ -25,25 +21,19 @@ pub fn marks_of(
 }
 
 /// So many marks, all of them set, or none.
-fn all_alike(alloc: Global, are_set: bool, count: usize) -> Result<Vec<bool>, AllocError>
-    ensures { IfOk result (λ marks. marks.items ≡ replicate count are_set) }
-{
+fn all_alike(alloc: Global, are_set: bool, count: usize) -> Result<Vec<bool>, AllocError> {
     vec![in alloc; are_set; count]
 }
 
 /// Marks the exceptions by which these are excepted.
-fn mark_all(marks: &mut Vec<bool>, excepted: &[Excepted])
-    ensures { marks.new.items ≡ marked marks.old.items excepted.now }
-{
+fn mark_all(marks: &mut Vec<bool>, excepted: &[Excepted]) {
     for one in excepted {
         mark(marks, one.place);
     }
 }
 
 /// Marks one exception.
-fn mark(marks: &mut Vec<bool>, place: usize)
-    ensures { marks.new.items ≡ slice_set marks.old.items place true }
-{
+fn mark(marks: &mut Vec<bool>, place: usize) {
     if let Some(mark) = marks.get_mut(place) {
         *mark = true;
     }

@@ -1,19 +1,10 @@
 //! The files that were refused: which file each is, the message, and where in the file it belongs.
-ghost use Rattle.std.specs.Prelude.{◌≡◌, ◌++◌, IfOk, OnOk, map, option_and_then, option_map, string_bytes};
-ghost use Rattle.findings.specs.Findings.{finding_value};
-ghost use Rattle.npm_lock_check.specs.Paths.{paths_value};
-ghost use Rattle.npm_lock_check.specs.Refused as Refused;
-ghost use Rattle.npm_lock_check.specs.Subjects.{input_of};
-ghost use Rattle.npm_lock_check.specs.Refused.{refusal_finding, refusal_value};
 
 use crate::runs::subject::{Source, input_of};
 use crate::{Paths, RunError, StopError};
-use advisory_exceptions::ExceptionsError;
 use command_lines::InputError;
-use findings::Finding;
-use npm_lock_faults::{FaultPlace, ShownPlace};
-use npm_lock_findings::refused_finding;
-use npm_lock_reports::{FolderName, Report};
+use npm_lock_findings::{FaultPlace, Finding, ShownPlace, refused_finding};
+use npm_lock_reports::{ExceptionsError, FolderName, Report};
 use npm_manifest_files::{LoadError, ManifestError, path_of};
 use std::alloc::{AllocError, Global};
 
@@ -46,55 +37,14 @@ pub(crate) fn refusals_of(
     outer: &str,
     files: &[&str],
     outcomes: &[Result<Report, StopError>],
-) -> Result<Vec<Refusal>, AllocError>
-    ensures { IfOk result (λ refusals. map Refused.place_of (map refusal_value refusals.items)
-        ≡ Refused.refused_in (paths_value asked.entry) outer.now (map (λ file. file.now) files.now) outcomes.now) }
-{
+) -> Result<Vec<Refusal>, AllocError> {
     let mut refusals = Vec::new(alloc);
-    push_refusals(alloc, &mut refusals, asked, outer, files, outcomes)?;
-    Ok(refusals)
-}
-
-/// Adds the refusals of these lock files.
-fn push_refusals(
-    alloc: Global,
-    refusals: &mut Vec<Refusal>,
-    asked: Paths<'_>,
-    outer: &str,
-    files: &[&str],
-    outcomes: &[Result<Report, StopError>],
-) -> Result<(), AllocError>
-    ensures { OnOk result (map Refused.place_of (map refusal_value refusals.new.items)
-        ≡ map Refused.place_of (map refusal_value refusals.old.items)
-        ++ Refused.refused_in (paths_value asked.entry) outer.now (map (λ file. file.now) files.now) outcomes.now) }
-{
-    let Some((file, files)) = files.split_first() else {
-        return Ok(());
-    };
-    let Some((outcome, outcomes)) = outcomes.split_first() else {
-        return Ok(());
-    };
-    push_outcome(alloc, refusals, asked, outer, *file, outcome)?;
-    push_refusals(alloc, refusals, asked, outer, files, outcomes)
-}
-
-/// Adds the refusal of a lock file, if it was not checked.
-fn push_outcome(
-    alloc: Global,
-    refusals: &mut Vec<Refusal>,
-    asked: Paths<'_>,
-    outer: &str,
-    file: &str,
-    outcome: &Result<Report, StopError>,
-) -> Result<(), AllocError>
-    ensures { OnOk result (map Refused.place_of (map refusal_value refusals.new.items)
-        ≡ map Refused.place_of (map refusal_value refusals.old.items)
-        ++ Refused.refused_one (paths_value asked.entry) outer.now file.now outcome.now) }
-{
-    match outcome {
-        Ok(_) => Ok(()),
-        Err(error) => push_refusal(alloc, refusals, asked, outer, file, error),
+    for index in 0..files.len().min(outcomes.len()) {
+        if let Err(error) = &outcomes[index] {
+            push_refusal(alloc, &mut refusals, asked, outer, files[index], error)?;
+        }
     }
+    Ok(refusals)
 }
 
 /// Adds the refusal that an error of the check of a lock file is, if the error is about a file.
@@ -105,11 +55,7 @@ pub(crate) fn push_refusal(
     outer: &str,
     file: &str,
     error: &StopError,
-) -> Result<(), AllocError>
-    ensures { OnOk result (map Refused.place_of (map refusal_value refusals.new.items)
-        ≡ map Refused.place_of (map refusal_value refusals.old.items)
-        ++ Refused.refused_by (paths_value asked.entry) outer.now file.now error.now) }
-{
+) -> Result<(), AllocError> {
     let Some(path) = refused_file(alloc, asked, outer, file, error)? else {
         return Ok(());
     };
@@ -131,10 +77,7 @@ pub(crate) fn push_findings_of<'f>(
     alloc: Global,
     findings: &mut Vec<Finding<'f>>,
     refusals: &'f [Refusal],
-) -> Result<(), AllocError>
-    ensures { OnOk result (map finding_value findings.new.items
-        ≡ map finding_value findings.old.items ++ map refusal_finding (map refusal_value refusals.now)) }
-{
+) -> Result<(), AllocError> {
     for refusal in refusals {
         findings.push(finding_of(alloc, refusal)?)?;
     }
@@ -142,9 +85,7 @@ pub(crate) fn push_findings_of<'f>(
 }
 
 /// The finding of a refusal.
-fn finding_of<'f>(alloc: Global, refusal: &'f Refusal) -> Result<Finding<'f>, AllocError>
-    ensures { IfOk result (λ finding. finding_value finding ≡ refusal_finding (refusal_value refusal.now)) }
-{
+fn finding_of<'f>(alloc: Global, refusal: &'f Refusal) -> Result<Finding<'f>, AllocError> {
     let message = Vec::from_slice(alloc, &refusal.message)?;
     let spot = refusal.spot;
     Ok(refused_finding(message, refusal.file.as_str(), spot.line, spot.column))
@@ -157,10 +98,7 @@ fn refused_file(
     outer: &str,
     file: &str,
     error: &StopError,
-) -> Result<Option<String>, AllocError>
-    ensures { IfOk result (λ path. option_map string_bytes path
-        ≡ Refused.refused_file (paths_value asked.entry) outer.now file.now error.now) }
-{
+) -> Result<Option<String>, AllocError> {
     if let Some(folder) = folder_in(error) {
         let path = path_of(alloc, outer, folder.text.as_str())?;
         return Ok(Some(path));
@@ -173,9 +111,7 @@ fn refused_file(
 }
 
 /// The folder of the manifest that an error is about, if it is about one that a link names.
-fn folder_in(error: &StopError) -> Option<&FolderName>
-    ensures { option_map (λ folder. string_bytes folder.now.text) result ≡ Refused.folder_in error.now }
-{
+fn folder_in(error: &StopError) -> Option<&FolderName> {
     match error {
         StopError::Load(LoadError::Open(folder) | LoadError::Read(folder, _)) => Some(folder),
         _ => None,
@@ -183,10 +119,7 @@ fn folder_in(error: &StopError) -> Option<&FolderName>
 }
 
 /// The file that the error is about, as the command line names it: `-` is standard input.
-fn file_of<'a>(asked: Paths<'a>, lock_file: &'a str, error: &StopError) -> Option<&'a str>
-    ensures { option_map (λ file. file.now) result
-        ≡ option_and_then (Refused.file_of (paths_value asked.entry) lock_file.now) (input_of error.now) }
-{
+fn file_of<'a>(asked: Paths<'a>, lock_file: &'a str, error: &StopError) -> Option<&'a str> {
     match input_of(error)? {
         Source::Lock => Some(lock_file),
         Source::Manifest => asked.manifest,
@@ -196,9 +129,7 @@ fn file_of<'a>(asked: Paths<'a>, lock_file: &'a str, error: &StopError) -> Optio
 }
 
 /// The place in the file, or the beginning if it has none.
-fn spot_of(error: &StopError) -> Spot
-    ensures { result ≡ Refused.spot_of error.now }
-{
+fn spot_of(error: &StopError) -> Spot {
     match error {
         StopError::Check(error) | StopError::Advisories(error) => run_spot(error),
         StopError::Manifest(error) | StopError::Load(LoadError::Read(_, error)) => {
@@ -210,9 +141,7 @@ fn spot_of(error: &StopError) -> Spot
 }
 
 /// The same of an error of a check.
-fn run_spot(error: &RunError) -> Spot
-    ensures { result ≡ Refused.run_spot error.now }
-{
+fn run_spot(error: &RunError) -> Spot {
     match error {
         RunError::Input(error) => input_spot(error),
         RunError::NoLockFile(found) => fault_spot(found),
@@ -222,9 +151,7 @@ fn run_spot(error: &RunError) -> Spot
 }
 
 /// The same of an error of a manifest.
-fn manifest_spot(error: &ManifestError) -> Spot
-    ensures { result ≡ Refused.manifest_spot error.now }
-{
+fn manifest_spot(error: &ManifestError) -> Spot {
     match error {
         ManifestError::Input(error) => input_spot(error),
         ManifestError::Faulty(found) => fault_spot(found),
@@ -233,9 +160,7 @@ fn manifest_spot(error: &ManifestError) -> Spot
 }
 
 /// The same of an error of exceptions.
-fn exceptions_spot(error: &ExceptionsError) -> Spot
-    ensures { result ≡ Refused.exceptions_spot error.now }
-{
+fn exceptions_spot(error: &ExceptionsError) -> Spot {
     match error {
         ExceptionsError::NoToml(line, column, _) => shown_spot(*line, *column),
         ExceptionsError::Faulty(_, line, column) => shown_spot(*line, *column),
@@ -244,16 +169,12 @@ fn exceptions_spot(error: &ExceptionsError) -> Spot
 }
 
 /// This line and this column.
-fn shown_spot(line: usize, column: usize) -> Spot
-    ensures { result ≡ (record { line = line; column = column }) }
-{
+fn shown_spot(line: usize, column: usize) -> Spot {
     Spot { line, column }
 }
 
 /// The same of an input that was not read.
-fn input_spot(error: &InputError) -> Spot
-    ensures { result ≡ Refused.input_spot error.now }
-{
+fn input_spot(error: &InputError) -> Spot {
     match error {
         InputError::NoJson(line, column) => Spot {
             line: *line,
@@ -264,16 +185,12 @@ fn input_spot(error: &InputError) -> Spot
 }
 
 /// The place of a fault.
-fn fault_spot(found: &FaultPlace) -> Spot
-    ensures { result ≡ Refused.spot_at found.now.place }
-{
+fn fault_spot(found: &FaultPlace) -> Spot {
     spot_at(&found.place)
 }
 
 /// The line and the column of a place.
-fn spot_at(shown: &ShownPlace) -> Spot
-    ensures { result ≡ Refused.spot_at shown.now }
-{
+fn spot_at(shown: &ShownPlace) -> Spot {
     Spot {
         line: shown.line,
         column: shown.column,

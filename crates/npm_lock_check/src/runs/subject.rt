@@ -1,10 +1,8 @@
 //! The input that an error is about.
-ghost use Rattle.std.specs.Prelude.{◌≡◌};
-ghost use Rattle.npm_lock_check.specs.Subjects as Subjects;
 
 use crate::{Paths, RunError, StopError};
-use advisory_exceptions::ExceptionsError;
 use command_lines::{InputError, Quoted};
+use npm_lock_reports::ExceptionsError;
 use std::fmt;
 
 /// An input of the program.
@@ -83,9 +81,7 @@ pub fn lock_subject<'a>(file: &'a str) -> Subject<'a> {
 }
 
 /// Returns the input that an error is about.
-pub(crate) fn input_of(error: &StopError) -> Option<Source>
-    ensures { result ≡ Subjects.input_of error.now }
-{
+pub(crate) fn input_of(error: &StopError) -> Option<Source> {
     match error {
         StopError::Check(error) => checked_input(error),
         StopError::Manifest(_) => Some(Source::Manifest),
@@ -96,9 +92,7 @@ pub(crate) fn input_of(error: &StopError) -> Option<Source>
 }
 
 /// The input that an error of exceptions is about.
-fn excepting_input(error: &ExceptionsError) -> Option<Source>
-    ensures { result ≡ Subjects.excepting_input error.now }
-{
+fn excepting_input(error: &ExceptionsError) -> Option<Source> {
     match error {
         ExceptionsError::Memory
         | ExceptionsError::Clock
@@ -108,9 +102,7 @@ fn excepting_input(error: &ExceptionsError) -> Option<Source>
 }
 
 /// The input that an error of a check is about.
-fn checked_input(error: &RunError) -> Option<Source>
-    ensures { result ≡ Subjects.checked_input error.now }
-{
+fn checked_input(error: &RunError) -> Option<Source> {
     match error {
         RunError::Write | RunError::Memory | RunError::NoLinked(_, _) => None,
         RunError::Input(InputError::Memory) => None,

@@ -1,7 +1,7 @@
 -- The messages that pieces have so far.
 use Rattle.std.specs.Prelude.{ℕ, List, map}
-use Rattle.findings.specs.Pieces.{messages_in, piece_value}
-use Rattle.findings.specs.declared.pages.piece.Piece.{Piece}
+use Rattle.npm_lock_findings.specs.Forms.{messages_in, piece_value}
+use Rattle.npm_lock_findings.specs.declared.forms.piece.Piece.{Piece}
 use Rattle.npm_lock_findings.specs.declared.pages.order.Row.{Row}
 
 abbrev pub said_in : List Piece → List (List ℕ)

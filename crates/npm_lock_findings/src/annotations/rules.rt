@@ -1,39 +1,30 @@
 //! The rules that findings break: one for each kind of problem, one for each other kind of finding, and one for each severity of advisories.
 //!
 //! See docs/DECISIONS.md, "The severity of an advisory in a log is that of its word".
-ghost use Rattle.std.specs.Prelude.{◌≡◌, map};
-ghost use Rattle.npm_lock_findings.specs.Rules as Rules;
+ghost use Rattle.std.specs.Prelude.{◌≡◌, ◌≤◌, ◌⊎◌};
+ghost use Rattle.npm_advisories.specs.Severities.{rank};
+ghost use Rattle.npm_lock_findings.specs.Findings.{IsMostSevere};
+ghost use Rattle.npm_lock_findings.specs.Forms.{message_of};
 
-use crate::pages::Part;
-use findings::{Level, Rule};
-use npm_lock::Kind;
+use crate::finding::{Finding, Level, Rule};
+use npm_advisories::{About, Severity};
+use npm_lock_reports::{Report, Thing};
 
-/// The place of the rule of mismatches in the list.
-pub const MISMATCH_PLACE: usize = 4;
+/// The word for packages that an advisory hits, and the `id` of the rule of those whose severity has none of its own.
+pub(crate) const ADVISORY: &str = "advisory";
 
-/// The place of the rule of packages that an advisory hits whose severity has no rule.
-pub const ADVISORY_PLACE: usize = 5;
+/// The `id` of the rule of files that are refused.
+const REFUSED: &str = "refused";
 
-/// The place of the rule of dependencies that are not checked.
-pub const UNCHECKED_PLACE: usize = 6;
+/// The `id` of the rule of what is not checked.
+const UNCHECKED: &str = "unchecked";
 
-/// The place of the rule of files that are refused.
-pub const REFUSED_PLACE: usize = 7;
-
-/// The place of the rule of suspicious sources.
-pub const SOURCE_PLACE: usize = 8;
-
-/// The place of the rule of what is needed and left out.
-pub const LEFT_OUT_PLACE: usize = 13;
-
-/// Returns the rules, each at its place.
+/// Returns the rules. That of a kind of problem has the word of the kind as its `id`, and a log names a rule by its place too.
 ///
 /// The scores of advisories are the middles of the bands of CVSS 3.1, section 5, "Qualitative Severity Rating Scale", by which GitHub
 /// reads `security-severity`: critical from 9.0 to 10.0, high from 7.0, medium from 4.0, low from 0.1. An advisory of another severity, or
 /// of one that is not known, has none.
-pub fn rules() -> [Rule<'static>; 14]
-    ensures { map (λ rule. rule.id.now) result ≡ Rules.rule_words }
-{
+pub(crate) fn rules() -> [Rule<'static>; 14] {
     [
         rule(
             "missing",
@@ -66,18 +57,18 @@ pub fn rules() -> [Rule<'static>; 14]
             Level::Warning,
         ),
         advisory(
-            "advisory",
+            ADVISORY,
             "A security advisory hits an installed package.",
             None,
         ),
         rule(
-            "unchecked",
+            UNCHECKED,
             "A dependency is not checked, a manifest was not read, or workspaces were not looked for.",
             DEPENDENCIES,
             Level::Note,
         ),
         rule(
-            "refused",
+            REFUSED,
             "A file is not read, or has a fault.",
             "https://docs.npmjs.com/cli/configuring-npm/package-lock-json",
             Level::Error,
@@ -126,9 +117,7 @@ fn rule(
     description: &'static str,
     help: &'static str,
     level: Level,
-) -> Rule<'static>
-    ensures { result.id.now ≡ id.now }
-{
+) -> Rule<'static> {
     Rule {
         id,
         description,
@@ -143,9 +132,7 @@ fn advisory(
     id: &'static str,
     description: &'static str,
     severity: Option<&'static str>,
-) -> Rule<'static>
-    ensures { result.id.now ≡ id.now }
-{
+) -> Rule<'static> {
     Rule {
         id,
         description,
@@ -155,53 +142,94 @@ fn advisory(
     }
 }
 
-/// Returns the place of the rule of packages whose most severe advisory stands in this part of a page.
-pub fn advisory_place(part: Part) -> usize
-    ensures { result ≡ Rules.advisory_place part }
-{
-    match part {
-        Part::Critical => 9,
-        Part::High => 10,
-        Part::Moderate => 11,
-        Part::Low => 12,
-        _ => ADVISORY_PLACE,
+/// Returns the place of the rule with this `id`.
+pub(crate) fn place_of(rules: &[Rule<'static>], id: &str) -> usize {
+    for index in 0..rules.len() {
+        if rules[index].id == id {
+            return index;
+        }
+    }
+    0
+}
+
+/// Returns the word for a thing, the `id` of its rule, and its level. A mismatch and what is not checked are errors if they count for the
+/// status.
+pub(crate) fn rule_of(thing: Thing<'_>, report: &Report) -> (&'static str, &'static str, Level) {
+    match thing {
+        Thing::Mismatch(_) => alike("mismatch", error_or(report.exact, Level::Warning)),
+        Thing::Problem(problem) => alike(problem.kind.as_str(), Level::Error),
+        Thing::Hit(found) => (ADVISORY, advisory_id(&found.hits), Level::Error),
+        Thing::Source(_) => alike("source", Level::Error),
+        Thing::LeftOut(_) => alike("left-out", Level::Error),
+        Thing::Unchecked(_) | Thing::Unread(_) => {
+            alike(UNCHECKED, error_or(report.strict, Level::Note))
+        }
     }
 }
 
-/// Returns the `id` of the rule of a kind of problem.
-pub fn rule_of(kind: Kind) -> &'static str
-    ensures { result.now ≡ Rules.rule_word kind }
-{
-    match kind {
-        Kind::Missing => "missing",
-        Kind::Invalid => "invalid",
-        Kind::PeerLocal => "peer-local",
-        Kind::Engine => "engine",
+/// A word that is the `id` of the rule, and the level.
+fn alike(word: &'static str, level: Level) -> (&'static str, &'static str, Level) {
+    (word, word, level)
+}
+
+/// The level of what may count for the status.
+fn error_or(counts: bool, other: Level) -> Level {
+    if counts { Level::Error } else { other }
+}
+
+/// The `id` of the rule of a package with these hits: that of the most severe one.
+fn advisory_id(hits: &[About<'_>]) -> &'static str {
+    match most_severe(hits) {
+        Severity::Critical => "advisory-critical",
+        Severity::High => "advisory-high",
+        Severity::Moderate => "advisory-moderate",
+        Severity::Low => "advisory-low",
+        Severity::Info | Severity::Unknown => ADVISORY,
     }
 }
 
-/// Returns the place of this rule in the list.
-pub fn rule_place(kind: Kind) -> usize
-    ensures { result ≡ Rules.rule_place kind }
+/// Returns the severity of the most severe of these hits, or `Unknown` if that of none is known.
+pub(crate) fn most_severe(hits: &[About<'_>]) -> Severity
+    ensures { IsMostSevere hits.now result }
 {
-    match kind {
-        Kind::Missing => 0,
-        Kind::Invalid => 1,
-        Kind::PeerLocal => 2,
-        Kind::Engine => 3,
+    let mut most = Severity::Unknown;
+    for about in hits {
+        most = more_severe(most, about.severity);
+    }
+    most
+}
+
+/// Returns the more severe of two. One that is not known is below all others.
+fn more_severe(one: Severity, other: Severity) -> Severity
+    ensures left { rank one ≤ rank result }
+    ensures right { rank other ≤ rank result }
+    ensures is { (result ≡ one) ⊎ (result ≡ other) }
+{
+    // (`is_at_least` has one that is not known above all others)
+    if other != Severity::Unknown && other.is_at_least(one) {
+        other
+    } else {
+        one
     }
 }
 
-/// Returns the level of mismatches.
-pub fn mismatch_level(exact: bool) -> Level
-    ensures { result ≡ Rules.mismatch_level exact }
+/// Returns the finding of a file that was refused, with a message in UTF-8, at a line and a column. Does not allocate.
+pub fn refused_finding<'f>(
+    message: Vec<u8>,
+    file: &'f str,
+    line: usize,
+    column: usize,
+) -> Finding<'f>
+    ensures { message_of result ≡ message.items }
 {
-    if exact { Level::Error } else { Level::Warning }
-}
-
-/// Returns the level of what is not checked.
-pub fn unchecked_level(strict: bool) -> Level
-    ensures { result ≡ Rules.unchecked_level strict }
-{
-    if strict { Level::Error } else { Level::Note }
+    Finding {
+        rule: REFUSED,
+        rule_index: place_of(&rules(), REFUSED),
+        level: Level::Error,
+        message,
+        file,
+        line,
+        column,
+        suppression: None,
+    }
 }

@@ -1,7 +1,7 @@
 //! Formats for people.
 
 /// How reports are written for people.
-#[derive(Clone, Copy, Debug, PartialEq, Eq, Drop)]
+#[derive(Clone, Copy, Drop)]
 pub enum PageFormat {
     /// A page for a browser.
     Html,

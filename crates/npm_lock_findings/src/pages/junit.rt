@@ -3,12 +3,13 @@
 //! See docs/DECISIONS.md, "A warning is a test case that was skipped".
 ghost use Rattle.std.specs.Prelude.{◌≡◌, ◌++◌, ◌∷◌, [], IfOk, OnOk, map};
 ghost use Rattle.npm_lock_findings.specs.Private.Said.{said_in};
-ghost use Rattle.npm_lock_findings.specs.Texts.{message_of};
+ghost use Rattle.npm_lock_findings.specs.Forms.{message_of};
 
+use crate::finding::Finding;
+use crate::forms::Piece;
 use crate::pages::order::{is_error, subject_at};
 use crate::pages::subject::Subject;
 use crate::pages::whole::TOOL;
-use findings::{Finding, Piece};
 use std::alloc::{AllocError, Global};
 
 /// Returns the pieces of the suite of a file that was checked: a test case for each finding, or one that passed if there is none. That of an
@@ -23,15 +24,15 @@ pub fn suite_pieces<'a>(
 {
     let failures = failures(findings);
     let head = [
-        Piece::Markup("<testsuite name=\""),
+        Piece::Fixed("<testsuite name=\""),
         Piece::Text(file.as_bytes()),
-        Piece::Markup("\" tests=\""),
+        Piece::Fixed("\" tests=\""),
         Piece::Number(findings.len().max(1)),
-        Piece::Markup("\" failures=\""),
+        Piece::Fixed("\" failures=\""),
         Piece::Number(failures),
-        Piece::Markup("\" errors=\"0\" skipped=\""),
+        Piece::Fixed("\" errors=\"0\" skipped=\""),
         Piece::Number(findings.len().saturating_sub(failures)),
-        Piece::Markup("\">\n"),
+        Piece::Fixed("\">\n"),
     ];
     let mut pieces = Vec::new(alloc);
     pieces.extend_from_slice(&head)?;
@@ -39,7 +40,7 @@ pub fn suite_pieces<'a>(
         push_passed(&mut pieces, file)?;
     }
     push_cases(&mut pieces, subjects, findings)?;
-    pieces.extend_from_slice(&[Piece::Markup("</testsuite>\n")])?;
+    pieces.extend_from_slice(&[Piece::Fixed("</testsuite>\n")])?;
     Ok(pieces)
 }
 
@@ -73,11 +74,11 @@ fn push_passed<'a>(pieces: &mut Vec<Piece<'a>>, file: &'a str) -> Result<(), All
     ensures { OnOk result (said_in pieces.new.items ≡ said_in pieces.old.items) }
 {
     let one = [
-        Piece::Markup("<testcase classname=\""),
-        Piece::Markup(TOOL),
-        Piece::Markup("\" name=\"nothing is found\" file=\""),
+        Piece::Fixed("<testcase classname=\""),
+        Piece::Fixed(TOOL),
+        Piece::Fixed("\" name=\"nothing is found\" file=\""),
         Piece::Text(file.as_bytes()),
-        Piece::Markup("\"/>\n"),
+        Piece::Fixed("\"/>\n"),
     ];
     pieces.extend_from_slice(&one)
 }
@@ -91,28 +92,28 @@ fn push_case<'a>(
     ensures { OnOk result (said_in pieces.new.items ≡ said_in pieces.old.items ++ (message_of finding.now ∷ [])) }
 {
     let one = [
-        Piece::Markup("<testcase classname=\""),
-        Piece::Markup(TOOL),
-        Piece::Markup("."),
+        Piece::Fixed("<testcase classname=\""),
+        Piece::Fixed(TOOL),
+        Piece::Fixed("."),
         Piece::Text(finding.rule.as_bytes()),
-        Piece::Markup("\" name=\""),
+        Piece::Fixed("\" name=\""),
         Piece::Text(finding.rule.as_bytes()),
-        Piece::Markup(": "),
+        Piece::Fixed(": "),
         Piece::Text(subject.group.as_bytes()),
-        Piece::Markup(" in "),
-        Piece::Markup(root_words(subject.folder)),
+        Piece::Fixed(" in "),
+        Piece::Fixed(root_words(subject.folder)),
         Piece::Text(subject.folder.as_bytes()),
-        Piece::Markup(if subject.exception.is_empty() {
+        Piece::Fixed(if subject.exception.is_empty() {
             ""
         } else {
             ", excepted: "
         }),
         Piece::Text(subject.exception.as_bytes()),
-        Piece::Markup("\" file=\""),
+        Piece::Fixed("\" file=\""),
         Piece::Text(finding.file.as_bytes()),
-        Piece::Markup("\" line=\""),
+        Piece::Fixed("\" line=\""),
         Piece::Number(finding.line),
-        Piece::Markup("\">"),
+        Piece::Fixed("\">"),
     ];
     pieces.extend_from_slice(&one)?;
     push_outcome(pieces, finding)
@@ -129,19 +130,19 @@ fn push_outcome<'a>(pieces: &mut Vec<Piece<'a>>, finding: &'a Finding<'a>) -> Re
 {
     let one = if is_error(finding.level) {
         [
-            Piece::Markup("<failure type=\""),
+            Piece::Fixed("<failure type=\""),
             Piece::Text(finding.rule.as_bytes()),
-            Piece::Markup("\">"),
+            Piece::Fixed("\">"),
             Piece::Message(&finding.message),
-            Piece::Markup("</failure></testcase>\n"),
+            Piece::Fixed("</failure></testcase>\n"),
         ]
     } else {
         [
-            Piece::Markup("<skipped"),
-            Piece::Markup(""),
-            Piece::Markup(">"),
+            Piece::Fixed("<skipped"),
+            Piece::Fixed(""),
+            Piece::Fixed(">"),
             Piece::Message(&finding.message),
-            Piece::Markup("</skipped></testcase>\n"),
+            Piece::Fixed("</skipped></testcase>\n"),
         ]
     };
     pieces.extend_from_slice(&one)

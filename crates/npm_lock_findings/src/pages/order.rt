@@ -1,12 +1,11 @@
 //! The parts of a page, and the order of findings in it.
 ghost use Rattle.std.specs.Prelude.{◌≡◌, IfOk, map};
 ghost use Rattle.std.specs.List.Sorted.{IsPermutation};
-ghost use Rattle.npm_lock_findings.specs.PageParts.{part_place};
+ghost use Rattle.npm_lock_findings.specs.Forms.{message_of};
 ghost use Rattle.npm_lock_findings.specs.Private.Said.{row_message};
-ghost use Rattle.npm_lock_findings.specs.Texts.{message_of};
 
+use crate::finding::{Finding, Level};
 use crate::pages::subject::Subject;
-use findings::{Finding, Level};
 use std::alloc::{AllocError, Global};
 
 /// A part of what is said of a file. The parts stand in this order.
@@ -61,9 +60,7 @@ impl Part {
     }
 
     /// Returns the place of the part in their order, counted from 0.
-    pub fn place(self) -> u8
-        ensures { result ≡ part_place self }
-    {
+    pub fn place(self) -> u8 {
         match self {
             Part::Critical => 0,
             Part::High => 1,

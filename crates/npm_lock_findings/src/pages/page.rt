@@ -1,12 +1,9 @@
 //! The page or the report of all lock files.
-ghost use Rattle.std.specs.Prelude.{◌≡◌, ◌++◌, ℕ, List, OnOk, map};
-ghost use Rattle.findings.specs.Findings.{finding_value};
-ghost use Rattle.npm_lock_findings.specs.Texts.{IsPage};
 
+use crate::finding::Finding;
+use crate::forms::{Form, push_pieces};
 use crate::pages::format::PageFormat;
 use crate::pages::whole::{CheckedFile, begin_pieces, end_pieces};
-use findings::pages::laws;
-use findings::{Finding, push_pieces};
 use std::alloc::{AllocError, Global};
 
 /// Adds the page or the report that this version of the program `npm_lock_check` writes: what is said of the files that were refused, and
@@ -29,13 +26,9 @@ pub fn push_page(
     checked: &[CheckedFile<'_>],
     refused: &[Finding<'_>],
     is_complete: bool,
-) -> Result<(), AllocError>
-    ensures { OnOk result ((text : List ℕ) × IsPage parts.now (map (λ finding. finding.message) (map finding_value refused.now)) text
-        × (out.new.items ≡ out.old.items ++ text)) }
-{
-    laws::texts_are_no_markup();
+) -> Result<(), AllocError> {
     let begin = begin_pieces(alloc, format, checked, refused, is_complete)?;
-    push_pieces(out, &begin)?;
+    push_pieces(out, Form::Markup, &begin)?;
     out.extend_from_slice(parts)?;
-    push_pieces(out, &end_pieces(format, version))
+    push_pieces(out, Form::Markup, &end_pieces(format, version))
 }

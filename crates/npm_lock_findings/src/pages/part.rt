@@ -1,22 +1,19 @@
 //! The part of one lock file.
-ghost use Rattle.std.specs.Prelude.{◌≡◌, List, IfOk, map};
+ghost use Rattle.std.specs.Prelude.{IfOk, map};
 ghost use Rattle.std.specs.List.Sorted.{IsPermutation};
-ghost use Rattle.npm_advisories.specs.Audit.{found_value};
-ghost use Rattle.findings.specs.Pieces.{PieceValue, messages_in, written};
+ghost use Rattle.npm_lock_findings.specs.Forms.{message_of, messages_in, piece_value};
 ghost use Rattle.npm_lock_findings.specs.Private.Said.{row_message, said_in};
-ghost use Rattle.npm_lock_findings.specs.Texts.{IsPart, message_of};
 
-use crate::findings_of;
+use crate::annotations::findings_of;
+use crate::finding::Finding;
+use crate::forms::{Form, Piece, push_pieces};
 use crate::pages::format::PageFormat;
 use crate::pages::junit::suite_pieces;
 use crate::pages::order::{Row, rows_of};
 use crate::pages::section::section_pieces;
 use crate::pages::subject::Subject;
-use crate::pages::subjects::subjects_of;
-use findings::pages::laws;
-use findings::{Finding, Piece, push_pieces};
 use npm_advisories::Found;
-use npm_lock_reports::Report;
+use npm_lock_reports::{Report, things_of};
 use std::alloc::{AllocError, Global};
 
 /// Returns the part of a lock file at this path, with this text.
@@ -41,10 +38,7 @@ pub fn part_of<'a>(
     file: &'a str,
     report: &'a Report,
     found: &'a [Found<'a, 'a>],
-) -> Result<Vec<u8>, AllocError>
-    ensures { IfOk result (λ part. IsPart text.now file.now report.now (map found_value found.now) part.items) }
-{
-    laws::texts_are_no_markup();
+) -> Result<Vec<u8>, AllocError> {
     let findings = findings_of(alloc, text, file, report, found)?;
     let made = part_with(alloc, format, file, report, found, &findings)?;
     Ok(made)
@@ -58,10 +52,7 @@ fn part_with<'a, 'f>(
     report: &'a Report,
     found: &'a [Found<'a, 'a>],
     findings: &'f [Finding<'f>],
-) -> Result<Vec<u8>, AllocError>
-    ensures { IfOk result (λ part. (pieces : List PieceValue) × (part.items ≡ written pieces)
-        × IsPermutation (map message_of findings.now) (messages_in pieces)) }
-{
+) -> Result<Vec<u8>, AllocError> {
     part_in(alloc, format, file, report, found, findings)
 }
 
@@ -73,16 +64,48 @@ fn part_in<'a>(
     report: &'a Report,
     found: &'a [Found<'a, 'a>],
     findings: &'a [Finding<'a>],
-) -> Result<Vec<u8>, AllocError>
-    ensures { IfOk result (λ part. (pieces : List PieceValue) × (part.items ≡ written pieces)
-        × IsPermutation (map message_of findings.now) (messages_in pieces)) }
+) -> Result<Vec<u8>, AllocError> {
+    let pieces = part_pieces(alloc, format, file, report, found, findings)?;
+    let mut part = Vec::new(alloc);
+    push_pieces(&mut part, Form::Markup, &pieces)?;
+    Ok(part)
+}
+
+/// Returns the pieces of the part of a lock file with these findings, with the message of each finding once.
+///
+/// # Errors
+///
+/// An allocation failed.
+pub fn part_pieces<'a>(
+    alloc: Global,
+    format: PageFormat,
+    file: &'a str,
+    report: &'a Report,
+    found: &'a [Found<'a, 'a>],
+    findings: &'a [Finding<'a>],
+) -> Result<Vec<Piece<'a>>, AllocError>
+    ensures { IfOk result (λ pieces. IsPermutation (map message_of findings.now) (messages_in (map piece_value pieces.items))) }
 {
     let subjects = subjects_of(alloc, report, found)?;
     let rows = rows_of(alloc, &subjects, findings)?;
-    let pieces = pieces_of(alloc, format, file, report, &subjects, &rows, findings)?;
-    let mut part = Vec::new(alloc);
-    push_pieces(&mut part, &pieces)?;
-    Ok(part)
+    pieces_of(alloc, format, file, report, &subjects, &rows, findings)
+}
+
+/// Returns what each finding of a report and of the packages that are hit is about.
+fn subjects_of<'a>(
+    alloc: Global,
+    report: &'a Report,
+    found: &'a [Found<'a, 'a>],
+) -> Result<Vec<Subject<'a>>, AllocError> {
+    let mut subjects = Vec::new(alloc);
+    let things = things_of(alloc, report, found)?;
+    for thing in &things {
+        subjects.push(Subject::of_thing(*thing))?;
+    }
+    for one in &report.excepted {
+        subjects.push(Subject::of_excepted(one))?;
+    }
+    Ok(subjects)
 }
 
 /// Returns the pieces of a part.

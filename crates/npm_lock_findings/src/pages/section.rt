@@ -4,10 +4,10 @@
 ghost use Rattle.std.specs.Prelude.{◌≡◌, ◌++◌, ◌∷◌, [], IfOk, OnOk, map};
 ghost use Rattle.npm_lock_findings.specs.Private.Said.{row_message, said_in};
 
+use crate::forms::Piece;
 use crate::pages::counts::{Count, counts_of};
 use crate::pages::order::{Row, subject_at};
 use crate::pages::subject::Subject;
-use findings::Piece;
 use npm_advisories::About;
 use npm_lock_reports::Report;
 use std::alloc::{AllocError, Global};
@@ -24,21 +24,21 @@ pub fn section_pieces<'a>(
     ensures { IfOk result (λ pieces. said_in pieces.items ≡ map row_message rows.now) }
 {
     let head = [
-        Piece::Markup("<section id=\""),
+        Piece::Fixed("<section id=\""),
         Piece::Address(file.as_bytes()),
-        Piece::Markup("\">\n<h2>"),
+        Piece::Fixed("\">\n<h2>"),
         Piece::Text(file.as_bytes()),
-        Piece::Markup("</h2>\n"),
-        Piece::Markup(verdict(report.is_clean())),
-        Piece::Markup("<div class=\"counts\">\n"),
+        Piece::Fixed("</h2>\n"),
+        Piece::Fixed(verdict(report.is_clean())),
+        Piece::Fixed("<div class=\"counts\">\n"),
     ];
     let mut pieces = Vec::new(alloc);
     pieces.extend_from_slice(&head)?;
     push_counts(&mut pieces, &counts_of(report))?;
-    pieces.extend_from_slice(&[Piece::Markup("</div>\n")])?;
+    pieces.extend_from_slice(&[Piece::Fixed("</div>\n")])?;
     push_contents(&mut pieces, file, subjects, rows)?;
     push_rows(&mut pieces, file, subjects, rows)?;
-    pieces.extend_from_slice(&[Piece::Markup("</section>\n")])?;
+    pieces.extend_from_slice(&[Piece::Fixed("</section>\n")])?;
     Ok(pieces)
 }
 
@@ -67,18 +67,18 @@ fn push_count<'a>(pieces: &mut Vec<Piece<'a>>, count: Count) -> Result<(), Alloc
 {
     let one = match count.number {
         Some(number) => [
-            Piece::Markup("<p><b>"),
+            Piece::Fixed("<p><b>"),
             Piece::Number(number),
-            Piece::Markup("</b>"),
-            Piece::Markup(count.what),
-            Piece::Markup("</p>\n"),
+            Piece::Fixed("</b>"),
+            Piece::Fixed(count.what),
+            Piece::Fixed("</p>\n"),
         ],
         None => [
-            Piece::Markup("<p><b>"),
-            Piece::Markup("&ndash;"),
-            Piece::Markup("</b>"),
-            Piece::Markup(count.what),
-            Piece::Markup(": not looked for</p>\n"),
+            Piece::Fixed("<p><b>"),
+            Piece::Fixed("&ndash;"),
+            Piece::Fixed("</b>"),
+            Piece::Fixed(count.what),
+            Piece::Fixed(": not looked for</p>\n"),
         ],
     };
     pieces.extend_from_slice(&one)
@@ -94,13 +94,13 @@ fn push_contents<'a>(
     ensures { OnOk result (said_in pieces.new.items ≡ said_in pieces.old.items) }
 {
     if rows.is_empty() {
-        return pieces.extend_from_slice(&[Piece::Markup(
+        return pieces.extend_from_slice(&[Piece::Fixed(
             "<p class=\"fine\">Nothing was found.</p>\n",
         )]);
     }
-    pieces.extend_from_slice(&[Piece::Markup("<nav>\n<ul>\n")])?;
+    pieces.extend_from_slice(&[Piece::Fixed("<nav>\n<ul>\n")])?;
     push_links(pieces, file, subjects, rows)?;
-    pieces.extend_from_slice(&[Piece::Markup("</ul>\n</nav>\n")])
+    pieces.extend_from_slice(&[Piece::Fixed("</ul>\n</nav>\n")])
 }
 
 /// Adds a link for each part.
@@ -156,13 +156,13 @@ fn push_link<'a>(
     ensures { OnOk result (said_in pieces.new.items ≡ said_in pieces.old.items) }
 {
     let one = [
-        Piece::Markup("<li><a href=\"#"),
+        Piece::Fixed("<li><a href=\"#"),
         Piece::Address(file.as_bytes()),
-        Piece::Markup(":"),
-        Piece::Markup(subject.part.word()),
-        Piece::Markup("\">"),
-        Piece::Markup(subject.part.heading()),
-        Piece::Markup("</a></li>\n"),
+        Piece::Fixed(":"),
+        Piece::Fixed(subject.part.word()),
+        Piece::Fixed("\">"),
+        Piece::Fixed(subject.part.heading()),
+        Piece::Fixed("</a></li>\n"),
     ];
     pieces.extend_from_slice(&one)
 }
@@ -213,13 +213,13 @@ fn push_part<'a>(
     ensures { OnOk result (said_in pieces.new.items ≡ said_in pieces.old.items) }
 {
     let one = [
-        Piece::Markup("<h3 id=\""),
+        Piece::Fixed("<h3 id=\""),
         Piece::Address(file.as_bytes()),
-        Piece::Markup(":"),
-        Piece::Markup(subject.part.word()),
-        Piece::Markup("\">"),
-        Piece::Markup(subject.part.heading()),
-        Piece::Markup("</h3>\n"),
+        Piece::Fixed(":"),
+        Piece::Fixed(subject.part.word()),
+        Piece::Fixed("\">"),
+        Piece::Fixed(subject.part.heading()),
+        Piece::Fixed("</h3>\n"),
     ];
     pieces.extend_from_slice(&one)
 }
@@ -229,9 +229,9 @@ fn push_group<'a>(pieces: &mut Vec<Piece<'a>>, subject: Subject<'a>) -> Result<(
     ensures { OnOk result (said_in pieces.new.items ≡ said_in pieces.old.items) }
 {
     let one = [
-        Piece::Markup("<h4>"),
+        Piece::Fixed("<h4>"),
         Piece::Text(subject.group.as_bytes()),
-        Piece::Markup("</h4>\n"),
+        Piece::Fixed("</h4>\n"),
     ];
     pieces.extend_from_slice(&one)
 }
@@ -246,23 +246,23 @@ fn push_row<'a>(
     ensures { OnOk result (said_in pieces.new.items ≡ said_in pieces.old.items ++ (row_message row.now ∷ [])) }
 {
     let one = [
-        Piece::Markup(row_begin(row.is_error)),
+        Piece::Fixed(row_begin(row.is_error)),
         Piece::Message(row.message),
-        Piece::Markup("<small>"),
+        Piece::Fixed("<small>"),
         Piece::Text(row.rule.as_bytes()),
-        Piece::Markup(" &middot; "),
+        Piece::Fixed(" &middot; "),
         Piece::Text(file.as_bytes()),
-        Piece::Markup(", line "),
+        Piece::Fixed(", line "),
         Piece::Number(row.line),
-        Piece::Markup(", column "),
+        Piece::Fixed(", column "),
         Piece::Number(row.column),
-        Piece::Markup("</small>"),
+        Piece::Fixed("</small>"),
     ];
     pieces.extend_from_slice(&one)?;
     if let Some(hits) = subject.hits {
         push_addresses(pieces, hits)?;
     }
-    pieces.extend_from_slice(&[Piece::Markup("</p>\n")])
+    pieces.extend_from_slice(&[Piece::Fixed("</p>\n")])
 }
 
 /// Returns the markup that begins the row of an error, or of another finding.
@@ -295,11 +295,11 @@ fn push_address<'a>(pieces: &mut Vec<Piece<'a>>, about: About<'a>) -> Result<(),
         return Ok(());
     }
     let one = [
-        Piece::Markup("<small><a rel=\"noreferrer\" href=\""),
+        Piece::Fixed("<small><a rel=\"noreferrer\" href=\""),
         Piece::Text(url.as_bytes()),
-        Piece::Markup("\">"),
+        Piece::Fixed("\">"),
         Piece::Text(url.as_bytes()),
-        Piece::Markup("</a></small>"),
+        Piece::Fixed("</a></small>"),
     ];
     pieces.extend_from_slice(&one)
 }

@@ -1,18 +1,19 @@
 //! What stands before and after the parts of lock files.
 ghost use Rattle.std.specs.Prelude.{◌≡◌, ◌++◌, ◌∷◌, [], IfOk, OnOk, map};
 ghost use Rattle.npm_lock_findings.specs.Private.Said.{said_in};
-ghost use Rattle.npm_lock_findings.specs.Texts.{message_of};
+ghost use Rattle.npm_lock_findings.specs.Forms.{message_of};
 
+use crate::finding::Finding;
+use crate::forms::Piece;
 use crate::pages::format::PageFormat;
 use crate::pages::head::{HEAD, REST};
-use findings::{Finding, Piece};
 use std::alloc::{AllocError, Global};
 
 /// The name of the program.
 pub const TOOL: &str = "npm_lock_check";
 
 /// How the check of a lock file ended.
-#[derive(Clone, Copy, Debug, Drop)]
+#[derive(Clone, Copy, Drop)]
 pub struct CheckedFile<'a> {
     /// The path of the lock file.
     pub file: &'a str,
@@ -82,15 +83,15 @@ fn push_verdict<'a>(
         ("The check failed", "bad")
     };
     let one = [
-        Piece::Markup(HEAD),
-        Piece::Markup(said.0),
-        Piece::Markup(REST),
-        Piece::Markup("<h1 class=\""),
-        Piece::Markup(said.1),
-        Piece::Markup("\">"),
-        Piece::Markup(said.0),
-        Piece::Markup("</h1>\n"),
-        Piece::Markup(completeness(is_complete)),
+        Piece::Fixed(HEAD),
+        Piece::Fixed(said.0),
+        Piece::Fixed(REST),
+        Piece::Fixed("<h1 class=\""),
+        Piece::Fixed(said.1),
+        Piece::Fixed("\">"),
+        Piece::Fixed(said.0),
+        Piece::Fixed("</h1>\n"),
+        Piece::Fixed(completeness(is_complete)),
     ];
     pieces.extend_from_slice(&one)
 }
@@ -122,10 +123,10 @@ fn push_contents<'a>(
 ) -> Result<(), AllocError>
     ensures { OnOk result (said_in pieces.new.items ≡ said_in pieces.old.items) }
 {
-    pieces.extend_from_slice(&[Piece::Markup("<nav>\n<ul>\n")])?;
+    pieces.extend_from_slice(&[Piece::Fixed("<nav>\n<ul>\n")])?;
     push_refused_links(pieces, refused)?;
     push_checked_links(pieces, checked)?;
-    pieces.extend_from_slice(&[Piece::Markup("</ul>\n</nav>\n")])
+    pieces.extend_from_slice(&[Piece::Fixed("</ul>\n</nav>\n")])
 }
 
 /// Adds links to what was refused.
@@ -170,13 +171,13 @@ fn push_link<'a>(
     ensures { OnOk result (said_in pieces.new.items ≡ said_in pieces.old.items) }
 {
     let one = [
-        Piece::Markup("<li><a href=\"#"),
+        Piece::Fixed("<li><a href=\"#"),
         Piece::Address(file.as_bytes()),
-        Piece::Markup("\">"),
+        Piece::Fixed("\">"),
         Piece::Text(file.as_bytes()),
-        Piece::Markup("</a>"),
-        Piece::Markup(said),
-        Piece::Markup("</li>\n"),
+        Piece::Fixed("</a>"),
+        Piece::Fixed(said),
+        Piece::Fixed("</li>\n"),
     ];
     pieces.extend_from_slice(&one)
 }
@@ -186,13 +187,13 @@ fn push_stop<'a>(pieces: &mut Vec<Piece<'a>>, refused: &'a Finding<'a>) -> Resul
     ensures { OnOk result (said_in pieces.new.items ≡ said_in pieces.old.items ++ (message_of refused.now ∷ [])) }
 {
     let one = [
-        Piece::Markup("<section id=\""),
+        Piece::Fixed("<section id=\""),
         Piece::Address(refused.file.as_bytes()),
-        Piece::Markup("\">\n<h2>"),
+        Piece::Fixed("\">\n<h2>"),
         Piece::Text(refused.file.as_bytes()),
-        Piece::Markup("</h2>\n<p class=\"bad\">Not checked</p>\n<p class=\"row\">"),
+        Piece::Fixed("</h2>\n<p class=\"bad\">Not checked</p>\n<p class=\"row\">"),
         Piece::Message(&refused.message),
-        Piece::Markup("</p>\n</section>\n"),
+        Piece::Fixed("</p>\n</section>\n"),
     ];
     pieces.extend_from_slice(&one)
 }
@@ -202,9 +203,9 @@ fn push_report<'a>(pieces: &mut Vec<Piece<'a>>) -> Result<(), AllocError>
     ensures { OnOk result (said_in pieces.new.items ≡ said_in pieces.old.items) }
 {
     let one = [
-        Piece::Markup("<?xml version=\"1.0\" encoding=\"UTF-8\"?>\n<testsuites name=\""),
-        Piece::Markup(TOOL),
-        Piece::Markup("\">\n"),
+        Piece::Fixed("<?xml version=\"1.0\" encoding=\"UTF-8\"?>\n<testsuites name=\""),
+        Piece::Fixed(TOOL),
+        Piece::Fixed("\">\n"),
     ];
     pieces.extend_from_slice(&one)
 }
@@ -215,17 +216,17 @@ fn push_error<'a>(pieces: &mut Vec<Piece<'a>>, refused: &'a Finding<'a>) -> Resu
 {
     let file = refused.file.as_bytes();
     let one = [
-        Piece::Markup("<testsuite name=\""),
+        Piece::Fixed("<testsuite name=\""),
         Piece::Text(file),
-        Piece::Markup(
+        Piece::Fixed(
             "\" tests=\"1\" failures=\"0\" errors=\"1\" skipped=\"0\">\n<testcase classname=\"",
         ),
-        Piece::Markup(TOOL),
-        Piece::Markup("\" name=\"the file is checked\" file=\""),
+        Piece::Fixed(TOOL),
+        Piece::Fixed("\" name=\"the file is checked\" file=\""),
         Piece::Text(file),
-        Piece::Markup("\"><error type=\"refused\">"),
+        Piece::Fixed("\"><error type=\"refused\">"),
         Piece::Message(&refused.message),
-        Piece::Markup("</error></testcase>\n</testsuite>\n"),
+        Piece::Fixed("</error></testcase>\n</testsuite>\n"),
     ];
     pieces.extend_from_slice(&one)
 }
@@ -236,18 +237,18 @@ pub fn end_pieces(format: PageFormat, version: &str) -> [Piece<'_>; 5]
 {
     match format {
         PageFormat::Html => [
-            Piece::Markup("<p class=\"soft\">Written by "),
-            Piece::Markup(TOOL),
-            Piece::Markup(" "),
+            Piece::Fixed("<p class=\"soft\">Written by "),
+            Piece::Fixed(TOOL),
+            Piece::Fixed(" "),
             Piece::Text(version.as_bytes()),
-            Piece::Markup(".</p>\n</main>\n</body>\n</html>\n"),
+            Piece::Fixed(".</p>\n</main>\n</body>\n</html>\n"),
         ],
         PageFormat::Junit => [
-            Piece::Markup("</testsuites>\n"),
-            Piece::Markup(""),
-            Piece::Markup(""),
-            Piece::Markup(""),
-            Piece::Markup(""),
+            Piece::Fixed("</testsuites>\n"),
+            Piece::Fixed(""),
+            Piece::Fixed(""),
+            Piece::Fixed(""),
+            Piece::Fixed(""),
         ],
     }
 }

@@ -2,7 +2,7 @@
 use Rattle.std.proofs.Common.{◌≡◌, ◌∷◌, [], List, ℕ, Option, None, Some, codes, false, refl, true}
 use Rattle.serde_json.specs.Data.{Data, no_items, string}
 use Rattle.toml_datetime.specs.declared.datetime.Date.{Date}
-use Rattle.advisory_exceptions.specs.Exceptions.{ExceptionValue}
+use Rattle.npm_lock_reports.specs.AdvisoryExceptions.{ExceptionValue}
 use Rattle.npm_advisories.specs.Advisories.{AboutValue}
 use Rattle.npm_advisories.specs.declared.severity.Severity.TheVariants.{High}
 use Rattle.npm_advisories.specs.Audit.{FoundValue}

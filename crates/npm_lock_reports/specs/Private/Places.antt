@@ -1,8 +1,8 @@
 -- The place of the first exception that counts, by the ids that it may name.
 use Rattle.std.specs.Prelude.{◌&&◌, ℕ, List, Bool, Option, None, Some, bytes_eq, min, not}
 use Rattle.std.specs.List.{position_from}
-use Rattle.advisory_exceptions.specs.Exceptions.{is_over}
-use Rattle.advisory_exceptions.specs.Index.{IsIndexOf}
+use Rattle.npm_lock_reports.specs.AdvisoryExceptions.{is_over}
+use Rattle.npm_lock_reports.specs.Index.{IsIndexOf}
 use Rattle.npm_lock_reports.specs.Exceptions.{ExceptionsValue, exceptions_value}
 use Rattle.npm_lock_reports.specs.declared.indexed.Indexed.{Indexed}
 

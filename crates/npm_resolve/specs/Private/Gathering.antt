@@ -2,10 +2,10 @@
 use Rattle.std.specs.Prelude.{◌≡◌, ◌⊎◌, ◌++◌, ℕ, Bool, List, [], ◌∷◌, None, Ok, Some, bytes_eq, false, if◌then◌else◌, string_bytes, true}
 use Rattle.std.specs.BTreeSet.{contains_text}
 use Rattle.std.specs.List.{All, AllZip, Contains}
-use Rattle.npm_candidates.specs.Asks.{AskValue, RulesValue, is_registered}
-use Rattle.npm_candidates.specs.declared.options.Omits.{Omits}
-use Rattle.npm_candidates.specs.declared.options.Options.{Options}
-use Rattle.npm_candidates.specs.declared.owner.Reach.{Reach}
+use Rattle.npm_resolve.specs.Asks.{AskValue, RulesValue, is_registered}
+use Rattle.npm_resolve.specs.declared.candidates.options.Omits.{Omits}
+use Rattle.npm_resolve.specs.declared.candidates.options.Options.{Options}
+use Rattle.npm_resolve.specs.declared.candidates.owner.Reach.{Reach}
 use Rattle.npm_pick_reports.specs.Loading.{Loads}
 use Rattle.serde_json.specs.declared.value.Value.{Value}
 use Rattle.npm_resolve.specs.Documents.{ArePeers, ArePeersOf, IsAskedAs, IsFound, IsRead, all_asked}

@@ -1,10 +1,10 @@
 -- What one manifest more asks for.
 use Rattle.std.specs.Prelude.{◌≡◌, ◌++◌, List, map}
 use Rattle.serde_json.specs.Data.{Data}
-use Rattle.npm_candidates.specs.Asks.{AreAsks, AskValue, RulesValue, ask_value}
-use Rattle.npm_candidates.specs.declared.asks.Asks.{Asks}
-use Rattle.npm_candidates.specs.declared.options.Omits.{Omits}
-use Rattle.npm_candidates.specs.declared.owner.Owner.TheVariants.{Root}
+use Rattle.npm_resolve.specs.Asks.{AreAsks, AskValue, RulesValue, ask_value}
+use Rattle.npm_resolve.specs.declared.candidates.asks.Asks.{Asks}
+use Rattle.npm_resolve.specs.declared.candidates.options.Omits.{Omits}
+use Rattle.npm_resolve.specs.declared.candidates.owner.Owner.TheVariants.{Root}
 
 pub record AreWishesAdded (rules : RulesValue) (omits : Omits) (manifest : Data) (old new : Asks) : Type 0 where
   pub asks : List AskValue

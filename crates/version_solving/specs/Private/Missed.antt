@@ -11,3 +11,8 @@ pub record AreMissed (p : Problem) (at_most : ℕ) (kept : List Demand) : Type 0
   pub together : CanBeMet p (take at_most p.root ++ reverse kept) → ⊥
   pub without_one : (before after : List Demand) (one : Demand) → reverse kept ≡ before ++ one ∷ after
       → CanBeMet p (take at_most p.root ++ (before ++ after))
+
+-- They are demands of the root that cannot be met together.
+pub record AreTooMany (p : Problem) (demands : List Demand) : Type 0 where
+  pub within : All (Contains p.root) demands
+  pub together : CanBeMet p demands → ⊥

@@ -1,7 +1,7 @@
 -- What was asked for so far is read, or waits.
 use Rattle.std.proofs.Common.{List}
 use Rattle.std.specs.Fn.{FnReturnsAt}
-use Rattle.npm_candidates.specs.Asks.{AskValue}
+use Rattle.npm_resolve.specs.Asks.{AskValue}
 use Rattle.npm_resolve.specs.Private.Gathering.{AreGathered}
 use Rattle.npm_resolve.specs.Rules.{rules_of}
 use Rattle.npm_resolve.specs.Wishes.{AreWishes}

@@ -1,6 +1,6 @@
 -- What the manifests ask for is added to no requests.
 use Rattle.std.proofs.Common.{map}
-use Rattle.npm_candidates.specs.Asks.{ask_value}
+use Rattle.npm_resolve.specs.Asks.{ask_value}
 use Rattle.npm_resolve.proofs.documents.first_requests.Goals as goal
 
 pub returns : goal.returns

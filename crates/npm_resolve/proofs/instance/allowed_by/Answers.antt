@@ -1,8 +1,8 @@
 -- Whether one candidate more is allowed.
 use Rattle.std.specs.Prelude.{◌↔◌, Bool, IsTrue}
 use Rattle.std.proofs.lemmas.List.{take_all}
-use Rattle.npm_candidates.specs.Meanings.{IsAdmitted}
-use Rattle.npm_candidates.specs.declared.candidate.Candidate.{Candidate}
+use Rattle.npm_resolve.specs.Meanings.{IsAdmitted}
+use Rattle.npm_resolve.specs.declared.candidates.candidate.Candidate.{Candidate}
 use Rattle.npm_resolve.proofs.Zips.{item_more}
 use Rattle.npm_resolve.proofs.instance.allowed_by.Goals as goal
 

@@ -1,6 +1,6 @@
 -- Those so far say whether the candidates so far are allowed.
 use Rattle.std.proofs.Common.{take}
-use Rattle.npm_candidates.specs.Meanings.{MeaningValue, Means}
+use Rattle.npm_resolve.specs.Meanings.{MeaningValue, Means}
 use Rattle.npm_resolve.specs.Instance.{AreAllowed}
 use Rattle.npm_resolve.proofs.instance.allowed_by.Given as goal
 

@@ -1,7 +1,7 @@
 -- What one candidate more asks.
 use Rattle.std.proofs.Common.{map}
 use Rattle.npm_packages.specs.Rules.{rule_at}
-use Rattle.npm_candidates.specs.Asks.{ask_value}
+use Rattle.npm_resolve.specs.Asks.{ask_value}
 use Rattle.npm_resolve.specs.Instance.{IsAsker}
 use Rattle.npm_resolve.proofs.Zips.{item_more}
 use Rattle.npm_resolve.proofs.instance.askers_of.Goals as goal

@@ -1,7 +1,7 @@
 -- The spec asks no registry, or for the package of the name, or for another.
 use Rattle.std.proofs.Common.{◌≡◌, ◌∙◌, Some, ap, option_map, refl, sym}
 use Rattle.std.proofs.lemmas.Result.{IfOk-weaker}
-use Rattle.npm_candidates.specs.Meanings.{nothing}
+use Rattle.npm_resolve.specs.Meanings.{nothing}
 use Rattle.npm_texts.specs.RegistrySpec.{registry_spec, registry_spec_value}
 use Rattle.npm_resolve.specs.Instance.{by_text, of_another, of_none}
 use Rattle.npm_resolve.proofs.instance.meaning_for.Goals as goal

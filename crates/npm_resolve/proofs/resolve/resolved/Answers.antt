@@ -2,7 +2,7 @@
 use Rattle.std.proofs.Common.{◌≡◌, ◌∙◌, length, map, refl, subst}
 use Rattle.version_solving.specs.Naming.{IsDemandOf}
 use Rattle.version_solving.specs.declared.ask.Listed.{Listed}
-use Rattle.npm_candidates.specs.Asks.{RulesValue, ask_value}
+use Rattle.npm_resolve.specs.Asks.{RulesValue, ask_value}
 use Rattle.npm_resolve.proofs.Unmet.{root_length}
 use Rattle.npm_resolve.proofs.Zips.{zip_length}
 use Rattle.npm_resolve.specs.ReasonValues.{text}

@@ -1,7 +1,7 @@
 -- What the manifest asks for comes behind what was asked before.
 use Rattle.std.proofs.Common.{◌∙◌, ap, map}
 use Rattle.std.proofs.lemmas.List.{map-append}
-use Rattle.npm_candidates.specs.Asks.{ask_value}
+use Rattle.npm_resolve.specs.Asks.{ask_value}
 use Rattle.npm_resolve.proofs.wishes.add_wishes.Goals as goal
 
 pub returns : goal.returns

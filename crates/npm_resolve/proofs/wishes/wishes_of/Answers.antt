@@ -2,7 +2,7 @@
 use Rattle.std.proofs.Common.{[], ap, map}
 use Rattle.std.proofs.lemmas.List.{take_all}
 use Rattle.npm_packages.specs.Rules.{rule_at}
-use Rattle.npm_candidates.specs.Asks.{ask_value}
+use Rattle.npm_resolve.specs.Asks.{ask_value}
 use Rattle.npm_resolve.proofs.Wishing.{wishes_more}
 use Rattle.npm_resolve.proofs.wishes.wishes_of.Goals as goal
 

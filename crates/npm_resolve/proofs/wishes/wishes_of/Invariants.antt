@@ -1,7 +1,7 @@
 -- What the manifests so far ask for.
 use Rattle.std.proofs.Common.{map, take}
 use Rattle.npm_packages.specs.Rules.{rule_at}
-use Rattle.npm_candidates.specs.Asks.{ask_value}
+use Rattle.npm_resolve.specs.Asks.{ask_value}
 use Rattle.npm_resolve.specs.Wishes.{AreWishes}
 use Rattle.npm_resolve.proofs.wishes.wishes_of.Given as goal
 

@@ -13,7 +13,6 @@ returns-then-is_unread-clause-reply g c =
       answer = c.in_ok-answer.answer;
       answered = rw c.deref.ensures.value at c.in_ok-answer.ensures;
       lines = rw is c.new.ensures.items;
-      notes = rw (c.deref-2.ensures.value, c.deref-3.ensures.value, c.deref-4.ensures.value, c.deref-5.ensures.value, c.deref-6.ensures.value) at c.in_ok-notes.ensures;
       ending = rw is refl;
     }
 
@@ -26,6 +25,5 @@ returns-clause-reply g c =
       answer = c.in_ok-answer.answer;
       answered = rw c.deref.ensures.value at c.in_ok-answer.ensures;
       lines = rw is (rw c.deref-8.ensures.value at c.in_ok-lines_of.ensures);
-      notes = rw (c.deref-2.ensures.value, c.deref-3.ensures.value, c.deref-4.ensures.value, c.deref-5.ensures.value, c.deref-6.ensures.value) at c.in_ok-notes.ensures;
       ending = rw is c.ending_of.ensures;
     }

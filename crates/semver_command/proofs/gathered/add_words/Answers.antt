@@ -4,12 +4,12 @@ use Rattle.semver_command.proofs.Gathering.{words_done, words_more}
 use Rattle.semver_command.proofs.gathered.add_words.Goals as goal
 
 pub loop-word-preserved : goal.loop-word-preserved
-loop-word-preserved g c = words_more (λ word. word.now) c.args.options (IsInAll c.args.options.include_prerelease c.args.ranges.now) c.args.words.now
-    c.loop-word.word-index (record { ref_ptr = (0, 0); now = [] }) c.args.kept.now c.loop-word.kept
-    c.add_word.new.kept (g.W.Write.contents c.args.writer.now) (g.W.Write.contents c.loop-word.writer)
-    (g.W.Write.contents c.add_word.new.writer) c.loop-word-test.true c.in_ok-add_word.ensures c.loop-word.invariant
+loop-word-preserved g c = words_more (λ word. word.now) c.args.options
+    (IsInAll c.args.options.include_prerelease c.args.ranges.now) c.args.words.now c.loop-word.word-index
+    (record { ref_ptr = (0, 0); now = [] }) c.args.kept.now c.loop-word.kept c.add_word.new.kept c.loop-word-test.true
+    c.in_ok-add_word.ensures c.loop-word.invariant
 
 pub returns : goal.returns
-returns g c = words_done (λ word. word.now) c.args.options (IsInAll c.args.options.include_prerelease c.args.ranges.now) c.args.words.now
-    c.loop-word.word-index c.args.kept.now c.loop-word.kept (g.W.Write.contents c.args.writer.now)
-    (g.W.Write.contents c.loop-word.writer) c.loop-word-test.false c.loop-word.invariant
+returns g c = words_done (λ word. word.now) c.args.options
+    (IsInAll c.args.options.include_prerelease c.args.ranges.now) c.args.words.now c.loop-word.word-index
+    c.args.kept.now c.loop-word.kept c.loop-word-test.false c.loop-word.invariant

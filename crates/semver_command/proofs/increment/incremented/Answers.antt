@@ -1,5 +1,5 @@
 use Rattle.npm_semver.specs.declared.bump.BumpError.TheVariants.{OutOfMemory}
-use Rattle.semver_command.specs.Arguments.{text_value}
+use Rattle.semver_command.specs.Ranges.{text_value}
 use Rattle.semver_command.proofs.Increments.{no_version, raised_version}
 use Rattle.semver_command.proofs.increment.incremented.Goals as goal
 

@@ -1,5 +1,5 @@
 use Rattle.std.proofs.Common.{refl}
-use Rattle.semver_command.specs.Private.Explaining.{above, below, same}
+use Rattle.semver_command.specs.Private.Opening.{above, below, same}
 use Rattle.semver_command.proofs.opened.both_in_order.Goals as goal
 
 pub returns-in-Less : goal.returns-in-Less

@@ -1,5 +1,5 @@
 use Rattle.semver_command.proofs.OpenedSets.{both_found}
-use Rattle.semver_command.specs.Private.Explaining.{releases_of}
+use Rattle.semver_command.specs.Opened.{releases_of}
 use Rattle.semver_command.proofs.opened.in_order.Goals as goal
 
 pub returns-in-Some-Some : goal.returns-in-Some-Some

@@ -1,5 +1,5 @@
 use Rattle.semver_command.proofs.OpenedSets.{all_opened}
-use Rattle.semver_command.specs.Private.Explaining.{releases_of}
+use Rattle.semver_command.specs.Opened.{releases_of}
 use Rattle.semver_command.proofs.opened.opened_in.Goals as goal
 
 pub returns : goal.returns

@@ -1,6 +1,5 @@
 -- One range more.
-use Rattle.semver_command.specs.Arguments.{text_value}
-use Rattle.semver_command.specs.Ranges.{IsAdmittedBy, IsIn}
+use Rattle.semver_command.specs.Ranges.{IsAdmittedBy, IsIn, text_value}
 use Rattle.semver_command.proofs.AllTexts.{all_done, all_more}
 use Rattle.semver_command.proofs.ranges.ranges_of.Goals as goal
 

@@ -1,4 +1,4 @@
-use Rattle.semver_command.proofs.SetLines.{least_admitted, least_included}
+use Rattle.semver_command.proofs.SetNotes.{least_admitted, least_included}
 use Rattle.semver_command.proofs.set_lines.least_in.Goals as goal
 
 pub returns-then-include_prerelease : goal.returns-then-include_prerelease

@@ -1,18 +1,16 @@
-use Rattle.std.proofs.Common.{string_bytes}
-use Rattle.semver_command.specs.Private.Explaining.{releases_of}
-use Rattle.semver_command.proofs.SetLines.{empty_ok, included_ok, opened_ok}
+use Rattle.semver_command.proofs.SetNotes.{empty_note, included_note, opened_note}
 use Rattle.semver_command.proofs.set_lines.note_of.Goals as goal
 
-pub returns-then-branch : goal.returns-then-branch
-returns-then-branch c = empty_ok string_bytes c.in_ok-is_empty.field-0 c.args.include_prerelease c.args.set.now
-    c.args.alone.now c.from_str.result c.requires.alone c.in_ok-is_empty.ensures c.if-branch.true c.from_str.ensures.ok
+pub returns-in_default : goal.returns-in_default
+returns-in_default c = empty_note c.args.include_prerelease c.args.set.now c.args.alone.now c.in_ok-least_in.field-0
+    c.requires.alone c.in_ok-least_in.ensures c.in_default.is
 
 pub returns-then-include_prerelease : goal.returns-then-include_prerelease
-returns-then-include_prerelease c = included_ok string_bytes c.in_ok-is_empty.field-0 c.args.include_prerelease
-    c.args.set.now c.args.alone.now c.from_str-then-include_prerelease.result c.requires.alone c.in_ok-is_empty.ensures
-    c.if-branch.false c.if-include_prerelease.true c.from_str-then-include_prerelease.ensures.ok
+returns-then-include_prerelease c = included_note c.args.include_prerelease c.args.set.now c.args.alone.now
+    c.in_ok-least_in.field-0 c.in-Some.field-0 c.requires.alone c.in_ok-least_in.ensures c.in-Some.is
+    c.if-include_prerelease.true
 
 pub returns : goal.returns
-returns c = opened_ok string_bytes c.in_ok-is_empty.field-0 c.args.include_prerelease c.args.set.now c.args.alone.now
-    (releases_of c.in_ok-opened.opened) c.words_of_releases.result c.requires.alone c.in_ok-is_empty.ensures
-    c.if-branch.false c.if-include_prerelease.false c.in_ok-opened.ensures c.words_of_releases.ensures
+returns c = opened_note c.args.include_prerelease c.args.set.now c.args.alone.now c.in_ok-least_in.field-0
+    c.in-Some.field-0 c.in_ok-opened_in.field-0 c.requires.alone c.in_ok-least_in.ensures c.in-Some.is
+    c.if-include_prerelease.false c.in_ok-opened_in.ensures

@@ -1,7 +1,7 @@
-use Rattle.std.proofs.Common.{[], All, map, take}
+use Rattle.std.proofs.Common.{[], All, take}
 use Rattle.version_solving.specs.Documents.{problem_of}
-use Rattle.version_solving.specs.Private.Paths.{Allows, demand_of, in_table}
+use Rattle.version_solving.specs.Private.Paths.{Allows, in_table}
 use Rattle.version_solving.proofs.agenda.first_violated.Given as goal
 
-abbrev pub invariant-loop-entry : goal.invariant-loop-entry
-invariant-loop-entry l = All (Allows (problem_of [] l.documents) (in_table l.table)) (map demand_of (take l.entry-index l.entries))
+abbrev pub invariant-loop-demand : goal.invariant-loop-demand
+invariant-loop-demand l = All (Allows (problem_of [] l.documents) (in_table l.table)) (take l.demand-index l.demands)

@@ -1,21 +1,16 @@
-use Rattle.std.proofs.Common.{◌≡◌, arith, length}
+use Rattle.std.proofs.Common.{subst, sym}
+use Rattle.std.proofs.lemmas.Option.{IfSome_then}
+use Rattle.std.proofs.lemmas.Result.{IfOk-weaker}
+use Rattle.version_solving.specs.Private.Missed.{AreTooMany}
 use Rattle.version_solving.specs.Documents.{problem_of}
-use Rattle.version_solving.specs.Private.Missed.{AreMissed}
-use Rattle.version_solving.proofs.Missed.{all_missed, missed_all, none_can}
+use Rattle.version_solving.proofs.Missed.{culprits_of_fewer}
 use Rattle.version_solving.proofs.blame.culprits.Goals as goal
-
-pub loop-at-init : goal.loop-at-init
-loop-at-init c =
-    let p = problem_of c.args.root.now c.args.documents.now in
-    record {
-      left = omega arith;
-      missed = rw c.new-kept.ensures.items (all_missed p (none_can p c.args.root.now c.requires) (length c.args.root.now) (omega arith));
-    }
 
 pub returns : goal.returns
 returns c =
-    let none_left : c.loop-at.left ≡ 0 = omega arith in
-    let missed : AreMissed (problem_of c.args.root.now c.args.documents.now) 0 c.loop-at.kept.items = rw none_left at c.loop-at.invariant.missed in
+    let p = problem_of c.args.root.now c.args.documents.now in
+    let too : AreTooMany p c.deref.result.now = subst (AreTooMany p) (sym c.deref.ensures.value) c.in_ok-few.ensures in
     record {
-      culprits = rw c.reverse.ensures.items (missed_all (problem_of c.args.root.now c.args.documents.now) c.loop-at.kept.items missed);
+      culprits = IfOk-weaker c.least_of.result _ _
+          (λ found are. IfSome_then found are (λ demands they. culprits_of_fewer p c.deref.result.now demands.items too they)) c.least_of.ensures.culprits;
     }

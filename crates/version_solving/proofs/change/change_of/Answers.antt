@@ -1,5 +1,5 @@
 -- The others are those before the demand and those behind it.
-use Rattle.std.proofs.Common.{◌≡◌, ◌∙◌, ◌+◌, ◌++◌, ◌∷◌, ℕ, List, Some, ap, drop, refl, slice_get, subst, sym, take}
+use Rattle.std.proofs.Common.{◌≡◌, ◌∙◌, ◌+◌, ◌++◌, ◌∷◌, ℕ, List, Some, ap, drop, slice_get, subst, sym, take}
 use Rattle.std.proofs.lemmas.List.{drop_more, take-append-drop, take_rest}
 use Rattle.std.proofs.lemmas.Option.{get_or_from_slice_get, slice_get_within}
 use Rattle.std.proofs.lemmas.Result.{IfOk-weaker}

@@ -15,7 +15,7 @@ returns-in_err-mismatches-clause-refused c =
 
 pub returns-in_err-lock-clause-refused : goal.returns-in_err-lock-clause-refused
 returns-in_err-lock-clause-refused c =
-    let told = refused_lock c.args.text.now (view c.args.lock) (placed (view c.args.lock)
+    let told = refused_lock (view c.args.lock) (placed (view c.args.lock)
     (manifests_of (wanted_value c.args.wanted).manifest (loaded_value c.args.loaded).linked))
     (loaded_value c.args.loaded).linked (wanted_value c.args.wanted) _
     (rw c.in_ok-mismatches.ensures.placed at c.in_err-lock.ensures.refused) in
@@ -31,15 +31,15 @@ pub returns-in-Err-clause-refused : goal.returns-in-Err-clause-refused
 returns-in-Err-clause-refused c =
     let all = placed (view c.args.lock)
     (manifests_of (wanted_value c.args.wanted).manifest (loaded_value c.args.loaded).linked) in
-    refused_lock c.args.text.now (view c.args.lock) all (loaded_value c.args.loaded).linked
+    refused_lock (view c.args.lock) all (loaded_value c.args.loaded).linked
     (wanted_value c.args.wanted) c.in-Err.error
-    (refused_sound c.args.text.now all (view c.in_ok-lock.lock) (wanted_value c.args.wanted).manifest c.in-Err.error
+    (refused_sound all (view c.in_ok-lock.lock) (wanted_value c.args.wanted).manifest c.in-Err.error
     c.in_ok-lock.ensures.later (rw c.in_ok-mismatches.ensures.placed at c.in_ok-lock.ensures.made)
     (rw c.in_ok-mismatches.ensures.placed at c.in_ok-lock.ensures.sound) c.in-Err.ensures.refused)
 
 pub returns-in-Err-counted_of-clause-refused : goal.returns-in-Err-counted_of-clause-refused
 returns-in-Err-counted_of-clause-refused c =
-    refused_audit c.args.text.now (view c.args.lock) (placed (view c.args.lock)
+    refused_audit (view c.args.lock) (placed (view c.args.lock)
     (manifests_of (wanted_value c.args.wanted).manifest (loaded_value c.args.loaded).linked))
     (view c.in_ok-lock.lock) (loaded_value c.args.loaded).linked (wanted_value c.args.wanted) c.in-Err-counted_of.error
     (rw c.in_ok-mismatches.ensures.placed at c.in_ok-lock.ensures.made)

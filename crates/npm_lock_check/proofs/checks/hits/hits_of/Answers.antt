@@ -15,5 +15,4 @@ returns-in-Err-Refused-clause-refused c =
     let there : (wanted_value c.args.wanted).advisories ≡ Some (view c.in-Some.file.now) =
     ap (option_map (λ file. view file.now)) c.in-Some.is in
     refused_as c.args.wanted.today (view c.args.lock.now) (view c.in-Some.file.now) (wanted_value c.args.wanted).advisories
-    (wanted_value c.args.wanted).advisories_text (fault_value c.in-Err-Refused.fault) c.no_advisories.result there told
-    (rw c.file.ensures.file at c.no_advisories.ensures)
+    (fault_value c.in-Err-Refused.fault) c.no_advisories.result there told c.no_advisories.ensures

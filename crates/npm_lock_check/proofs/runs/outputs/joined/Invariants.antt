@@ -1,12 +1,8 @@
--- The lines and the findings so far, and those that are left, are all.
+-- The lines so far, and those that are left, are all.
 use Rattle.std.proofs.Common.{◌≡◌, ◌++◌}
 use Rattle.std.specs.List.{flat_map}
 use Rattle.npm_lock_check.proofs.runs.outputs.joined.Given as goal
 
 abbrev pub invariant-loop-output : goal.invariant-loop-output
-invariant-loop-output l = record {
-  lines : l.all.lines.items ++ flat_map (λ output. output.lines.items) l.output-iterator.rest.items
-      ≡ flat_map (λ output. output.lines.items) l.fn.outputs.items;
-  findings : l.all.findings.items ++ flat_map (λ output. output.findings.items) l.output-iterator.rest.items
-      ≡ flat_map (λ output. output.findings.items) l.fn.outputs.items;
-}
+invariant-loop-output l = l.all.lines.items ++ flat_map (λ output. output.lines.items) l.output-iterator.rest.items
+    ≡ flat_map (λ output. output.lines.items) l.fn.outputs.items

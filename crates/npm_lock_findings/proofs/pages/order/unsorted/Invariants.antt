@@ -1,7 +1,7 @@
 -- The messages of the rows so far, and those that are left, are all.
 use Rattle.std.proofs.Common.{◌≡◌, ◌++◌, drop, map}
 use Rattle.npm_lock_findings.specs.Private.Said.{row_message}
-use Rattle.npm_lock_findings.specs.Texts.{message_of}
+use Rattle.npm_lock_findings.specs.Forms.{message_of}
 use Rattle.npm_lock_findings.proofs.pages.order.unsorted.Given as goal
 
 abbrev pub invariant-loop-index : goal.invariant-loop-index

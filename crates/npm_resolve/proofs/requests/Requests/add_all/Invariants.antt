@@ -1,6 +1,6 @@
 -- The asks so far were added.
 use Rattle.std.proofs.Common.{map, take}
-use Rattle.npm_candidates.specs.Asks.{ask_value}
+use Rattle.npm_resolve.specs.Asks.{ask_value}
 use Rattle.npm_resolve.specs.Private.Gathering.{AreAdded}
 use Rattle.npm_resolve.proofs.requests.Requests.add_all.Given as goal
 

@@ -1,7 +1,7 @@
 -- The ask names a package of a registry, or not.
 use Rattle.std.proofs.Common.{◌≡◌, ◌∙◌, None, Some, ap, option_map, sym}
 use Rattle.std.proofs.lemmas.Result.{on_ok_weaker}
-use Rattle.npm_candidates.specs.Asks.{ask_value}
+use Rattle.npm_resolve.specs.Asks.{ask_value}
 use Rattle.npm_texts.specs.RegistrySpec.{registry_spec, registry_spec_value}
 use Rattle.npm_resolve.proofs.Gathering.{noted_added, unregistered_added}
 use Rattle.npm_resolve.proofs.requests.Requests.add_ask.Goals as goal

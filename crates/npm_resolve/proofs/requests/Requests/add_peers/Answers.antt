@@ -2,7 +2,7 @@
 use Rattle.std.proofs.Common.{◌++◌, List, [], ◌∷◌, map, refl}
 use Rattle.std.proofs.lemmas.List.{take_all}
 use Rattle.std.specs.List.{flat_map}
-use Rattle.npm_candidates.specs.Asks.{AskValue, ask_value}
+use Rattle.npm_resolve.specs.Asks.{AskValue, ask_value}
 use Rattle.npm_resolve.proofs.Gathering.{none_added, peers_more}
 use Rattle.npm_resolve.proofs.Zips.{item_more}
 use Rattle.npm_resolve.specs.Documents.{IsPeer}

@@ -1,7 +1,7 @@
 -- What the candidates so far ask for was added.
 use Rattle.std.proofs.Common.{List, take}
 use Rattle.std.specs.List.{AllZip, flat_map}
-use Rattle.npm_candidates.specs.Asks.{AskValue}
+use Rattle.npm_resolve.specs.Asks.{AskValue}
 use Rattle.npm_resolve.specs.Documents.{IsPeer}
 use Rattle.npm_resolve.specs.Private.Gathering.{AreAdded}
 use Rattle.npm_resolve.specs.Rules.{rules_of}

@@ -1,4 +1,0 @@
-pub mod Examples
-pub mod Listing
-pub mod Placing
-pub mod Years

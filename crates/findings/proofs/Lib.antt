@@ -1,5 +1,0 @@
-pub mod Examples
-mod Marks
-mod Parts
-mod Reading
-mod Shown

@@ -1,3 +1,0 @@
--- What private functions are said to compute.
-pub mod DraftPaths
-pub mod Told

@@ -1,3 +1,0 @@
-pub mod Examples
-mod Allowing
-mod Locking

@@ -1,2 +1,0 @@
--- What private functions compute.
-pub mod Orders  -- the laws of the order of candidates

@@ -1,3 +1,0 @@
-mod Reaching
-mod Marking
-pub mod Examples

@@ -1,4 +1,0 @@
-pub mod Examples
-pub mod Roots
-pub mod SameFaults
-pub mod Steps

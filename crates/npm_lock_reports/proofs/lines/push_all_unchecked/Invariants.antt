@@ -1,8 +1,0 @@
--- The lines so far, and one for each that is left, are all lines.
-use Rattle.std.proofs.Common.{◌≡◌, ◌+◌, drop, length}
-use Rattle.npm_lock_reports.specs.Lines.{line_count}
-use Rattle.npm_lock_reports.proofs.lines.push_all_unchecked.Given as goal
-
-abbrev pub invariant-loop-unchecked : goal.invariant-loop-unchecked
-invariant-loop-unchecked l =
-    line_count l.lines.items + length (drop l.unchecked-index l.all) ≡ line_count l.initial.lines.items + length l.all

@@ -1,0 +1,2 @@
+pub mod CandidateExamples
+pub mod FlatLockExamples

@@ -1,2 +1,0 @@
-mod Loaders
-pub mod Examples

@@ -1,9 +1,0 @@
--- The lines so far are those of the names so far.
-use Rattle.std.proofs.Common.{◌≡◌, map, take}
-use Rattle.std.specs.List.{flat_map}
-use Rattle.npm_resolve.specs.ReasonValues.{text}
-use Rattle.npm_resolve_reports.specs.Notes.{missing_line}
-use Rattle.npm_resolve_reports.proofs.notes.missing_lines.Given as goal
-
-abbrev pub invariant-loop-name : goal.invariant-loop-name
-invariant-loop-name l = l.lines.items ≡ flat_map missing_line (map text (take l.name-index l.missing))

@@ -1,2 +1,0 @@
-pub mod InputExamples
-pub mod ListingExamples

@@ -1,7 +1,0 @@
-use Rattle.std.proofs.Common.{[], All, take}
-use Rattle.version_solving.specs.Documents.{problem_of}
-use Rattle.solving_reasons.specs.Reasons.{IsMetBy}
-use Rattle.solving_reasons.proofs.check.rules_out.Given as goal
-
-abbrev pub invariant-loop-term : goal.invariant-loop-term
-invariant-loop-term l = All (IsMetBy (problem_of [] l.documents) l.name l.selected) (take l.term-index l.reason.terms.items)

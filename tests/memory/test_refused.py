@@ -26,7 +26,7 @@ def test_a_tree_of_depth_50():
     assert list(refused_calls.Case(row, True).faults()) == []
 
 
-@pytest.mark.parametrize("program", ["semver_answers", "npm_answers"])
+@pytest.mark.parametrize("program", ["semver_answers", "npm_answers", "solver_answers"])
 def test_each_call_with_checks(program, tmp_path):
     """Under `rt try`, which stops at calls that break a `requires`."""
     programs.built(program)  # (where it is not built, `./check` asks all rows by `rt try`)

@@ -1,6 +1,6 @@
 """Instances of version_solving that grow: for each family a maker, and what makes its instances hard.
 
-An instance is as the program npm_answers reads it: the demands of the root, for each name its candidates with their
+An instance is as the program solver_answers reads it: the demands of the root, for each name its candidates with their
 demands, and the ranges.
 """
 import random

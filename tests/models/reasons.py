@@ -1,6 +1,6 @@
 """Whether lines are reasons why demands of a root cannot be met together, by sets of what may be selected of a name.
 
-solving.py reads the lines that npm_answers writes, and checks them here. The terms of a line are taken together: for
+solving.py reads the lines that solver_answers writes, and checks them here. The terms of a line are taken together: for
 each name, what all terms of the name have. What may be selected of a name is one of its candidates, or None. MADE_UP has changes
 that make LINES wrong.
 """
@@ -38,7 +38,7 @@ ALSO_WRONG = [
 
 
 def given(shown):
-    """Lines as npm_answers reads them."""
+    """Lines as solver_answers reads them."""
     return [given_line(text) for text in shown]
 
 

@@ -256,10 +256,10 @@ def fault(problem, line):
 
 
 def test_is_the_answer_of_the_model(record_property):
-    program = programs.built("npm_answers")
+    program = programs.built("solver_answers")
     record_property("made", solving.compare(program, problem, fault, 2000, 1))
 
 
 def test_is_the_answer_of_the_model_if_dependencies_count(record_property):
-    program = programs.built("npm_answers")
+    program = programs.built("solver_answers")
     record_property("made", solving.compare(program, lambda r: problem(r, True), fault, 500, 2))

@@ -47,7 +47,7 @@ def options(r):
 
 
 def test_a_single_wish_gets_the_version_that_is_picked(record_property):
-    program, r = programs.built("npm_answers"), random.Random(3 + made.SEED)
+    program, r = programs.built("solver_answers"), random.Random(3 + made.SEED)
     cases = [(document(r), options(r), r.choice(TEXTS)) for _ in range(4000 * made.TIMES)]
     picked = answers.ask_all("npm_answers", [("npm_pick::pick", json.dumps(found), json.dumps(given), text) for found, given, text in cases])
     said = solving.said_of_all(program, [[{"dependencies": {"a": text}}, {"a": found}, [], given] for found, given, text in cases])

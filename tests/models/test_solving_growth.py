@@ -18,7 +18,7 @@ GROWING = {
 
 
 def program():
-    return programs.built("npm_answers")
+    return programs.built("solver_answers")
 
 
 def said_of(case, steps=None):

@@ -9,7 +9,7 @@ from support import programs
 
 
 def test_is_the_answer_of_the_definition(record_property):
-    program = programs.built("npm_answers")
+    program = programs.built("solver_answers")
     record_property("made", solving.compare(program, solving.instance, solving.fault_with_reasons, 5000, 1))
 
 
@@ -27,7 +27,7 @@ def late(names, candidates):
 
 
 def lines_of(case):
-    return solving.said_of(programs.built("npm_answers"), case)
+    return solving.said_of(programs.built("solver_answers"), case)
 
 
 # A search that reads all demands in each step would not end.

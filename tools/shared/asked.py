@@ -9,6 +9,7 @@ import concurrent.futures
 import itertools
 import json
 import os
+import re
 import subprocess
 import sys
 import tempfile
@@ -36,16 +37,27 @@ def lacking(words, is_first):
     return {program: [line for name, line in found if name == program] for program in dict.fromkeys(name for name, _ in found)}
 
 
+def parts_of(lines):
+    """The lines in parts of a length, each for one run."""
+    lines = sorted(lines, key=len)
+    while lines:
+        at = max(1, bisect.bisect(list(itertools.accumulate(map(len, lines))), MOST))
+        yield lines[:at]
+        lines = lines[at:]
+
+
 def ask(program, lines):
-    """The answers of a program to lines, which are asked in runs of a length."""
-    answers, rest = {}, sorted(lines, key=len)
-    while rest:
-        at = max(1, bisect.bisect(list(itertools.accumulate(map(len, rest))), MOST))
-        part, rest = rest[:at], rest[at:]
+    """The answers of a program to lines. It is built once, and runs for each part of them."""
+    answers, parts = {}, list(parts_of(lines))
+    with tempfile.TemporaryDirectory() as room:
+        for at, part in enumerate(parts):
+            files.write(os.path.join(room, f"{at:03}"), "".join(f"{line}\n" for line in part))
         # (the build with checks answers, and the interpreter, which would take longer, gets one step)
-        ran = subprocess.run(["rt", "try", "--seconds", "600", "--steps", "1"], cwd=os.path.join(crates.CRATES, program), capture_output=True,
-                             input="".join(f"{line}\n" for line in part).encode())
-        got = ran.stdout.decode(errors="replace").split("\n")[:-1]
+        ran = subprocess.run(["rt", "try", "--seconds", "600", "--steps", "1", "--cases", room], cwd=os.path.join(crates.CRATES, program),
+                             capture_output=True)
+    said = re.split(r"^== \d+\n", ran.stdout.decode(errors="replace"), flags=re.M)[1:]
+    for part, text in itertools.zip_longest(parts, said, fillvalue=""):
+        got = text.split("\n")[:-1]
         if ran.returncode or len(got) != len(part):
             sys.exit(f"{program}: status {ran.returncode} at {[*part, ''][len(got)][:300]}\n{ran.stderr.decode(errors='replace')[-1500:]}")
         answers.update(zip(part, got))

@@ -138,8 +138,15 @@ def beside(running, proving):
             pool.submit(run, "lints", ["nice", *PYTEST, "lints", "runner"], at=TESTS)]
 
 
+def worked():
+    """The minutes that the processors of this machine have worked since it was started."""
+    with open("/proc/stat", encoding="utf-8") as file:
+        return sum(map(int, file.readline().split()[1:4])) / os.sysconf("SC_CLK_TCK") / 60
+
+
 def run_all():
-    """Runs the gate, and prints last what failed, and 'N passed, M failed': the status."""
+    """Runs the gate, and prints last what it took, what failed, and 'N passed, M failed': the status."""
+    began, before = time.monotonic(), worked()
     results = [run("needs", [os.path.join(crates.TOOLS, "needs")])]
     if not results[0].failed:
         with tempfile.TemporaryDirectory() as room:
@@ -163,5 +170,6 @@ def run_all():
                 results.append(tests([kind for kind in least() if kind not in ("bindings", "wrong_bodies")], "-n", "auto"))
     for result in filter(lambda it: it.failed, results):
         say(f"FAILED {result.name}\n{result.text.strip()[-3000:]}")
+    say(f"the gate took {(time.monotonic() - began) / 60:.0f} minutes by the clock, and {worked() - before:.0f} minutes of a processor")
     say(f"{sum(it.passed for it in results)} passed, {sum(it.failed for it in results)} failed")
     return int(any(it.failed for it in results))

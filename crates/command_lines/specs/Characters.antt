@@ -1,10 +1,6 @@
--- The characters that have a meaning in arguments, or in what a terminal gets.
+-- The characters that have a meaning in what a terminal gets.
 use Rattle.std.specs.Prelude.{ℕ, List, [], ◌∷◌}
 pub use Rattle.std.specs.Char.Escape.{backslash}
-
--- between an option and its value
-abbrev pub equal_sign : ℕ
-equal_sign = 61
 
 -- `"`
 abbrev pub quotation_mark : ℕ

@@ -8,6 +8,16 @@ use std::env::{Env, FillError};
 use std::fmt;
 use thiserror::Error;
 
+/// The greatest number of words that a program should read: a recursion over them takes room on the stack for each.
+pub const MAX_WORDS: usize = 1000;
+
+/// A text about the program, which is shown in place of its work.
+#[derive(Clone, Copy, Debug, PartialEq, Eq, Drop)]
+pub enum Shown {
+    Help,
+    Version,
+}
+
 /// A word that is not in UTF-8.
 #[derive(Debug, Drop)]
 pub struct RawWord {

@@ -12,7 +12,9 @@
 
 mod call;
 mod lines;
+pub mod members;
 mod twice;
+pub mod words;
 
 pub use call::{Call, CallError, Calls, Written};
 use std::env;

@@ -1,9 +1,9 @@
 //! Security advisories and the packages that they hit. The advisories come first.
 use crate::Call;
-use crate::members::{items_in, items_of, text_if_any, text_in, texts_of};
-use crate::word::{text_at, value_at};
 use crate::written::{end_list, put, put_if_any, put_item};
 use json_places::{Path, Step};
+use named_calls::members::{items_in, items_of, text_if_any, text_in, texts_of};
+use named_calls::words::{text_at, value_at};
 use named_calls::{CallError, Written, list_of};
 use node_semver::Version;
 use npm_advisories::{

@@ -1,7 +1,7 @@
 //! Checks of lock files: of the file, a manifest, and a version of Node if the text is one.
 use crate::Call;
-use crate::word::{text_at, value_at, value_if_any};
 use crate::written::{end_list, found_of, put_item};
+use named_calls::words::{text_at, value_at, value_if_any};
 use named_calls::{CallError, Written, list_of};
 use node_semver::Version;
 use npm_lock::{CheckError, Dependency, Problems, check, check_any, suspicious_sources};

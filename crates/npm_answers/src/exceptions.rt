@@ -1,7 +1,7 @@
 //! Files of exceptions to advisories, and days.
 use crate::Call;
-use crate::word::text_at;
 use crate::written::{end_list, put, put_if_any, put_item};
+use named_calls::words::text_at;
 use named_calls::{CallError, Written};
 use npm_lock_reports::{Exception, day_at, read_exceptions};
 

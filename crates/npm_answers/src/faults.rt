@@ -1,7 +1,7 @@
 //! The faults of lock files and manifests, and where they are in the text.
 use crate::Call;
-use crate::word::{text_at, value_at};
 use crate::written::{end_list, put};
+use named_calls::words::{text_at, value_at};
 use named_calls::{CallError, Written};
 use npm_lock_findings::{FaultPlace, lock_fault_path, manifest_fault_path, root_fault_path};
 

@@ -1,7 +1,7 @@
 //! Texts, and folders and names of packages.
 use crate::Call;
-use crate::word::{text_at, value_at};
 use crate::written::{end_list, put, put_if_any};
+use named_calls::words::{text_at, value_at};
 use named_calls::{CallError, Written};
 use npm_lock::is_part;
 use npm_packages::{

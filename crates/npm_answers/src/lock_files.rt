@@ -1,8 +1,8 @@
 //! Lock files of version 1, manifests beside lock files, and workspaces.
 use crate::Call;
 use crate::checks::all_found;
-use crate::word::{text_at, value_at, value_if_any};
 use crate::written::{end_list, found_of, put, put_if_any, put_item, put_texts};
+use named_calls::words::{text_at, value_at, value_if_any};
 use named_calls::{CallError, Written};
 use npm_lock::{
     SoundLock, check, convert, drop_overrides, key_read_as_another, mismatches_of, put_manifest,

@@ -8,39 +8,32 @@ mod checks;
 mod exceptions;
 mod faults;
 mod folders;
-mod items;
 mod lock_files;
-mod members;
-mod named_call;
 mod packages;
 mod picks;
 mod places;
-mod reasons;
-mod solving;
-mod word;
 mod written;
 mod written_findings;
 
+use named_calls::words::JsonWord;
 use named_calls::{CallError, Calls, Written, answer_of_first, run};
 use std::alloc::{AllocError, Global};
 use std::process::ExitCode;
-use word::Word;
 
-type Call<'c> = named_calls::Call<'c, Word>;
+type Call<'c> = named_calls::Call<'c, JsonWord>;
 
 struct NpmCalls;
 
 impl Calls for NpmCalls {
-    type Word = Word;
+    type Word = JsonWord;
 
-    fn word_of(alloc: Global, text: &str) -> Result<Word, AllocError> {
-        Word::of_text(alloc, text)
+    fn word_of(alloc: Global, text: &str) -> Result<JsonWord, AllocError> {
+        JsonWord::of_text(alloc, text)
     }
 
     fn answer(call: &Call<'_>, out: &mut String) -> Written {
         answer_of_first! { call, out, folders, exceptions, places, packages, checks, lock_files,
-        faults, advisories, picks, written_findings, named_call,
-        solving }
+        faults, advisories, picks, written_findings }
     }
 }
 

@@ -1,7 +1,7 @@
 //! Calls of `npm_packages` on packages and their dependencies.
 use crate::Call;
-use crate::word::{text_at, value_at};
 use crate::written::{end_list, found_of, put, put_fault, put_if_any, put_texts};
+use named_calls::words::{text_at, value_at};
 use named_calls::{CallError, Written};
 use npm_packages::{
     Aliases, Asked, Dependents, Edge, Lock, accepted_of, asked_of, check_package, check_specs,

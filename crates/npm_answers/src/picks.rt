@@ -1,9 +1,9 @@
 //! The version that is picked of a document, and the versions that are kept. The options are `tag`, `before`, `avoid`, `avoidStrict`,
 //! `includeStaged`, `node` and `npm`, and for those that are kept `all`.
 use crate::Call;
-use crate::members::{is_set, text_if_any};
-use crate::word::{text_at, value_at};
 use crate::written::{end_list, put_if_any, put_texts};
+use named_calls::members::{is_set, text_if_any};
+use named_calls::words::{text_at, value_at};
 use named_calls::{CallError, Written, list_of};
 use node_semver::VersionRef;
 use npm_pick::{Options, PickError, Picked, keep, parse_time, pick};

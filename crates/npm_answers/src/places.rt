@@ -1,9 +1,9 @@
 //! Places in JSON texts: the offset, line and column of each.
 use crate::Call;
-use crate::members::{items_of, number_in, number_of};
-use crate::word::{text_at, value_at};
 use crate::written::{end_list, put, put_item};
 use json_places::{Path, Place, Step, chosen_places, places_of};
+use named_calls::members::{items_of, number_in, number_of};
+use named_calls::words::{text_at, value_at};
 use named_calls::{CallError, Written, list_of};
 use npm_lock_findings::ShownPlace;
 use serde_json::Value;

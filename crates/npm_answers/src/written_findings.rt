@@ -1,8 +1,8 @@
 //! Findings, and how GitHub and SARIF write them.
 use crate::Call;
-use crate::members::{items_in, items_of, number_in, text_in, texts_of};
-use crate::word::{text_at, value_at};
 use crate::written::end_list;
+use named_calls::members::{items_in, items_of, number_in, text_in, texts_of};
+use named_calls::words::{text_at, value_at};
 use named_calls::{CallError, Written, list_of};
 use npm_lock_findings::{
     Draft, Finding, Level, Rule, Tool, findings_in, push_annotation, push_log,

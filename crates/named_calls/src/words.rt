@@ -1,23 +1,22 @@
-//! The words of a call, and what each is read as.
-use crate::Call;
-use named_calls::CallError;
+//! The words of a call, and the JSON values that they are.
+use crate::{Call, CallError};
 use serde_json::Value;
 use std::alloc::{AllocError, Global};
 
 /// A word, and the JSON value that it is, if it is one. The empty word is `null`.
 #[derive(Drop)]
-pub(crate) struct Word {
+pub struct JsonWord {
     text: String,
     value: Option<Value>,
 }
 
-impl Word {
-    pub(crate) fn of_text(alloc: Global, text: &str) -> Result<Word, AllocError> {
+impl JsonWord {
+    pub fn of_text(alloc: Global, text: &str) -> Result<JsonWord, AllocError> {
         let value = match text {
             "" => Some(Value::Null),
             text => Value::from_str(alloc, text).ok(),
         };
-        Ok(Word {
+        Ok(JsonWord {
             text: String::from_str(alloc, text)?,
             value,
         })
@@ -25,20 +24,20 @@ impl Word {
 }
 
 /// The text of the word at a place, or the empty text.
-pub(crate) fn text_at<'c>(call: &'c Call<'c>, place: usize) -> &'c str {
+pub fn text_at<'c>(call: &'c Call<'c, JsonWord>, place: usize) -> &'c str {
     match call.words.get(place) {
         Some(word) => word.text.as_str(),
         None => "",
     }
 }
 
-pub(crate) fn value_at<'c>(call: &'c Call<'c>, place: usize) -> Result<&'c Value, CallError> {
+pub fn value_at<'c>(call: &'c Call<'c, JsonWord>, place: usize) -> Result<&'c Value, CallError> {
     let value = call.words.get(place).and_then(|word| word.value.as_ref());
     value.ok_or(CallError::Words)
 }
 
 /// The JSON value at a place, if it is not the empty word.
-pub(crate) fn value_if_any<'c>(call: &'c Call<'c>, place: usize) -> Option<&'c Value> {
+pub fn value_if_any<'c>(call: &'c Call<'c, JsonWord>, place: usize) -> Option<&'c Value> {
     match text_at(call, place) {
         "" => None,
         _ => value_at(call, place).ok(),

@@ -7,10 +7,9 @@
 //! As text a wish is `name:range`, with `*` for any range and `!` after it if it needs the name. A term is `name>wish` of the candidates
 //! that make it, and `-wish` of what is against it. A line is ` | root wish`, ` | name makes wish` or ` | name by` and the numbers
 //! of lines, and then ` :` and its terms.
-use crate::items::{is_true_at, items_at, number_at};
-use crate::members::{items_of, number_of};
 use crate::solving::demand_of;
 use named_calls::list_of;
+use named_calls::members::{is_true_at, items_at, items_of, number_at, number_of};
 use serde_json::Value;
 use std::alloc::{AllocError, Global};
 use version_solving::{Reason, Source, Term, Wish};

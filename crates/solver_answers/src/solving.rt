@@ -7,10 +7,9 @@
 //!
 //! The answer to an instance that has lines after the steps is `reasons` or `no reasons`.
 use crate::Call;
-use crate::items::{is_true_at, items_at, number_at};
-use crate::members::items_of;
 use crate::reasons::{lines_of, push_lines};
-use crate::word::value_at;
+use named_calls::members::{is_true_at, items_at, items_of, number_at};
+use named_calls::words::value_at;
 use named_calls::{CallError, Written, list_of};
 use serde_json::Value;
 use std::alloc::{AllocError, Global};

@@ -1,6 +1,6 @@
 //! Calls by name, as other languages make them: of the name of a call and its JSON text, the text of the answer or of the refusal.
 use crate::Call;
-use crate::word::text_at;
+use named_calls::words::text_at;
 use named_calls::{CallError, Written};
 use npm_calls::CallError as NotMade;
 use std::alloc::AllocError;

@@ -1,3 +1,0 @@
--- Lemmas that proofs of programs cite.
-
-pub mod Steps  -- one argument more

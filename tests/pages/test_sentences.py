@@ -28,7 +28,7 @@ def prints(text, print_of_it):
 
 def prints_each(*texts):
     """Texts and prints in turn."""
-    return all(prints(*pair) for pair in zip(texts[::2], texts[1::2], strict=True))
+    return all([prints(*pair) for pair in zip(texts[::2], texts[1::2], strict=True)])
 
 
 def is_npm_range(*texts):

@@ -1,8 +1,8 @@
 """Answers of the programs that answer calls, where they are not built: `rt try` runs each once with all lines that tests ask.
 
 The tests say themselves what they ask: they run once with DENIMSCREE_ASKED, and `tests/support/answers.py` then writes the lines that have no
-answer to that file. A line that is made of the answer to another one is found a round later, in which only the tests that failed for want of
-an answer run. The answers are kept by the sums of what answers.
+answer to that file. A line that is made of the answer to another one is not found so: its test needs the built program, or a second run, since
+the answers are kept by the sums of what answers.
 """
 import bisect
 import concurrent.futures
@@ -22,16 +22,14 @@ PROGRAMS = ("semver_answers", "npm_answers")
 # The tests that ask.
 ASKING = ["rows", "pages", "models/test_json_places.py", *files.matching("memory/refused.*", "memory/takes_none.*", top=gate.TESTS)]
 KEPT = os.path.join(files.ROOT, "out", "check", "answers")
-ROUNDS = 6
 MOST = 1500000  # The lines of one run have so many characters: `rt try` returns at most a mebibyte, and answers are shorter than lines.
 
 
-def lacking(words, is_first):
+def lacking(words):
     """The lines that tests ask and that have no answer, by the programs."""
     with tempfile.NamedTemporaryFile("r", encoding="utf-8") as file:
         settings = {"DENIMSCREE_ANSWERS": KEPT, "DENIMSCREE_ASKED": file.name, "DENIMSCREE_PROVES": "no"}
-        again = [] if is_first else ["--lf", "--lfnf=none"]
-        subprocess.run([*gate.PYTEST, "-o", f"cache_dir={KEPT}.tests", "--tb=no", "--assert=plain", *again, *words], cwd=gate.TESTS,
+        subprocess.run([*gate.PYTEST, "-p", "no:cacheprovider", "--tb=no", "--assert=plain", *words], cwd=gate.TESTS,
                        env={**os.environ, **settings}, stdout=subprocess.DEVNULL)
         found = [*map(json.loads, dict.fromkeys(file))]
     return {program: [line for name, line in found if name == program] for program in dict.fromkeys(name for name, _ in found)}
@@ -75,12 +73,10 @@ def prepare(words):
         kept = json.loads(files.read(KEPT))
     if kept.get("sums") != sums:
         kept = {"sums": sums, **{name: {} for name in programs}}
-    for number in range(ROUNDS):
-        files.write(KEPT, json.dumps(kept))
-        found = lacking(words if folders else [*words, *ASKING], number == 0)
-        with concurrent.futures.ThreadPoolExecutor() as pool:
-            for program, answers in zip(found, pool.map(ask, found, found.values())):
-                kept[program].update(answers)
-        if not found:
-            break
+    files.write(KEPT, json.dumps(kept))
+    found = lacking(words if folders else [*words, *ASKING])
+    with concurrent.futures.ThreadPoolExecutor() as pool:
+        for program, answers in zip(found, pool.map(ask, found, found.values())):
+            kept[program].update(answers)
+    files.write(KEPT, json.dumps(kept))
     return {"DENIMSCREE_ANSWERS": KEPT}

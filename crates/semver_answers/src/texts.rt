@@ -11,6 +11,7 @@ use npm_semver::{
     CoerceOptions, NpmOptions, coerce, coerce_with_prerelease, parse_range, parse_version,
     read_identifier,
 };
+use std::alloc::Global;
 
 pub(crate) fn answer(call: &Call<'_>, out: &mut String) -> Written {
     let (alloc, text, option) = (call.alloc, text_at(call, 0), text_at(call, 1));
@@ -19,7 +20,7 @@ pub(crate) fn answer(call: &Call<'_>, out: &mut String) -> Written {
         loose: option.contains("loose"),
         include_prerelease: option.contains("prereleases"),
     };
-    let rtl = option == "rtl";
+    let (rtl, wide) = (option == "rtl", options.include_prerelease);
     let direction = CoerceOptions { rtl };
     match call.name {
         "Version::parse" => {
@@ -32,6 +33,9 @@ pub(crate) fn answer(call: &Call<'_>, out: &mut String) -> Written {
         }
         "Range::parse" => put_read(out, text, Range::parse(alloc, text)),
         "npm_semver::parse_range" => put_read(out, text, parse_range(alloc, text, options)),
+        "npm_semver::parse_range, read back" => {
+            put_read_back(alloc, out, text, parse_range(alloc, text, options), wide)
+        }
         "npm_semver::coerce" => put_if_any(out, Ok(coerce(alloc, text, direction))),
         "npm_semver::coerce_with_prerelease" => {
             put_if_any(out, coerce_with_prerelease(alloc, text, direction))
@@ -46,7 +50,7 @@ pub(crate) fn answer(call: &Call<'_>, out: &mut String) -> Written {
             put_satisfies(out, text, Range::parse(alloc, text), version, false)
         }
         "npm_semver::parse_range, satisfies" => {
-            let (version, wide) = (version_at(call, 2)?, options.include_prerelease);
+            let version = version_at(call, 2)?;
             let range = parse_range(alloc, text, options);
             put_satisfies(out, text, range, version, wide)
         }
@@ -63,6 +67,17 @@ fn put_satisfies(out: &mut String, text: &str, range: Read, v: &Version, wide: b
         Ok(range) => put(out, &range.satisfies(v)),
         Err(error) => put_refusal(out, text, error),
     }
+}
+
+/// What the print of a range is read as, in strict form.
+fn put_read_back(alloc: Global, out: &mut String, text: &str, range: Read, wide: bool) -> Written {
+    let mut print = String::new(alloc);
+    put_read(&mut print, text, range)?;
+    let options = NpmOptions {
+        loose: false,
+        include_prerelease: wide,
+    };
+    put_read(out, &print, parse_range(alloc, &print, options))
 }
 
 /// Calls on a version that borrows the text.

@@ -135,6 +135,7 @@ Resolution = Selected | NoSelection | Undecided
 #: What `resolve` returns for `lockfile=True`.
 LockResolution = LockFile | Unread | NoSelection | Undecided
 
+
 def _omits(omit: Group | collections.abc.Iterable[Group]) -> str:
     groups = [omit] if isinstance(omit, str) else list(omit)
     if any(group not in _GROUPS for group in groups):

@@ -1,4 +1,5 @@
-"""The tests of each crate, and the stored run of each program, by `rt try`: nothing is proved. The gate proves and runs them by `rt ci`."""
+"""The tests of each crate, and the stored run of each program that users run, by `rt try`: nothing is proved. The gate proves and runs them by
+`rt ci`, and those of the programs for tests too, which rows ask here."""
 import os
 import re
 
@@ -28,7 +29,7 @@ def test_the_tests_of_a_crate(crate):
     assert status == 0 and [name for name, said in told if said != "ok"] == [] and len(dict(told)) >= TESTED[crate], (output + error)[-3000:]
 
 
-@pytest.mark.parametrize("crate", sorted(filter(crates.is_program, crates.listed()), key=size, reverse=True))
+@pytest.mark.parametrize("crate", sorted(crates.programs().values(), key=size, reverse=True))
 def test_the_stored_run_of_a_program(crate):
     def stored(name):
         return files.read(path) if os.path.isfile(os.path.join(programs.ROOT, path := f"crates/{crate}/{name}")) else ""

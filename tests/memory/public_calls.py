@@ -8,7 +8,8 @@ import rattle
 
 # Libraries that no user calls, and those of which runs of the programs, or rows of the package for C, make each call.
 OTHERS = set("""named_calls node_semver_callers json_places npm_lock_findings command_lines npm_lock_reports npm_manifest_files
-    npm_pick_reports version_solving npm_resolve npm_resolve_reports npm_resolve_laws npm_calls""".split())
+    npm_pick_reports version_solving npm_resolve npm_resolve_reports npm_resolve_laws npm_calls npm_overrides npm_trees npm_tree_building
+    npm_tree_locks npm_tree_reports""".split())
 
 # The calls that make other functions, each with these functions.
 MAKES = {
@@ -27,6 +28,7 @@ MAKES = {
     "Range::union": "Sets::union",
     "npm_semver::parse_range": "npm_sets::read_npm npm_sets::read_npm_text npm_sets::refused_offset",
     "npm_pick::pick": "npm_pick::is_engine_for npm_pick::text_of npm_pick::up_to",
+    "npm_pick::keep": "npm_pick::keys_in_order",
     "npm_lock::check": """npm_texts::range_of npm_texts::copied npm_texts::put_text npm_packages::lock_of Index::of_lock SoundLock::of
         npm_lock::check_sound_lock Lock::find npm_packages::asked_of npm_packages::rules_of npm_packages::rules_in Problem::to_json Unchecked::to_json""",
     "npm_lock::check_any": "npm_packages::place_text",

@@ -1,8 +1,4 @@
 //! The lock file that the arguments name.
-ghost use Rattle.std.specs.Prelude.{IfOk, option_map};
-ghost use Rattle.serde_json.specs.View.{view};
-ghost use Rattle.npm_resolve_command.specs.LockFile as LockFiles;
-ghost use Rattle.npm_resolve_command.specs.LockFile.{IsLockOf};
 
 use crate::program_error::ProgramError;
 use command_lines::Quoted;
@@ -21,22 +17,13 @@ pub struct LockFile<'a> {
 pub fn lock_in<'a, 'v>(
     alloc: Global,
     file: &'v Option<LockFile<'a>>,
-) -> Result<Option<Lock<'v>>, ProgramError<'a>>
-    ensures { IfOk result (LockFiles.IsLockIn (option_map (λ file. view file.value) file.now)) }
-{
-    match file {
-        Some(file) => Ok(Some(lock_of_file(alloc, file)?)),
-        None => Ok(None),
-    }
-}
-
-/// The packages of a lock file.
-fn lock_of_file<'a, 'v>(alloc: Global, file: &'v LockFile<'a>) -> Result<Lock<'v>, ProgramError<'a>>
-    ensures { IfOk result (IsLockOf (view file.now.value)) }
-{
+) -> Result<Option<Lock<'v>>, ProgramError<'a>> {
+    let Some(file) = file else {
+        return Ok(None);
+    };
     let quoted = Quoted { text: file.path };
     match lock_of(alloc, &file.value) {
-        Ok(lock) => Ok(lock),
+        Ok(lock) => Ok(Some(lock)),
         Err(Fault::Version) => Err(ProgramError::LockVersion(quoted)),
         Err(fault) => Err(ProgramError::Lock(quoted, fault)),
     }

@@ -15,20 +15,24 @@ mod help;
 mod lock_file;
 mod program_error;
 mod values;
+mod workspaces;
 
 use arguments::{Arguments, read_arguments};
 use command_lines::{Quoted, Shown, words_of};
 use help::{HELP, VERSION};
 use lock_file::{LockFile, lock_in};
-use npm_pick_reports::{checked_manifest, packument_in, value_at, version_of};
-use npm_resolve::Options;
+use npm_pick_reports::{before_of, file_value, manifests_at, node_of, packument_in, version_of};
+use npm_resolve::{Options, Reach};
 use npm_resolve_reports::{Done, Ending, Platform, Question, RunError, run};
+use npm_tree_building::Manifest;
 use program_error::ProgramError;
 use serde_json::Value;
+use std::alloc::{AllocError, Global};
 use std::io::Write;
 use std::process::ExitCode;
 use std::{fs, io};
-use values::{before_of, check_lock, folder_of, node_of, steps_of};
+use values::{check_lock, check_tree, folder_of, steps_of};
+use workspaces::folders_of;
 
 /// Ends with the status of `status_of`.
 fn main(rt: HostRuntime) -> ExitCode {
@@ -39,8 +43,8 @@ fn main(rt: HostRuntime) -> ExitCode {
     };
     let (outcome, said) = match outcome {
         Ok(None) => (Ok(None), Ok(())),
-        Ok(Some(done)) => {
-            let said = say(&rt, &done);
+        Ok(Some((done, is_tree))) => {
+            let said = say(&rt, &done, is_tree);
             (Ok(Some(done.ending)), said)
         }
         Err(error) => {
@@ -51,11 +55,12 @@ fn main(rt: HostRuntime) -> ExitCode {
     ExitCode::from(status_of(&outcome, said.is_ok()))
 }
 
-/// Writes the lines for standard error.
-fn say(rt: &HostRuntime, done: &Done) -> io::Result<()> {
+/// Writes the lines for standard error. Those of a tree say all.
+fn say(rt: &HostRuntime, done: &Done, is_tree: bool) -> io::Result<()> {
     rt.stderr().write_all(done.notes.as_slice())?;
     match done.ending {
         Ending::Selected | Ending::NoSelection => Ok(()),
+        Ending::Undecided if is_tree => Ok(()),
         Ending::Undecided => {
             eprintln!(rt; "npm_resolve: the steps are used up; --steps allows more")
         }
@@ -65,15 +70,20 @@ fn say(rt: &HostRuntime, done: &Done) -> io::Result<()> {
     }
 }
 
-/// Does what the arguments ask. Returns how the program ends, or `None` if only a text about it was shown.
-fn outcome_of<'a>(rt: &HostRuntime, words: &'a [String]) -> Result<Option<Done>, ProgramError<'a>> {
+/// Does what the arguments ask. Returns how the program ends, and `true` if it wrote a tree, or `None` if only a text about it was shown.
+fn outcome_of<'a>(
+    rt: &HostRuntime,
+    words: &'a [String],
+) -> Result<Option<(Done, bool)>, ProgramError<'a>> {
     let asked = read_arguments(rt.alloc(), words)?;
     if let Some(shown) = asked.shown {
         show(rt, shown)?;
         return Ok(None);
     }
-    let done = write_selection(rt, &asked)?;
-    Ok(Some(done))
+    match asked.reach {
+        Some(reach) => Ok(Some((write_selection(rt, &asked, reach)?, false))),
+        None => Ok(Some((write_tree(rt, &asked)?, true))),
+    }
 }
 
 /// Writes a text about the program.
@@ -89,7 +99,11 @@ fn show(rt: &HostRuntime, shown: Shown) -> Result<(), RunError> {
 }
 
 /// Reads the manifests, and writes the versions that fit together for them. Documents of packages are in a folder.
-fn write_selection<'a>(rt: &HostRuntime, asked: &Arguments<'a>) -> Result<Done, ProgramError<'a>> {
+fn write_selection<'a>(
+    rt: &HostRuntime,
+    asked: &Arguments<'a>,
+    reach: Reach,
+) -> Result<Done, ProgramError<'a>> {
     let folder = folder_of(asked)?;
     let steps = steps_of(asked.steps)?;
     let before = before_of(rt.alloc(), asked.before)?;
@@ -110,7 +124,7 @@ fn write_selection<'a>(rt: &HostRuntime, asked: &Arguments<'a>) -> Result<Done, 
             is_lowest: asked.lowest,
             lock,
         },
-        reach: asked.reach,
+        reach,
         omits: asked.omits,
         platform: Platform {
             os: asked.os,
@@ -124,32 +138,69 @@ fn write_selection<'a>(rt: &HostRuntime, asked: &Arguments<'a>) -> Result<Done, 
     Ok(done)
 }
 
+/// Reads the manifests, and writes npm's tree of folders for them. Documents of packages are in a folder.
+fn write_tree<'a>(rt: &HostRuntime, asked: &Arguments<'a>) -> Result<Done, ProgramError<'a>> {
+    let folder = folder_of(asked)?;
+    let steps = steps_of(asked.steps)?;
+    let before = before_of(rt.alloc(), asked.before)?;
+    check_tree(asked)?;
+    let folders = folders_of(rt.alloc(), &asked.manifests)?;
+    let node = node_of(rt.alloc(), asked.node)?;
+    let values = manifests_at(rt, &asked.manifests)?;
+    check_folder(rt, folder)?;
+    let lock = lock_file_at(rt, asked.lock)?;
+    lock_in(rt.alloc(), &lock)?;
+    let manifests = placed(rt.alloc(), &folders, &values)?;
+    let question = npm_tree_reports::Question {
+        manifests: &manifests,
+        lock: value_of(&lock),
+        default_tag: asked.tag.unwrap_or("latest"),
+        before,
+        node: text_of(&node),
+        steps,
+    };
+    let load = |name: &str| packument_in(rt, folder, name);
+    let done = npm_tree_reports::run(rt.alloc(), question, asked.format, load, &mut rt.stdout())?;
+    Ok(done)
+}
+
+/// The manifests with their folders.
+fn placed<'v>(
+    alloc: Global,
+    folders: &'v [String],
+    values: &'v [Value],
+) -> Result<Vec<Manifest<'v>>, AllocError> {
+    let mut manifests = Vec::with_capacity(alloc, values.len())?;
+    for (at, value) in folders.iter().zip(values) {
+        manifests.push(Manifest {
+            at: at.as_str(),
+            value,
+        })?;
+    }
+    Ok(manifests)
+}
+
+/// The value of a lock file.
+fn value_of<'v>(file: &'v Option<LockFile<'_>>) -> Option<&'v Value> {
+    match file {
+        Some(file) => Some(&file.value),
+        None => None,
+    }
+}
+
+/// A text, borrowed.
+fn text_of(text: &Option<String>) -> Option<&str> {
+    match text {
+        Some(text) => Some(text.as_str()),
+        None => None,
+    }
+}
+
 /// Checks that the folder of packuments is there.
 fn check_folder<'a>(rt: &HostRuntime, folder: &'a str) -> Result<(), ProgramError<'a>> {
     match fs::metadata(rt, folder) {
         Ok(found) if found.is_dir() => Ok(()),
         Ok(_) | Err(_) => Err(ProgramError::NoFolder(Quoted { text: folder })),
-    }
-}
-
-/// Reads the manifests at these paths.
-fn manifests_at<'a>(rt: &HostRuntime, paths: &[&'a str]) -> Result<Vec<Value>, ProgramError<'a>> {
-    let mut manifests = Vec::new(rt.alloc());
-    for path in paths {
-        let manifest = manifest_at(rt, *path)?;
-        if manifests.push(manifest).is_err() {
-            return Err(ProgramError::Run(RunError::Memory));
-        }
-    }
-    Ok(manifests)
-}
-
-/// Reads a manifest.
-fn manifest_at<'a>(rt: &HostRuntime, path: &'a str) -> Result<Value, ProgramError<'a>> {
-    let value = file_value(rt, "--manifest", path)?;
-    match checked_manifest(value) {
-        Ok(manifest) => Ok(manifest),
-        Err(fault) => Err(ProgramError::Manifest(Quoted { text: path }, fault)),
     }
 }
 
@@ -163,18 +214,6 @@ fn lock_file_at<'a>(
     };
     let value = file_value(rt, "--lock", path)?;
     Ok(Some(LockFile { path, value }))
-}
-
-/// Reads the JSON value of the file after an option; `-` is standard input.
-fn file_value<'a>(
-    rt: &HostRuntime,
-    option: &'static str,
-    path: &'a str,
-) -> Result<Value, ProgramError<'a>> {
-    match value_at(rt, path) {
-        Ok(value) => Ok(value),
-        Err(error) => Err(ProgramError::File(option, Quoted { text: path }, error)),
-    }
 }
 
 /// Returns the exit status: 0 if versions fit together or a text was shown, 1 if none do, 3 if the steps were used up before either was

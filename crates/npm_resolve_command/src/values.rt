@@ -1,12 +1,9 @@
-//! The folder, the time, the version and the number that the arguments name.
+//! The folder and the number that the arguments name.
 use crate::argument_error::ArgumentError;
 use crate::arguments::Arguments;
-use crate::program_error::ProgramError;
 use command_lines::Quoted;
-use npm_pick_reports::{time_given, version_given};
 use npm_resolve::Reach;
 use npm_resolve_reports::Format;
-use std::alloc::Global;
 
 /// So many steps are done if `--steps` names no number.
 const STEPS: u64 = 10_000_000;
@@ -27,7 +24,7 @@ pub fn check_lock<'a>(asked: &Arguments<'a>) -> Result<(), ArgumentError<'a>> {
     if asked.format != Format::Lock {
         return Ok(());
     }
-    if asked.reach != Reach::Dependencies {
+    if asked.reach == Some(Reach::Peers) {
         return Err(ArgumentError::LockNotFlat);
     }
     if asked.omits.dev || asked.omits.optional || asked.omits.peer {
@@ -39,33 +36,20 @@ pub fn check_lock<'a>(asked: &Arguments<'a>) -> Result<(), ArgumentError<'a>> {
     Ok(())
 }
 
-/// Returns the time of `--before`.
-pub fn before_of<'a>(
-    alloc: Global,
-    text: Option<&'a str>,
-) -> Result<Option<i128>, ProgramError<'a>> {
-    let Some(text) = text else {
-        return Ok(None);
-    };
-    let time = time_given(alloc, text)?;
-    if time.is_none() {
-        return Err(ProgramError::Argument(ArgumentError::Time(Quoted { text })));
+/// Checks that no argument has a meaning for a flat selection alone.
+pub fn check_tree<'a>(asked: &Arguments<'a>) -> Result<(), ArgumentError<'a>> {
+    if asked.omits.dev || asked.omits.optional || asked.omits.peer {
+        return Err(ArgumentError::NotOfTrees("--omit"));
     }
-    Ok(time)
-}
-
-/// Returns the whole text of the version of `--node`.
-pub fn node_of<'a>(
-    alloc: Global,
-    text: Option<&'a str>,
-) -> Result<Option<String>, ProgramError<'a>> {
-    let Some(text) = text else {
-        return Ok(None);
-    };
-    match version_given(alloc, text)? {
-        Some(node) => Ok(Some(node)),
-        None => Err(ProgramError::Argument(ArgumentError::NodeVersion(Quoted { text }))),
+    if asked.lowest {
+        return Err(ArgumentError::NotOfTrees("--lowest"));
     }
+    for (name, value) in [("--os", asked.os), ("--cpu", asked.cpu), ("--libc", asked.libc)] {
+        if value.is_some() {
+            return Err(ArgumentError::NotOfTrees(name));
+        }
+    }
+    Ok(())
 }
 
 /// Returns the number of `--steps`.

@@ -1,0 +1,2 @@
+-- What the contract of `checked_tree` says: what `npm_trees` says of trees, and this.
+pub mod Checked  -- an answer whose tree is one

@@ -27,6 +27,7 @@ MAKES = {
     "Range::union": "Sets::union",
     "npm_semver::parse_range": "npm_sets::read_npm npm_sets::read_npm_text npm_sets::refused_offset",
     "npm_pick::pick": "npm_pick::is_engine_for npm_pick::text_of npm_pick::up_to",
+    "npm_pick::keep": "npm_pick::keys_in_order",
     "npm_lock::check": """npm_texts::range_of npm_texts::copied npm_texts::put_text npm_packages::lock_of Index::of_lock SoundLock::of
         npm_lock::check_sound_lock Lock::find npm_packages::asked_of npm_packages::rules_of npm_packages::rules_in Problem::to_json Unchecked::to_json""",
     "npm_lock::check_any": "npm_packages::place_text",

@@ -7,7 +7,6 @@ pub mod Offering
 pub mod Uniting
 pub mod Reading
 pub mod FileFaults
-pub mod Stepping
 pub mod Keeping
 pub mod Halving
 pub mod Auditing

@@ -1,31 +1,21 @@
 //! An installed package that is hit, as a JSON object.
-ghost use Rattle.std.specs.Prelude.{◌≡◌, IfOk, OnOk, map, option_map};
-ghost use Rattle.serde_json.specs.View.{members_view, view};
-ghost use Rattle.npm_advisories.specs.Advisories.{about_value};
-ghost use Rattle.npm_advisories.specs.Audit.{found_value};
-ghost use Rattle.npm_advisories.specs.FoundJson.{about_data, found_data, with_text, with_version};
 
 use crate::found::Found;
 use crate::{About, Result};
 use node_semver::Version;
+use npm_texts::put_text;
 use serde_json::{Map, Value, put};
 use std::alloc::Global;
 
 impl<'f, 'v> Found<'f, 'v> {
     /// The package as a JSON object, whose members are in the order of their names.
-    pub fn to_json(&self, alloc: Global) -> Result<Value>
-        ensures { IfOk result (λ value. view value ≡ found_data (found_value self.now)) }
-    {
+    pub fn to_json(&self, alloc: Global) -> Result<Value> {
         let mut members = Map::new(alloc);
-        put_text(&mut members, alloc, "folder", Some(self.folder))?;
-        put_text(&mut members, alloc, "name", Some(self.name))?;
-        put_text(&mut members, alloc, "version", self.version)?;
-        put(
-            &mut members,
-            alloc,
-            "advisories",
-            Value::Array(hits_json(alloc, &self.hits)?),
-        )?;
+        put_text(&mut members, alloc, "folder", self.folder)?;
+        put_text(&mut members, alloc, "name", self.name)?;
+        put_some(&mut members, alloc, "version", self.version)?;
+        let hits = Value::Array(hits_json(alloc, &self.hits)?);
+        put(&mut members, alloc, "advisories", hits)?;
         put_version(&mut members, alloc, "least", self.least.as_ref())?;
         put_version(&mut members, alloc, "admitted", self.admitted.as_ref())?;
         Ok(Value::Object(members))
@@ -33,9 +23,7 @@ impl<'f, 'v> Found<'f, 'v> {
 }
 
 /// The list of hits.
-fn hits_json(alloc: Global, hits: &[About<'_>]) -> Result<Vec<Value>>
-    ensures { IfOk result (λ values. map view values.items ≡ map about_data (map about_value hits.now)) }
-{
+fn hits_json(alloc: Global, hits: &[About<'_>]) -> Result<Vec<Value>> {
     let mut values = Vec::with_capacity(alloc, hits.len())?;
     for about in hits {
         values.push(about_json(alloc, *about)?)?;
@@ -44,34 +32,24 @@ fn hits_json(alloc: Global, hits: &[About<'_>]) -> Result<Vec<Value>>
 }
 
 /// What an advisory says of itself.
-fn about_json(alloc: Global, about: About<'_>) -> Result<Value>
-    ensures { IfOk result (λ value. view value ≡ about_data (about_value about.entry)) }
-{
+fn about_json(alloc: Global, about: About<'_>) -> Result<Value> {
     let mut members = Map::new(alloc);
     put(&mut members, alloc, "id", about.id.clone()?)?;
-    put_text(
-        &mut members,
-        alloc,
-        "severity",
-        Some(about.severity.as_str()),
-    )?;
-    put_text(&mut members, alloc, "title", about.title)?;
-    put_text(&mut members, alloc, "url", about.url)?;
+    put_text(&mut members, alloc, "severity", about.severity.as_str())?;
+    put_some(&mut members, alloc, "title", about.title)?;
+    put_some(&mut members, alloc, "url", about.url)?;
     Ok(Value::Object(members))
 }
 
 /// Adds a member whose value is a text, if there is one.
-fn put_text(
+fn put_some(
     members: &mut Map<String, Value>,
     alloc: Global,
     key: &str,
     text: Option<&str>,
-) -> Result<()>
-    ensures { OnOk result (members_view members.new.entries
-        ≡ with_text key.now (option_map (λ text. text.now) text.entry) (members_view members.old.entries)) }
-{
+) -> Result<()> {
     match text {
-        Some(text) => put(members, alloc, key, Value::try_from_str(alloc, text)?),
+        Some(text) => put_text(members, alloc, key, text),
         None => Ok(()),
     }
 }
@@ -82,19 +60,11 @@ fn put_version(
     alloc: Global,
     key: &str,
     version: Option<&Version>,
-) -> Result<()>
-    ensures { OnOk result (members_view members.new.entries
-        ≡ with_version key.now (option_map (λ v. v.now) version.entry) (members_view members.old.entries)) }
-{
+) -> Result<()> {
     match version {
         Some(version) => {
             let text = version.to_string(alloc)?;
-            put(
-                members,
-                alloc,
-                key,
-                Value::try_from_str(alloc, text.as_str())?,
-            )
+            put_text(members, alloc, key, text.as_str())
         }
         None => Ok(()),
     }

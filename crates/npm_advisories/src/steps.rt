@@ -1,15 +1,8 @@
 //! Where in a file of advisories a fault is.
-ghost use Rattle.std.specs.Prelude.{◌≡◌, ◌++◌, IfErr, IfOk, OnOk, option_and_then, option_map};
-ghost use Rattle.serde_json.specs.Find.{at, get};
+ghost use Rattle.std.specs.Prelude.{IfErr};
 ghost use Rattle.serde_json.specs.View.{view};
-ghost use Rattle.json_places.specs.Steps.{steps_seen};
-ghost use Rattle.npm_advisories.specs.FaultSteps as FaultSteps;
-ghost use Rattle.npm_advisories.specs.FaultSteps.{AreFaultStepsBeside};
-ghost use Rattle.npm_advisories.specs.Faults.{fault_value};
 ghost use Rattle.npm_advisories.specs.LockFaults.{IsLockError};
 ghost use Rattle.toml_datetime.specs.declared.datetime.Date.{Date};
-ghost use Rattle.npm_advisories.specs.Index.{has_name};
-ghost use Rattle.npm_advisories.specs.Private.VersionTest.{is_version};
 
 mod osv;
 
@@ -43,9 +36,7 @@ pub fn fault_steps<'f>(
     lock: &Value,
     fault: Fault<'f>,
 ) -> Result<Vec<Step<'f>>, LockError<'f>>
-    ensures found { IfOk result (λ steps. AreFaultStepsBeside (view lock.now) (view file.now) (fault_value fault.entry)
-        (steps_seen steps.items)) }
-    ensures refused { IfErr result (λ error. (today : Date) → IsLockError today (view lock.now) (view file.now) error) }
+    ensures { IfErr result (λ error. (today : Date) → IsLockError today (view lock.now) (view file.now) error) }
 {
     let installed = match installed_in(alloc, lock) {
         Ok(installed) => installed,
@@ -66,10 +57,7 @@ fn steps_of<'f>(
     names: &Names<'_>,
     file: &'f Value,
     fault: Fault<'f>,
-) -> Result<Vec<Step<'f>>>
-    ensures { IfOk result (λ steps. steps_seen steps.items
-        ≡ FaultSteps.fault_steps is_version (has_name names.now) (view file.now) (fault_value fault.entry)) }
-{
+) -> Result<Vec<Step<'f>>> {
     let mut steps = Vec::new(alloc);
     if file.is_array() {
         steps.push(Step::Item(fault.place))?;
@@ -85,10 +73,7 @@ fn steps_of<'f>(
 }
 
 /// Adds the steps that lead to a fault in npm's form.
-fn push_npm<'f>(steps: &mut Vec<Step<'f>>, file: &'f Value, fault: Fault<'f>) -> Result<()>
-    ensures { OnOk result (steps_seen steps.new.items ≡ steps_seen steps.old.items
-        ++ FaultSteps.npm_steps fault.entry.kind fault.entry.name.now fault.entry.place (view file.now)) }
-{
+fn push_npm<'f>(steps: &mut Vec<Step<'f>>, file: &'f Value, fault: Fault<'f>) -> Result<()> {
     if fault.kind == FaultKind::File {
         return Ok(());
     }
@@ -104,18 +89,12 @@ fn push_npm<'f>(steps: &mut Vec<Step<'f>>, file: &'f Value, fault: Fault<'f>) ->
 }
 
 /// The advisory that a fault is about, in npm's form.
-fn advisory_at<'f>(file: &'f Value, fault: Fault<'_>) -> Option<&'f Value>
-    ensures { option_map (λ entry. view entry.now) result
-        ≡ option_and_then (at fault.entry.place) (get fault.entry.name.now (view file.now)) }
-{
+fn advisory_at<'f>(file: &'f Value, fault: Fault<'_>) -> Option<&'f Value> {
     file.get(fault.name)?.get(fault.place)
 }
 
 /// Adds the step to the member of an advisory that a fault of this kind is about.
-fn push_in_npm<'f>(steps: &mut Vec<Step<'f>>, entry: &'f Value, kind: FaultKind) -> Result<()>
-    ensures { OnOk result (steps_seen steps.new.items
-        ≡ steps_seen steps.old.items ++ FaultSteps.steps_in_npm kind (view entry.now)) }
-{
+fn push_in_npm<'f>(steps: &mut Vec<Step<'f>>, entry: &'f Value, kind: FaultKind) -> Result<()> {
     match npm_member(kind) {
         Some(name) => push_member(steps, entry, name),
         None => Ok(()),
@@ -123,9 +102,7 @@ fn push_in_npm<'f>(steps: &mut Vec<Step<'f>>, entry: &'f Value, kind: FaultKind)
 }
 
 /// The member of an advisory in npm's form that a fault of this kind is about.
-fn npm_member(kind: FaultKind) -> Option<&'static str>
-    ensures { option_map (λ name. name.now) result ≡ FaultSteps.npm_member kind }
-{
+fn npm_member(kind: FaultKind) -> Option<&'static str> {
     match kind {
         FaultKind::OsvUnderName => Some("affected"),
         FaultKind::Id => Some("id"),
@@ -142,10 +119,7 @@ pub(crate) fn push_member<'f>(
     steps: &mut Vec<Step<'f>>,
     entry: &'f Value,
     name: &'static str,
-) -> Result<()>
-    ensures { OnOk result (steps_seen steps.new.items
-        ≡ steps_seen steps.old.items ++ FaultSteps.step_in name.now (view entry.now)) }
-{
+) -> Result<()> {
     if entry.get(name).is_some() {
         steps.push(Step::Member(name))?;
     }

@@ -1,5 +1,4 @@
 //! Members that are texts, marks, numbers and lists of texts.
-ghost use Rattle.std.specs.Prelude.{◌≡◌, option_map, string_bytes, unwrap_or};
 
 use crate::asked::Asked;
 use crate::call_error::CallError;
@@ -104,9 +103,7 @@ pub(crate) fn is_among(texts: &[String], wanted: &str) -> bool {
 }
 
 /// The text, or this one if there is none.
-pub(crate) fn text_or<'a>(text: &'a Option<String>, other: &'a str) -> &'a str
-    ensures { result.now ≡ unwrap_or (option_map string_bytes text.now) other.now }
-{
+pub(crate) fn text_or<'a>(text: &'a Option<String>, other: &'a str) -> &'a str {
     match text {
         Some(text) => text.as_str(),
         None => other,
@@ -114,9 +111,7 @@ pub(crate) fn text_or<'a>(text: &'a Option<String>, other: &'a str) -> &'a str
 }
 
 /// The text, if there is one.
-pub(crate) fn some_text(text: &Option<String>) -> Option<&str>
-    ensures { option_map (λ text. text.now) result ≡ option_map string_bytes text.now }
-{
+pub(crate) fn some_text(text: &Option<String>) -> Option<&str> {
     match text {
         Some(text) => Some(text.as_str()),
         None => None,

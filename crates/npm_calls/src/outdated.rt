@@ -8,9 +8,11 @@ use crate::document::Document;
 use crate::lock_file::refused_lock;
 use crate::manifests::manifest_list;
 use crate::pick_options::PickOptions;
-use crate::text::{joined, json_lines, json_strings, word_of};
+use crate::text::{joined, json_lines, json_list, json_strings, word_of};
 use npm_pick::Options;
-use npm_pick_reports::{Ending, Format, LoadError, Question, Reply, RunError, reply_to};
+use npm_pick_reports::{
+    Ending, Format, LoadError, Question, Reply, RunError, absent_names, lacking_texts, reply_to,
+};
 use serde_json::Value;
 use std::alloc::{AllocError, Global};
 
@@ -87,7 +89,7 @@ pub(crate) fn packument_of(packuments: &Value, name: &str) -> Result<Option<Valu
 fn reply_text(alloc: Global, reply: &Reply<'_>, lines: Vec<u8>) -> Result<String, AllocError> {
     match reply.ending() {
         Ending::Compared(_, absent) => compared_text(alloc, absent, lines),
-        _ => kept_text(alloc, reply, lines),
+        ending => kept_text(alloc, reply, ending == Ending::Kept(true), lines),
     }
 }
 
@@ -106,19 +108,24 @@ fn compared_text(alloc: Global, absent: usize, lines: Vec<u8>) -> Result<String,
 }
 
 /// The object of what a mirror keeps.
-fn kept_text(alloc: Global, reply: &Reply<'_>, lines: Vec<u8>) -> Result<String, AllocError> {
-    let Reply::Kept(mirror, notes) = reply else {
+fn kept_text(
+    alloc: Global,
+    reply: &Reply<'_>,
+    is_complete: bool,
+    lines: Vec<u8>,
+) -> Result<String, AllocError> {
+    let Reply::Kept(packages, notes) = reply else {
         return String::from_str(alloc, "{}");
     };
-    let absent = json_strings(alloc, &mirror.absent)?;
+    let absent = json_list(alloc, &absent_names(alloc, packages)?)?;
     let kept = String::from_utf8_lossy(alloc, lines.as_slice())?;
-    let lacking = json_strings(alloc, &mirror.lacking)?;
+    let lacking = json_strings(alloc, &lacking_texts(alloc, packages)?)?;
     let notes = json_strings(alloc, notes)?;
     let pieces = [
         "{\"absent\":",
         absent.as_str(),
         ",\"complete\":",
-        word_of(mirror.absent.is_empty() && mirror.lacking.is_empty()),
+        word_of(is_complete),
         ",\"kept\":",
         kept.as_str().trim_end(),
         ",\"lacking\":",

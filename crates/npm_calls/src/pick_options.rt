@@ -1,5 +1,4 @@
 //! The options of a pick.
-ghost use Rattle.npm_calls.specs.Options.{AreOptions};
 
 use crate::asked::Asked;
 use crate::call_error::CallError;
@@ -36,9 +35,7 @@ impl PickOptions {
     }
 
     /// The options of `npm_pick`.
-    pub(crate) fn options(&self) -> Options<'_>
-        ensures { AreOptions self.now result }
-    {
+    pub(crate) fn options(&self) -> Options<'_> {
         Options {
             default_tag: text_or(&self.tag, "latest"),
             before: self.before,

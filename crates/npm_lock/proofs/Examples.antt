@@ -3,7 +3,6 @@ pub mod OutcomeExamples
 pub mod SpecExamples
 pub mod WorkspaceExamples
 pub mod PatternExamples
-pub mod WordExamples
 pub mod TarballExamples
 pub mod VersionOneExamples
 pub mod ManifestExamples

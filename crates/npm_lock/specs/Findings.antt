@@ -12,6 +12,7 @@ use Rattle.serde_json.specs.Find.{get}
 use Rattle.node_semver.specs.Versions.{VersionValue}
 use Rattle.npm_texts.specs.ObjectKeys.{keys_of}
 use Rattle.npm_packages.specs.Asked.{AreNames, AskedValue, asked_of}
+use Rattle.npm_packages.specs.Edges.{edge_of}
 use Rattle.npm_packages.specs.Folders.{IsInstalled}
 use Rattle.npm_lock.specs.Outcomes.{IsEngineOutcome, IsOutcome, JudgementValue, ProblemValue, UncheckedValue}
 use Rattle.npm_lock.specs.Outcomes.{dependency_of, fine, problem_value, unchecked_value, unknown, wrong}
@@ -30,9 +31,9 @@ pub data Finding : Type 0 where
 abbrev pub finding_of : (folder : List ℕ) → (asker : Data) → (name : List ℕ) → AskedValue → JudgementValue → Finding
 finding_of folder asker name asked fine = of_dependency None None
 finding_of folder asker name asked (wrong kind found) =
-    of_dependency (Some (record { kind = kind; dependency = dependency_of folder asker name asked found })) None
+    of_dependency (Some (record { kind = kind; dependency = dependency_of asker (edge_of folder name asked found) })) None
 finding_of folder asker name asked (unknown reason found) = of_dependency None
-    (Some (record { reason = reason; dependency = dependency_of folder asker name asked (Some found) }))
+    (Some (record { reason = reason; dependency = dependency_of asker (edge_of folder name asked (Some found)) }))
 
 -- the finding about the dependency of the package in this folder on a name, as `overrides` change it
 pub data IsDependencyFinding (packages : Data) (folder : List ℕ) (asker : Data) (is_installed : Bool) (name : List ℕ)

@@ -6,6 +6,7 @@ use Rattle.std.specs.Option.{option_map_or}
 use Rattle.serde_json.specs.Data.{Data, object}
 use Rattle.serde_json.specs.Find.{as_object, get}
 use Rattle.npm_packages.specs.Asked.{AskedValue, asked_of}
+use Rattle.npm_packages.specs.Edges.{edge_of}
 use Rattle.npm_packages.specs.Folders.{place_in}
 use Rattle.npm_lock.specs.Outcomes.{ProblemValue, dependency_of}
 use Rattle.npm_packages.specs.Packages.{Package, package_at}
@@ -36,16 +37,13 @@ kind_of root (Some found) name folder = if bytes_eq found.folder folder then Non
 abbrev pub problem_with : (root : Data) → (package_found : Option Package) → (name folder : List ℕ)
     → Option ProblemValue
 problem_with root found name folder = option_map
-    (λ kind. record { kind = kind; dependency = dependency_of [] root name (asked_folder folder) found })
+    (λ kind. record { kind = kind; dependency = dependency_of root (edge_of [] name (asked_folder folder) found) })
     (kind_of root found name folder)
 
--- the problem with a workspace beside these packages, of which the one in the folder `""` is the root
-abbrev pub problem_among : (packages : Data) → (name folder : List ℕ) → Option ProblemValue
-problem_among packages name folder = option_and_then
-    (λ root. problem_with root (package_at packages (place_in [] name)) name folder)
-    (get [] packages)
-
--- the problem with a workspace beside a lock file
+-- the problem with a workspace beside a lock file, of which the package in the folder `""` is the root
 abbrev pub workspace_problem : (lock : Data) → (name folder : List ℕ) → Option ProblemValue
-workspace_problem lock name folder = option_and_then (λ members. problem_among (object members) name folder)
+workspace_problem lock name folder = option_and_then
+    (λ members. option_and_then
+    (λ root. problem_with root (package_at (object members) (place_in [] name)) name folder)
+    (get [] (object members)))
     (option_and_then as_object (get (codes "packages") lock))

@@ -1,7 +1,7 @@
 -- What the contracts of this crate say: all of it that is trusted, in reading order, beside what `npm_packages` says of
 -- packages and what they depend on.
--- `IsChecked` of Findings is the claim of `check`, `lock_fault` of that crate's Faults says what it refuses, and
--- `problem_data` of ProblemJson is the JSON object of a problem. All other words are there for these three.
+-- `IsChecked` of Findings is the claim of `check`, and `lock_fault` of that crate's Faults says what it refuses. All other words
+-- are there for these two.
 
 -- ---- one dependency
 pub mod PatternGrammar  -- which patterns of workspaces are read, and what they match
@@ -10,7 +10,6 @@ pub mod Verdict  -- whether a version satisfies a spec
 pub mod Outcomes  -- the problem of a dependency, and the one with the version of Node
 -- ---- the whole file
 pub mod Findings  -- all problems of a lock file in their order, and the counts
-pub mod ProblemJson  -- a problem as a JSON object
 pub mod FoundWorkspaces  -- a workspace that was found on disk, beside the lock file
 pub mod OtherFolders  -- keys that npm reads as another folder of the project
 -- ---- lock files of version 1
@@ -23,7 +22,6 @@ pub mod Origins  -- what a lock file says of where a package comes from
 pub mod Sources  -- what is suspicious in it, of all packages
 -- ---- manifests beside a lock file
 pub mod Mismatches  -- dependencies that differ between a manifest and the lock file
-pub mod MismatchJson  -- such a mismatch as a JSON object
 pub mod ManifestPlace  -- a manifest in the place of a package
 -- ---- not part of any public contract: what private functions compute
 pub mod Private

@@ -6,14 +6,18 @@ use Rattle.serde_json.specs.Find.{get}
 use Rattle.npm_texts.specs.Truth.{has_true}
 use Rattle.npm_lock.specs.Mismatches.{entry_of}
 
--- an object with this member, in the place of one of that name if there is one; another value stays
+-- an object with other members; another value stays
+abbrev pub with_members : (change : Members → Members) → Data → Data
+with_members change null = null
+with_members change (boolean b) = boolean b
+with_members change (number n) = number n
+with_members change (string text) = string text
+with_members change (array items) = array items
+with_members change (object members) = object (change members)
+
+-- an object with this member, in the place of one of that name if there is one
 abbrev pub with_member : (name : List ℕ) → (value : Data) → Data → Data
-with_member name value null = null
-with_member name value (boolean b) = boolean b
-with_member name value (number n) = number n
-with_member name value (string text) = string text
-with_member name value (array items) = array items
-with_member name value (object members) = object (put name value members)
+with_member name value = with_members (put name value)
 
 -- A manifest as a package of the lock file. These members are of lock files alone, and mean nothing in a manifest.
 abbrev pub as_package : (manifest : Data) → Data
@@ -40,15 +44,13 @@ changed_at name change (member key value others) = if bytes_eq name key
     then member key (change value) others
     else member key value (changed_at name change others)
 
+-- the lock file with this package in a folder
+abbrev pub with_package : (folder : List ℕ) → (made lock : Data) → Data
+with_package folder made = with_members (changed_at (codes "packages") (with_member folder made))
+
 -- the lock file with a manifest in the place of the package in this folder
 abbrev pub with_manifest : (folder : List ℕ) → (manifest lock : Data) → Data
-with_manifest folder manifest null = null
-with_manifest folder manifest (boolean b) = boolean b
-with_manifest folder manifest (number n) = number n
-with_manifest folder manifest (string text) = string text
-with_manifest folder manifest (array items) = array items
-with_manifest folder manifest (object members) = object (changed_at (codes "packages")
-    (with_member folder (package_at folder (entry_of (object members) folder) manifest)) members)
+with_manifest folder manifest lock = with_package folder (package_at folder (entry_of lock folder) manifest) lock
 
 -- ---- `overrides` in a lock file, which npm does not write
 
@@ -60,17 +62,6 @@ has_overrides lock = is_some (get (codes "overrides") (entry_of lock []))
 abbrev pub plain : (entry : Data) → Data
 plain entry = with_member (codes "overrides") null entry
 
--- the object with this value in the place of the one of this name; another value stays
-abbrev pub with_changed : (name : List ℕ) → (change : Data → Data) → Data → Data
-with_changed name change null = null
-with_changed name change (boolean b) = boolean b
-with_changed name change (number n) = number n
-with_changed name change (string text) = string text
-with_changed name change (array items) = array items
-with_changed name change (object members) = object (changed_at name change members)
-
 -- The lock file whose root has no `overrides` that count: npm reads those of the root's manifest.
 abbrev pub without_overrides : (lock : Data) → Data
-without_overrides lock = if has_overrides lock
-    then with_changed (codes "packages") (with_member [] (plain (entry_of lock []))) lock
-    else lock
+without_overrides lock = if has_overrides lock then with_package [] (plain (entry_of lock [])) lock else lock

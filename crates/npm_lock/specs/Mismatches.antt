@@ -2,8 +2,7 @@
 -- from "dependencies" to "optionalDependencies".
 use Rattle.std.specs.Prelude.{◌≡◌, ◌↔◌, ◌⊎◌, ◌||◌, ◌&&◌, ℕ, List, ◌++◌, Bool, true, false, not, if◌then◌else◌}
 use Rattle.std.specs.Prelude.{Option, Some, None, is_some, bytes_eq, codes, map, option_and_then, option_map}
-use Rattle.std.specs.Prelude.{string_bytes}
-use Rattle.std.specs.Prelude.{unwrap_or}
+use Rattle.std.specs.Prelude.{string_bytes, unwrap_or}
 use Rattle.std.specs.Cmp.Lexicographic.{slice_cmp}
 use Rattle.std.specs.List.{Contains, filter_map}
 use Rattle.std.specs.List.Sorted.{IsStrictlySortedBy}
@@ -114,9 +113,13 @@ pub record AreMismatchesOf (folder : List ℕ) (manifest entry : Data) (found : 
 
 -- ---- a manifest and a lock file
 
--- the package of the lock file in this folder: one with no members if there is none
+-- the package of the lock file in this folder
+abbrev pub member_at : (lock : Data) → (folder : List ℕ) → Option Data
+member_at lock folder = option_and_then (get folder) (get (codes "packages") lock)
+
+-- the same, or one with no members if there is none
 abbrev pub entry_of : (lock : Data) → (folder : List ℕ) → Data
-entry_of lock folder = unwrap_or (option_and_then (get folder) (get (codes "packages") lock)) null
+entry_of lock folder = unwrap_or (member_at lock folder) null
 
 -- the mismatches of a manifest and the package in the same folder of the lock file
 abbrev pub AreMismatches : (lock : Data) → (folder : List ℕ) → (manifest : Data) → List Mismatch → Type 0

@@ -14,10 +14,12 @@ use Rattle.npm_lock.specs.declared.problem.Reason.TheVariants as Reasons
 use Rattle.npm_lock.specs.declared.verdict.Verdict.{Verdict}
 use Rattle.npm_lock.specs.declared.verdict.Verdict.TheVariants as Verdicts
 use Rattle.npm_packages.specs.Asked.{AskedValue, accepted_of}
+use Rattle.npm_packages.specs.Edges.{EdgeValue}
+use Rattle.npm_texts.specs.Admission.{Admits, of_engines}
 use Rattle.npm_texts.specs.Truth.{has_true}
 use Rattle.npm_packages.specs.Packages.{IsFound, IsFoundIn, Package}
 pub use Rattle.npm_packages.specs.Packages.{version_of}
-use Rattle.npm_lock.specs.Verdict.{IsContained, IsVerdictOfBoth}
+use Rattle.npm_lock.specs.Verdict.{IsVerdictOfBoth}
 use Rattle.npm_lock.specs.Workspaces.{IsWorkspaceAs}
 use Rattle.npm_lock.specs.declared.workspace.Workspace.TheVariants as Workspaces
 
@@ -65,27 +67,33 @@ abbrev pub unchecked_value : Unchecked → UncheckedValue
 unchecked_value unchecked =
     record { reason = unchecked.reason; dependency = dependency_value unchecked.dependency }
 
+-- the word for a kind of problem, by which a user leaves problems of that kind out
+abbrev pub kind_text : Kind → List ℕ
+kind_text Missing = codes "missing"
+kind_text Invalid = codes "invalid"
+kind_text PeerLocal = codes "peer-local"
+kind_text Engine = codes "engine"
+
 -- ---- dependencies
 
 -- the lock file marks the package so, as in `"dev": true`, or the dependency itself is so
 abbrev pub is_marked : (mark : List ℕ) → (member : Data) → (is_so : Bool) → Bool
 is_marked mark member is_so = has_true mark member || is_so
 
--- The dependency of the package in this folder on a name, and the package that was found, if one was. It is `dev` if
--- the lock file marks the package so, or the name is in `devDependencies`; `optional` if it marks the package so, or
--- the name need not be found; and `peer` if it marks the package so, or the name is in `peerDependencies`.
-abbrev pub dependency_of : (folder : List ℕ) → (asker : Data) → (name : List ℕ) → AskedValue → Option Package
-    → DependencyValue
-dependency_of folder asker name asked found = record {
-  from = folder;
+-- A dependency of a package, with the package that was found. It is `dev` if the lock file marks the package so, or the name is in
+-- `devDependencies`; `optional` if it marks the package so, or the name need not be found; and `peer` if it marks the package so, or the
+-- name is in `peerDependencies`.
+abbrev pub dependency_of : (asker : Data) → EdgeValue → DependencyValue
+dependency_of asker edge = record {
+  from = edge.from;
   from_version = version_of asker;
-  name = name;
-  spec = asked.spec;
-  to = option_map (λ p. p.folder) found;
-  version = option_and_then (λ p. version_of p.member) found;
-  dev = is_marked (codes "dev") asker asked.is_dev;
-  optional = is_marked (codes "optional") asker (not asked.is_needed);
-  peer = is_marked (codes "peer") asker asked.is_peer;
+  name = edge.name;
+  spec = edge.spec;
+  to = edge.to;
+  version = edge.version;
+  dev = is_marked (codes "dev") asker edge.is_dev;
+  optional = is_marked (codes "optional") asker (not edge.is_needed);
+  peer = is_marked (codes "peer") asker edge.is_peer;
 }
 
 -- a peer of an installed package that is in the `node_modules` of that very package
@@ -149,28 +157,30 @@ abbrev pub engine_of : (member : Data) → Option (List ℕ)
 engine_of member = if has_true (codes "optional") member then None
     else option_and_then as_str (option_and_then (get (codes "node")) (get (codes "engines") member))
 
+-- the dependency on Node, of which this version is found
+abbrev pub engine_edge : (folder spec : List ℕ) → (version : Option (List ℕ)) → EdgeValue
+engine_edge folder spec version = record {
+  from = folder;
+  name = codes "node";
+  spec = spec;
+  is_needed = true;
+  is_peer = false;
+  is_dev = false;
+  is_overridden = false;
+  to = None;
+  version = version;
+}
+
 -- The version of Node does not satisfy the range that the package in this folder has for it. The lock file alone says
 -- whether this is `dev`, `optional` or `peer`.
 abbrev pub engine_problem : (folder : List ℕ) → (member : Data) → (spec : List ℕ) → VersionValue → ProblemValue
-engine_problem folder member spec node = record {
-  kind = Engine;
-  dependency = record {
-    from = folder;
-    from_version = version_of member;
-    name = codes "node";
-    spec = spec;
-    to = None;
-    version = Some (version_text node);
-    dev = is_marked (codes "dev") member false;
-    optional = is_marked (codes "optional") member false;
-    peer = is_marked (codes "peer") member false;
-  };
-}
+engine_problem folder member spec node =
+    record { kind = Engine; dependency = dependency_of member (engine_edge folder spec (Some (version_text node))) }
 
 -- the problem of the package in this folder with a version of Node, or none
 pub data IsEngineOutcome (node : VersionValue) (folder : List ℕ) (member : Data) : Option ProblemValue → Type 0 where
   unsaid : engine_of member ≡ None → IsEngineOutcome node folder member None
-  admitted : (spec : List ℕ) → engine_of member ≡ Some spec → IsContained spec node true
+  admitted : (spec : List ℕ) → engine_of member ≡ Some spec → Admits of_engines spec node
       → IsEngineOutcome node folder member None
-  engine : (spec : List ℕ) → engine_of member ≡ Some spec → IsContained spec node false
+  engine : (spec : List ℕ) → engine_of member ≡ Some spec → ¬ Admits of_engines spec node
       → IsEngineOutcome node folder member (Some (engine_problem folder member spec node))

@@ -1,9 +1,8 @@
--- Whether a version satisfies a dependency's spec: npm's "package.json", "dependencies", and `npm install`'s check of
--- "engines".
+-- Whether a version satisfies a dependency's spec: npm's "package.json", "dependencies".
 use Rattle.std.specs.Prelude.{◌≡◌, ℕ, List, Bool, true, false, Option, Some, None, IfSome, bytes_eq, codes}
 use Rattle.std.specs.Str.{trim}
 use Rattle.node_semver.specs.Versions.{VersionValue}
-use Rattle.npm_texts.specs.Admission.{Admits, IsNoRange, of_dependencies, of_engines}
+use Rattle.npm_texts.specs.Admission.{Admits, IsNoRange, of_dependencies}
 use Rattle.npm_texts.specs.InstalledVersions.{IsInstalledVersion}
 use Rattle.npm_texts.specs.SpecGrammar.{IsSpec, in_registry, is_tag, location, refused}
 use Rattle.npm_lock.specs.declared.problem.Reason.TheVariants.{Location, Tag}
@@ -58,10 +57,3 @@ pub data IsVerdictOfBoth (version : Option (List ℕ)) (spec : List ℕ) (accept
     valid : IsVerdict version spec Valid → IsVerdictOfBoth version spec accepted Valid
     both : (other : List ℕ) (first second : Verdict) → accepted ≡ Some other → IsVerdict version spec first
         → IsVerdict version other second → IsVerdictOfBoth version spec accepted (better first second)
-
--- ---- engines
-
--- whether a range for Node admits a version. No version is admitted by a text that is no range.
-pub data IsContained (text : List ℕ) (v : VersionValue) : Bool → Type 0 where
-  inside : Admits of_engines text v → IsContained text v true
-  outside : ¬ Admits of_engines text v → IsContained text v false

@@ -1,13 +1,13 @@
 -- Which folders are workspaces of the root: npm's "package.json", "workspaces".
-use Rattle.std.specs.Prelude.{◌≡◌, ◌≢◌, ◌==◌, ◌⊎◌, ℕ, List, [], ◌∷◌, if◌then◌else◌}
+use Rattle.std.specs.Prelude.{◌≡◌, ◌≢◌, ◌⊎◌, ℕ, List, [], ◌∷◌}
 use Rattle.std.specs.Prelude.{IsSomeAnd, Option, Some, None, codes, option_and_then, option_map}
 use Rattle.std.specs.Option.{option_map_or, option_or}
-use Rattle.std.specs.Path.{slash}
 use Rattle.serde_json.specs.Data.{Data, Items, item, no_items}
 use Rattle.serde_json.specs.Find.{as_array, as_str, get}
 use Rattle.npm_packages.specs.Folders.{IsInstalled}
 use Rattle.npm_packages.specs.Packages.{IsNamed, Package, linked_folder}
 use Rattle.npm_lock.specs.PatternGrammar.{IsLiteral, IsRead, Matches, parts_of}
+use Rattle.npm_lock.specs.Tarballs.{after_slashes}
 use Rattle.npm_lock.specs.declared.workspace.Workspace.{Workspace}
 use Rattle.npm_lock.specs.declared.workspace.Workspace.TheVariants.{Is, IsNot, Unread}
 
@@ -17,14 +17,9 @@ patterns_of root = option_and_then
     (λ said. option_or (option_and_then as_array (get (codes "packages") said)) (as_array said))
     (get (codes "workspaces") root)
 
--- a text without each `/` at its start
-abbrev pub without_slashes : List ℕ → List ℕ
-without_slashes [] = []
-without_slashes (b ∷ text) = if b == slash then without_slashes text else b ∷ text
-
 -- the pattern of a text, which may begin with `./` or `/`: `w` of `./w`, of `/w` and of `.//w`
 abbrev pub pattern_of : (text : List ℕ) → List ℕ
-pattern_of text = without_slashes (linked_folder text)
+pattern_of text = after_slashes (linked_folder text)
 
 -- the parts of the pattern that a value of the list is, if it is a text
 abbrev pub pattern_in : (value : Data) → Option (List (List ℕ))

@@ -11,8 +11,9 @@ ghost use Rattle.npm_packages.specs.declared.fault.Fault.{Fault};
 
 use crate::version_one::{is_version_one, packages_of};
 use crate::version_one_fault::check_version_one;
-use crate::{CheckError, Problems, Result, check};
+use crate::{CheckError, Fault, Problems, Result, check};
 use node_semver::Version;
+use npm_packages::lock_of;
 use serde_json::{Map, Value, put};
 use std::alloc::Global;
 
@@ -79,6 +80,30 @@ pub fn convert(alloc: Global, lock: Value, manifest: Option<&Value>) -> Result<V
     }
     check_version_one(&lock, manifest).map_err(CheckError::Refused)?;
     file_of(alloc, &lock, manifest).map_err(|_| CheckError::Memory)
+}
+
+/// Returns the fault of a lock file of any version, or of the manifest beside one of version 1, if there is one: that which [`check_any`]
+/// refuses. Does not allocate.
+pub fn fault_of(alloc: Global, lock: &Value, manifest: Option<&Value>) -> Option<Fault>
+    ensures { result ≡ any_fault (view lock.now) (option_map (λ manifest. view manifest.now) manifest.entry) }
+{
+    if !is_version_one(lock) {
+        return later_fault(alloc, lock);
+    }
+    match check_version_one(lock, manifest) {
+        Ok(()) => None,
+        Err(fault) => Some(fault),
+    }
+}
+
+/// The fault of a lock file of version 2 or 3.
+fn later_fault(alloc: Global, lock: &Value) -> Option<Fault>
+    ensures { result ≡ Faults.lock_fault (view lock.now) }
+{
+    match lock_of(alloc, lock) {
+        Ok(_) => None,
+        Err(fault) => Some(fault),
+    }
 }
 
 /// The file of version 3 that one of version 1 becomes.

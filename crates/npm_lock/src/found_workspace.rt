@@ -8,7 +8,7 @@ ghost use Rattle.npm_lock.specs.Outcomes.{problem_value};
 ghost use Rattle.npm_packages.specs.PackageValue.{package_value};
 
 use crate::Result;
-use crate::outcome::dependency_of;
+use crate::outcome::{dependency_of, edge_of};
 use crate::problem::{Kind, Problem};
 use npm_packages::{Asked, Lock, Package, is_optional_peer, members_of, place_text};
 use serde_json::Value;
@@ -66,7 +66,8 @@ fn problem_with(
         is_dev: false,
         is_overridden: false,
     };
-    let dependency = dependency_of(alloc, root, name, asked, found)?;
+    let edge = edge_of(root.folder, name, asked, found);
+    let dependency = dependency_of(alloc, root.member, &edge)?;
     Ok(Some(Problem { kind, dependency }))
 }
 

@@ -10,6 +10,7 @@ mod any_version;
 mod found_workspace;
 mod group;
 mod identity;
+mod json;
 mod lock_file;
 mod manifest;
 mod manifest_place;
@@ -28,25 +29,27 @@ mod version_one;
 mod version_one_fault;
 mod workspace;
 
-pub use any_version::{check_any, convert};
+pub use any_version::{check_any, convert, fault_of};
 pub use found_workspace::workspace_problem;
 pub use group::Group;
+pub use json::{Member, object_of};
 pub use lock_file::{check, check_sound_lock};
-pub use manifest::mismatches_of;
-pub use manifest_place::{drop_overrides, put_manifest};
+pub use manifest::{check_manifest, mismatches_of};
+pub use manifest_place::{drop_overrides, is_marked, member_at, put_manifest};
 pub use mismatch::Mismatch;
 pub use npm_packages::{
     CheckError, Dependents, Edge, Fault, SoundLock, check_package, check_specs, edges_of,
     has_text_version, is_link, linked_folders, place_text,
 };
 pub use other_folder::key_read_as_another;
+pub use outcome::dependency_of;
 pub use pattern::is_part;
-pub use problem::{Dependency, Kind, Problem, Problems, Reason, Unchecked};
+pub use problem::{Dependency, Kind, PROBLEM_WORDS, Problem, Problems, Reason, Unchecked};
 pub use source::{Source, SourceKind};
 pub use sources::suspicious_sources;
 pub use version_one::{is_version_one, required_of};
-pub use version_one_fault::has_named;
-pub use workspace::workspace_patterns;
+pub use version_one_fault::{check_root_manifest, has_named};
+pub use workspace::{patterns_of, workspace_patterns};
 
 /// The result of what fails by memory alone, if no other error is named.
 type Result<T, E = std::alloc::AllocError> = std::result::Result<T, E>;

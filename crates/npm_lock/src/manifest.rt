@@ -58,8 +58,8 @@ pub fn mismatches_of(
     all_mismatches(sides).map_err(|_| CheckError::Memory)
 }
 
-/// Fails if a manifest has a fault.
-fn check_manifest(manifest: &Value) -> Result<(), Fault>
+/// Fails if a manifest has a fault: that which [`mismatches_of`] refuses. Does not allocate.
+pub fn check_manifest(manifest: &Value) -> Result<(), Fault>
     ensures { result_err result ≡ Mismatches.manifest_fault (view manifest.now) }
 {
     manifest.as_object().ok_or(Fault::Manifest)?;

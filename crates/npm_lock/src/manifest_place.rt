@@ -1,11 +1,11 @@
 //! A manifest in the place of a package of the lock file.
-ghost use Rattle.std.specs.Prelude.{◌≡◌, [], IfOk, OnOk, if◌then◌else◌, option_map, true, unwrap_or};
-ghost use Rattle.serde_json.specs.Data.{boolean, null};
+ghost use Rattle.std.specs.Prelude.{◌≡◌, [], IfOk, OnOk, if◌then◌else◌, option_map, true};
+ghost use Rattle.serde_json.specs.Data.{boolean};
 ghost use Rattle.serde_json.specs.View.{members_view, view};
 ghost use Rattle.npm_texts.specs.Truth.{has_true};
 ghost use Rattle.npm_lock.specs.ManifestPlace as Places;
 ghost use Rattle.npm_lock.specs.ManifestPlace.{as_package, changed_at, with_manifest, without_overrides};
-ghost use Rattle.npm_lock.specs.Mismatches.{entry_of};
+ghost use Rattle.npm_lock.specs.Mismatches.{entry_of, member_at};
 
 use crate::Result;
 use npm_texts::has_true;
@@ -54,24 +54,24 @@ pub fn drop_overrides(alloc: Global, lock: &mut Value) -> Result<()>
 fn has_overrides(lock: &Value) -> bool
     ensures { result ≡ Places.has_overrides (view lock.now) }
 {
-    match root_of(lock) {
+    match member_at(lock, "") {
         Some(root) => root.get("overrides").is_some(),
         None => false,
     }
 }
 
-/// The root of a lock file.
-fn root_of(lock: &Value) -> Option<&Value>
-    ensures { unwrap_or (option_map (λ root. view root.now) result) null ≡ entry_of (view lock.now) [] }
+/// Returns the package of a lock file in this folder, `""` for the root.
+pub fn member_at<'v>(lock: &'v Value, folder: &str) -> Option<&'v Value>
+    ensures { option_map (λ member. view member.now) result ≡ member_at (view lock.now) folder.now }
 {
-    lock.get("packages")?.get("")
+    lock.get("packages")?.get(folder)
 }
 
 /// A copy of the root whose `overrides` do not count.
 fn plain_root(alloc: Global, lock: &Value) -> Result<Value>
     ensures { IfOk result (λ made. view made ≡ Places.plain (entry_of (view lock.now) [])) }
 {
-    match root_of(lock) {
+    match member_at(lock, "") {
         Some(root) => {
             let mut made = root.clone()?;
             put_member(alloc, &mut made, "overrides", Value::Null)?;
@@ -124,13 +124,10 @@ fn marked(alloc: Global, lock: &Value, folder: &str, member: Value) -> Result<Va
 }
 
 /// Returns `true` if the package in this folder of the lock file has this mark.
-fn is_marked(lock: &Value, folder: &str, mark: &str) -> bool
+pub fn is_marked(lock: &Value, folder: &str, mark: &str) -> bool
     ensures { result ≡ has_true mark.now (entry_of (view lock.now) folder.now) }
 {
-    match lock
-        .get("packages")
-        .and_then(|packages| packages.get(folder))
-    {
+    match member_at(lock, folder) {
         Some(entry) => has_true(entry, mark),
         None => false,
     }

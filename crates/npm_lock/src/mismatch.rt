@@ -1,13 +1,9 @@
 //! A name whose spec is not the same in a manifest and in the lock file, and its JSON object.
-ghost use Rattle.std.specs.Prelude.{◌≡◌, IfOk};
-ghost use Rattle.serde_json.specs.View.{view};
-ghost use Rattle.npm_lock.specs.MismatchJson.{mismatch_data};
-ghost use Rattle.npm_lock.specs.Mismatches.{mismatch_value};
 
 use crate::Result;
 use crate::group::Group;
-use npm_texts::put_text;
-use serde_json::{Map, Value};
+use crate::json::{Member, object_of};
+use serde_json::Value;
 use std::alloc::Global;
 
 /// A name whose spec in a group of the manifest is not the one in the lock file.
@@ -26,20 +22,15 @@ pub struct Mismatch {
 
 impl Mismatch {
     /// The mismatch as a JSON object, whose members are in the order of their names.
-    pub fn to_json(&self, alloc: Global) -> Result<Value>
-        ensures { IfOk result (λ value. view value ≡ mismatch_data (mismatch_value self.now)) }
-    {
-        let mut members = Map::new(alloc);
-        put_text(&mut members, alloc, "from", self.from.as_str())?;
-        put_text(&mut members, alloc, "group", self.group.as_str())?;
-        if let Some(locked) = &self.locked {
-            put_text(&mut members, alloc, "locked", locked.as_str())?;
-        }
-        put_text(&mut members, alloc, "name", self.name.as_str())?;
-        put_text(&mut members, alloc, "problem", "group")?;
-        if let Some(spec) = &self.spec {
-            put_text(&mut members, alloc, "spec", spec.as_str())?;
-        }
-        Ok(Value::Object(members))
+    pub fn to_json(&self, alloc: Global) -> Result<Value> {
+        let members = [
+            Member::Text("from", self.from.as_str()),
+            Member::Text("group", self.group.as_str()),
+            Member::TextIfAny("locked", self.locked.as_ref()),
+            Member::Text("name", self.name.as_str()),
+            Member::Text("problem", "group"),
+            Member::TextIfAny("spec", self.spec.as_ref()),
+        ];
+        object_of(alloc, &members)
     }
 }

@@ -1,11 +1,14 @@
 //! What is wrong with one dependency, and with the version of Node.
-ghost use Rattle.std.specs.Prelude.{◌≡◌, ◌&&◌, [], ◌∷◌, IfOk, OnOk, option_map, string_bytes};
+ghost use Rattle.std.specs.Prelude.{◌≡◌, ◌&&◌, [], ◌∷◌, IfOk, OnOk, option_and_then, option_map, string_bytes};
 ghost use Rattle.serde_json.specs.View.{view};
 ghost use Rattle.npm_lock.specs.Findings.{IsNodeOutcome, finding_of};
 ghost use Rattle.npm_lock.specs.Outcomes as Outcomes;
 ghost use Rattle.npm_lock.specs.Outcomes.{IsOutcome, IsVerdictOn, dependency_value, problem_value, unknown, wrong};
 ghost use Rattle.npm_lock.specs.Private.Adding.{Adds};
 ghost use Rattle.npm_lock.specs.Private.JudgementValue.{judgement_value};
+ghost use Rattle.npm_packages.specs.Edges as Edges;
+ghost use Rattle.npm_packages.specs.Edges.{edge_value};
+ghost use Rattle.npm_packages.specs.Packages as Packages;
 ghost use Rattle.npm_packages.specs.PackageValue.{asked_value, package_value, packages_data};
 ghost use Rattle.npm_packages.specs.Index.{IsIndexOf};
 ghost use Rattle.npm_lock.specs.Private.Patterns.{ArePatternsOf};
@@ -17,7 +20,7 @@ use crate::problem::{Dependency, Kind, Problem, Problems, Reason, Unchecked};
 use crate::verdict::{Verdict, is_contained, verdict_of_both};
 use crate::workspace::{Workspace, workspace_as};
 use node_semver::Version;
-use npm_packages::{Asked, Index, Lock, Package, version_of};
+use npm_packages::{Asked, Edge, Index, Lock, Package, version_of};
 use npm_texts::{copied, has_true};
 use serde_json::Value;
 use std::alloc::Global;
@@ -126,7 +129,8 @@ fn add_wrong(
         (view asker.entry.member.now) name.now (asked_value asked.entry)
         (wrong kind (option_map package_value found.entry)) ∷ [])) }
 {
-    let dependency = dependency_of(alloc, asker, name, asked, found)?;
+    let edge = edge_of(asker.folder, name, asked, found);
+    let dependency = dependency_of(alloc, asker.member, &edge)?;
     problems.add_dependency(Some(Problem { kind, dependency }), None)
 }
 
@@ -145,33 +149,67 @@ fn add_unknown(
         (view asker.entry.member.now) name.now (asked_value asked.entry)
         (unknown reason (package_value found.entry)) ∷ [])) }
 {
-    let dependency = dependency_of(alloc, asker, name, asked, Some(found))?;
+    let edge = edge_of(asker.folder, name, asked, Some(found));
+    let dependency = dependency_of(alloc, asker.member, &edge)?;
     problems.add_dependency(None, Some(Unchecked { reason, dependency }))
 }
 
-/// A dependency of a package, and the package that was found, if one was.
-pub(crate) fn dependency_of(
-    alloc: Global,
-    asker: Package<'_>,
-    name: &str,
-    asked: Asked<'_>,
-    found: Option<Package<'_>>,
-) -> Result<Dependency>
-    ensures { IfOk result (λ dependency. dependency_value dependency
-        ≡ Outcomes.dependency_of asker.entry.folder.now (view asker.entry.member.now) name.now
-        (asked_value asked.entry) (option_map package_value found.entry)) }
+/// A dependency of the package in a folder, for which this package was found, if one was.
+pub(crate) fn edge_of<'v>(
+    folder: &'v str,
+    name: &'v str,
+    asked: Asked<'v>,
+    found: Option<Package<'v>>,
+) -> Edge<'v>
+    ensures { edge_value result
+        ≡ Edges.edge_of folder.now name.now (asked_value asked.entry) (option_map package_value found.entry) }
 {
-    let member = asker.member;
+    Edge {
+        from: folder,
+        name,
+        spec: asked.spec,
+        is_needed: asked.is_needed,
+        is_peer: asked.is_peer,
+        is_dev: asked.is_dev,
+        is_overridden: asked.is_overridden,
+        to: folder_in(found),
+        version: version_in(found),
+    }
+}
+
+fn folder_in<'v>(found: Option<Package<'v>>) -> Option<&'v str>
+    ensures { option_map (λ text. text.now) result
+        ≡ option_map (λ there. there.folder) (option_map package_value found.entry) }
+{
+    Some(found?.folder)
+}
+
+fn version_in<'v>(found: Option<Package<'v>>) -> Option<&'v str>
+    ensures { option_map (λ text. text.now) result
+        ≡ option_and_then (λ there. Packages.version_of there.member) (option_map package_value found.entry) }
+{
+    version_of(found?.member)
+}
+
+/// Returns a dependency with the version and the marks of the package that asks.
+///
+/// # Errors
+///
+/// An allocation failed.
+pub fn dependency_of(alloc: Global, asker: &Value, edge: &Edge<'_>) -> Result<Dependency>
+    ensures { IfOk result (λ dependency. dependency_value dependency
+        ≡ Outcomes.dependency_of (view asker.now) (edge_value edge.now)) }
+{
     Ok(Dependency {
-        from: String::from_str(alloc, asker.folder)?,
-        from_version: copied(alloc, version_of(member))?,
-        name: String::from_str(alloc, name)?,
-        spec: String::from_str(alloc, asked.spec)?,
-        to: copied(alloc, found.map(|found| found.folder))?,
-        version: copied(alloc, found.and_then(|found| version_of(found.member)))?,
-        dev: is_marked(member, "dev", asked.is_dev),
-        optional: is_marked(member, "optional", !asked.is_needed),
-        peer: is_marked(member, "peer", asked.is_peer),
+        from: String::from_str(alloc, edge.from)?,
+        from_version: copied(alloc, version_of(asker))?,
+        name: String::from_str(alloc, edge.name)?,
+        spec: String::from_str(alloc, edge.spec)?,
+        to: copied(alloc, edge.to)?,
+        version: copied(alloc, edge.version)?,
+        dev: is_marked(asker, "dev", edge.is_dev),
+        optional: is_marked(asker, "optional", !edge.is_needed),
+        peer: is_marked(asker, "peer", edge.is_peer),
     })
 }
 
@@ -217,33 +255,30 @@ pub(crate) fn engine_problem(
     if is_contained(alloc, spec, node)? {
         return Ok(None);
     }
-    let dependency = engine_of_node(alloc, asker, spec, node)?;
+    let version = node.to_string(alloc)?;
+    let edge = engine_edge(asker.folder, spec, Some(version.as_str()));
+    let dependency = dependency_of(alloc, asker.member, &edge)?;
     let kind = Kind::Engine;
     Ok(Some(Problem { kind, dependency }))
 }
 
-/// The `engines.node` of a package as a dependency, for which this version of Node is found.
-fn engine_of_node(
-    alloc: Global,
-    asker: Package<'_>,
-    spec: &str,
-    node: &Version,
-) -> Result<Dependency>
-    ensures { IfOk result (λ dependency. dependency_value dependency
-        ≡ (Outcomes.engine_problem asker.entry.folder.now (view asker.entry.member.now) spec.now node.now).dependency) }
+/// The `engines.node` of the package in a folder as a dependency, for which this version of Node is found.
+fn engine_edge<'v>(folder: &'v str, spec: &'v str, version: Option<&'v str>) -> Edge<'v>
+    ensures { edge_value result
+        ≡ Outcomes.engine_edge folder.now spec.now (option_map (λ text. text.now) version.entry) }
 {
-    let member = asker.member;
-    Ok(Dependency {
-        from: String::from_str(alloc, asker.folder)?,
-        from_version: copied(alloc, version_of(member))?,
-        name: String::from_str(alloc, "node")?,
-        spec: String::from_str(alloc, spec)?,
-        to: None,
-        version: Some(node.to_string(alloc)?),
-        dev: is_marked(member, "dev", false),
-        optional: is_marked(member, "optional", false),
-        peer: is_marked(member, "peer", false),
-    })
+    let to = None;
+    Edge {
+        from: folder,
+        name: "node",
+        spec,
+        is_needed: true,
+        is_peer: false,
+        is_dev: false,
+        is_overridden: false,
+        to,
+        version,
+    }
 }
 
 /// Returns `true` if the lock file marks the package so, or the dependency itself is so.

@@ -6,6 +6,7 @@ ghost use Rattle.npm_lock.specs.Private.PatternSteps as PatternSteps;
 ghost use Rattle.npm_lock.specs.Workspaces as Workspaces;
 ghost use Rattle.npm_lock.specs.Private.Patterns as Patterns;
 
+use crate::tarball::after_slashes;
 use npm_packages::linked_folder;
 use npm_texts::{ends_with, rest_after, without_end};
 
@@ -13,18 +14,7 @@ use npm_texts::{ends_with, rest_after, without_end};
 pub(crate) fn pattern_of(text: &str) -> &str
     ensures { result.now ≡ Workspaces.pattern_of text.now }
 {
-    without_slashes(linked_folder(text))
-}
-
-/// The text without each `/` at its start.
-fn without_slashes(text: &str) -> &str
-    ensures { result.now ≡ Workspaces.without_slashes text.now }
-{
-    let mut left = text;
-    'slashes: while let Some(rest) = rest_after(left, "/") {
-        left = rest;
-    }
-    left
+    after_slashes(linked_folder(text))
 }
 
 /// Returns `true` for a pattern that is read here.

@@ -1,15 +1,12 @@
 //! What is wrong with a dependency, or not known of it, and its JSON object.
-ghost use Rattle.std.specs.Prelude.{◌≡◌, [], ◌∷◌, IfOk, OnOk, None, option_map};
-ghost use Rattle.serde_json.specs.Data.{boolean, put as with_member};
-ghost use Rattle.serde_json.specs.View.{members_view, view};
+ghost use Rattle.std.specs.Prelude.{◌≡◌, [], ◌∷◌, OnOk, None, option_map};
 ghost use Rattle.npm_lock.specs.Findings.{IsReport, of_dependency, of_package};
-ghost use Rattle.npm_lock.specs.Outcomes.{dependency_value, problem_value, unchecked_value};
+ghost use Rattle.npm_lock.specs.Outcomes.{kind_text, problem_value, unchecked_value};
 ghost use Rattle.npm_lock.specs.Private.Adding.{Adds};
-ghost use Rattle.npm_lock.specs.ProblemJson.{dependency_members, kind_text, problem_data, reason_text, unchecked_data};
 
 use crate::Result;
-use npm_texts::put_text;
-use serde_json::{Map, Value, put};
+use crate::json::{Member, object_of};
+use serde_json::Value;
 use std::alloc::Global;
 
 /// What is wrong.
@@ -24,6 +21,9 @@ pub enum Kind {
     /// The version of Node does not satisfy `engines.node`.
     Engine,
 }
+
+/// The words for what is wrong, as the member `problem` of a JSON object has them: for a mismatch, and for each kind.
+pub const PROBLEM_WORDS: [&str; 5] = ["group", "missing", "invalid", "peer-local", "engine"];
 
 impl Kind {
     /// The word for it, as the JSON object has it.
@@ -54,9 +54,7 @@ pub enum Reason {
 
 impl Reason {
     /// The word for it, as the JSON object has it.
-    pub fn as_str(self) -> &'static str
-        ensures { result.now ≡ reason_text self }
-    {
+    pub fn as_str(self) -> &'static str {
         match self {
             Reason::Tag => "tag",
             Reason::Location => "location",
@@ -90,25 +88,24 @@ pub struct Dependency {
 }
 
 impl Dependency {
-    /// The members of its JSON object.
-    fn members(&self, alloc: Global) -> Result<Map<String, Value>>
-        ensures { IfOk result (λ members.
-            members_view members.entries ≡ dependency_members (dependency_value self.now)) }
-    {
-        let mut members = Map::new(alloc);
-        put_bool(&mut members, alloc, "dev", self.dev)?;
-        put_text(&mut members, alloc, "from", self.from.as_str())?;
-        put_text(&mut members, alloc, "name", self.name.as_str())?;
-        put_bool(&mut members, alloc, "optional", self.optional)?;
-        put_bool(&mut members, alloc, "peer", self.peer)?;
-        put_text(&mut members, alloc, "spec", self.spec.as_str())?;
-        if let Some(to) = &self.to {
-            put_text(&mut members, alloc, "to", to.as_str())?;
-        }
-        if let Some(version) = &self.version {
-            put_text(&mut members, alloc, "version", version.as_str())?;
-        }
-        Ok(members)
+    /// Returns its JSON object, with one more member of this name.
+    ///
+    /// # Errors
+    ///
+    /// An allocation failed.
+    pub fn to_json<'a>(&'a self, alloc: Global, name: &'a str, word: &'a str) -> Result<Value> {
+        let members = [
+            Member::Flag("dev", self.dev),
+            Member::Text("from", self.from.as_str()),
+            Member::Text("name", self.name.as_str()),
+            Member::Flag("optional", self.optional),
+            Member::Flag("peer", self.peer),
+            Member::Text("spec", self.spec.as_str()),
+            Member::TextIfAny("to", self.to.as_ref()),
+            Member::TextIfAny("version", self.version.as_ref()),
+            Member::Text(name, word),
+        ];
+        object_of(alloc, &members)
     }
 }
 
@@ -121,12 +118,9 @@ pub struct Problem {
 
 impl Problem {
     /// The problem as a JSON object, whose members are in the order of their names.
-    pub fn to_json(&self, alloc: Global) -> Result<Value>
-        ensures { IfOk result (λ value. view value ≡ problem_data (problem_value self.now)) }
-    {
-        let mut members = self.dependency.members(alloc)?;
-        put_text(&mut members, alloc, "problem", self.kind.as_str())?;
-        Ok(Value::Object(members))
+    pub fn to_json(&self, alloc: Global) -> Result<Value> {
+        self.dependency
+            .to_json(alloc, "problem", self.kind.as_str())
     }
 }
 
@@ -139,21 +133,10 @@ pub struct Unchecked {
 
 impl Unchecked {
     /// The dependency as a JSON object, whose members are in the order of their names.
-    pub fn to_json(&self, alloc: Global) -> Result<Value>
-        ensures { IfOk result (λ value. view value ≡ unchecked_data (unchecked_value self.now)) }
-    {
-        let mut members = self.dependency.members(alloc)?;
-        put_text(&mut members, alloc, "unchecked", self.reason.as_str())?;
-        Ok(Value::Object(members))
+    pub fn to_json(&self, alloc: Global) -> Result<Value> {
+        self.dependency
+            .to_json(alloc, "unchecked", self.reason.as_str())
     }
-}
-
-/// Adds a member whose value is `true` or `false`.
-fn put_bool(members: &mut Map<String, Value>, alloc: Global, name: &str, value: bool) -> Result<()>
-    ensures { OnOk result (members_view members.new.entries
-        ≡ with_member name.now (boolean value) (members_view members.old.entries)) }
-{
-    put(members, alloc, name, Value::Bool(value))
 }
 
 /// The problems of a lock file, and the counts.

@@ -5,9 +5,10 @@ ghost use Rattle.npm_lock.specs.Sources as Sources;
 ghost use Rattle.npm_lock.specs.Sources.{source_value};
 
 use crate::Result;
+use crate::json::{Member, object_of};
 use crate::origin::Origin;
-use npm_texts::{copied, put_text};
-use serde_json::{Map, Value};
+use npm_texts::copied;
+use serde_json::Value;
 use std::alloc::Global;
 
 /// What is suspicious in where a package comes from.
@@ -65,16 +66,13 @@ impl Source {
 
     /// The finding as a JSON object, whose members are in the order of their names.
     pub fn to_json(&self, alloc: Global) -> Result<Value> {
-        let mut members = Map::new(alloc);
-        put_text(&mut members, alloc, "folder", self.folder.as_str())?;
-        put_text(&mut members, alloc, "problem", "source")?;
-        if let Some(resolved) = &self.resolved {
-            put_text(&mut members, alloc, "resolved", resolved.as_str())?;
-        }
-        put_text(&mut members, alloc, "source", self.kind.as_str())?;
-        if let Some(version) = &self.version {
-            put_text(&mut members, alloc, "version", version.as_str())?;
-        }
-        Ok(Value::Object(members))
+        let members = [
+            Member::Text("folder", self.folder.as_str()),
+            Member::Text("problem", "source"),
+            Member::TextIfAny("resolved", self.resolved.as_ref()),
+            Member::Text("source", self.kind.as_str()),
+            Member::TextIfAny("version", self.version.as_ref()),
+        ];
+        object_of(alloc, &members)
     }
 }

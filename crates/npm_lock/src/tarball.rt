@@ -106,7 +106,7 @@ fn after_first_slash(text: &str) -> &str
 }
 
 /// The text without slashes at its start.
-fn after_slashes(text: &str) -> &str
+pub(crate) fn after_slashes(text: &str) -> &str
     ensures { result.now ≡ Tarballs.after_slashes text.now }
 {
     let mut left = text;

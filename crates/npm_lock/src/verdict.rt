@@ -7,8 +7,8 @@ ghost use Rattle.serde_json.specs.View.{view};
 ghost use Rattle.npm_packages.specs.Asked.{accepted_of};
 ghost use Rattle.npm_lock.specs.Private.RangeBytes.{begins_range, is_range_byte};
 ghost use Rattle.npm_lock.specs.Verdict as Verdicts;
-ghost use Rattle.npm_lock.specs.Verdict.{IsContained, IsVerdict, IsVerdictOfBoth, IsVerdictOfText};
-ghost use Rattle.npm_texts.specs.Admission.{Admits, IsNoRange, of_dependencies};
+ghost use Rattle.npm_lock.specs.Verdict.{IsVerdict, IsVerdictOfBoth, IsVerdictOfText};
+ghost use Rattle.npm_texts.specs.Admission.{Admits, IsNoRange, of_dependencies, of_engines};
 ghost use Rattle.npm_texts.specs.SpecGrammar.{IsSpec, in_registry};
 ghost use Rattle.npm_texts.specs.SpecGrammar as SpecGrammar;
 
@@ -182,7 +182,7 @@ fn is_satisfied(range: &Range, version: Option<&str>) -> bool
 /// Returns `true` if a version lies inside a range for Node, whatever prerelease it is. It lies in no text that is no
 /// range.
 pub(crate) fn is_contained(alloc: Global, text: &str, version: &Version) -> Result<bool>
-    ensures { IfOk result (IsContained text.now version.now) }
+    ensures { IfOk result (λ is_inside. IsTrue is_inside ↔ Admits of_engines text.now version.now) }
 {
     match range_of(alloc, text, OF_ENGINES)? {
         Some(range) => Ok(range.contains(version)),

@@ -22,13 +22,13 @@ pub(crate) fn check_version_one(lock: &Value, manifest: Option<&Value>) -> Resul
     }
     check_below(lock, 0)?;
     match manifest {
-        Some(manifest) => check_manifest(manifest),
+        Some(manifest) => check_root_manifest(manifest),
         None => Ok(()),
     }
 }
 
-/// Fails if a manifest has a fault.
-fn check_manifest(manifest: &Value) -> Result<(), Fault>
+/// Fails if the manifest beside a lock file of version 1 has a fault: that which `convert` refuses. Does not allocate.
+pub fn check_root_manifest(manifest: &Value) -> Result<(), Fault>
     ensures { result_err result ≡ VersionOne.manifest_fault (view manifest.now) }
 {
     if !manifest.is_object() || is_link(manifest) {

@@ -148,8 +148,8 @@ fn workspace_of<'v>(asker: Package<'_>, patterns: &Patterns<'v>, folder: &'v str
     }
 }
 
-/// The patterns of the root: a list, or the list `packages` of an object.
-pub(crate) fn patterns_of(root: &Value) -> Option<&Vec<Value>>
+/// Returns the patterns of `workspaces` of a root: a list, or the list `packages` of an object.
+pub fn patterns_of(root: &Value) -> Option<&Vec<Value>>
     ensures { option_map (λ list. items_view list.now.items) result ≡ Workspaces.patterns_of (view root.now) }
 {
     let said = root.get("workspaces")?;

@@ -1,7 +1,7 @@
 -- Kinds of problems.
 use Rattle.std.specs.Prelude.{ℕ, List, Bool, bytes_eq, map}
 use Rattle.std.specs.List.{list_any}
-use Rattle.npm_lock.specs.ProblemJson.{kind_text}
+use Rattle.npm_lock.specs.Outcomes.{kind_text}
 use Rattle.npm_lock.specs.declared.problem.Kind.{Kind}
 use Rattle.npm_lock_check.specs.declared.checks.kinds.Kinds.{Kinds}
 

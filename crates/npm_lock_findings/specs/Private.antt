@@ -1,4 +1,3 @@
 -- What private functions are said to compute.
-pub mod Hidden  -- characters that are not seen
-pub mod Writing  -- the bytes of texts
+pub mod Adding  -- what is added to a text safely
 pub mod Said  -- the messages that pieces have so far

@@ -1,10 +1,11 @@
 //! Forms of text, and the pieces that are written in them.
+//!
+//! A text is written by `push_plain` and `push_escape` of `bytes` alone, which write nothing that is special in a form but its escapes. What
+//! is written of a byte is decided above them.
 
-mod json;
-mod line;
-mod markup;
+mod bytes;
+mod escapes;
 mod piece;
-mod uri;
 mod visible;
 
 pub use piece::{Form, Piece, push_pieces};

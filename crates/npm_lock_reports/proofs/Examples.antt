@@ -1,5 +1,4 @@
 pub mod CountedExamples
 pub mod ExceptedExamples
-pub mod ExceptionExamples
 pub mod OmissionExamples
 pub mod ReadingExamples

@@ -1,5 +1,4 @@
 pub mod Examples
-mod FileVersions
 mod Indexing
 pub mod Keeping
 pub mod KnownPlaces
@@ -7,5 +6,4 @@ mod Listing
 mod Needing
 pub mod Placing
 mod PlacingItems
-pub mod Told
 mod Years

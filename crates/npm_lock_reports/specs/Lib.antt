@@ -3,7 +3,6 @@
 pub mod Unread  -- what was not looked at beside a lock file
 pub mod Report  -- what of a report counts for the status
 pub mod Lines  -- its lines: one for each thing that is found
-pub mod VersionLaws  -- the versions that they say
 -- ---- what counts of what is found
 pub mod Read  -- a file of advisories with no advisory in it
 pub mod Exceptions  -- which advisories are excepted for a package, and which packages are left

@@ -1,15 +1,13 @@
 -- What packages that are not left out need, and is left out: npm's "npm ci", "omit", which reads the marks of the file as they are, by
 -- `addOmitsToTrashList` of its `arborist`.
-use Rattle.std.specs.Prelude.{◌≡◌, ◌&&◌, ◌||◌, ℕ, List, [], ◌∷◌, Bool, false, true, not, if◌then◌else◌, Option, None, Some, codes}
-use Rattle.std.specs.Prelude.{option_and_then}
+use Rattle.std.specs.Prelude.{◌≡◌, ◌&&◌, ◌||◌, ℕ, List, [], ◌∷◌, Bool, false, true, not, if◌then◌else◌, Option, None, Some}
 use Rattle.std.specs.List.{filter_map}
 use Rattle.std.specs.Option.{option_map_or}
 use Rattle.serde_json.specs.Data.{Data}
-use Rattle.npm_texts.specs.Truth.{has_true}
 use Rattle.npm_packages.specs.Edges.{AreLockEdges, EdgeValue}
-use Rattle.npm_packages.specs.Packages.{version_of}
-use Rattle.npm_lock.specs.Outcomes.{DependencyValue}
-use Rattle.npm_lock_reports.specs.Omissions.{is_marked_out, member_at}
+use Rattle.npm_lock.specs.Mismatches.{entry_of, member_at}
+use Rattle.npm_lock.specs.Outcomes.{DependencyValue, dependency_of}
+use Rattle.npm_lock_reports.specs.Omissions.{is_marked_out}
 use Rattle.npm_lock_reports.specs.Projects.{is_in_project}
 use Rattle.npm_lock_reports.specs.declared.omissions.Omissions.{Omissions}
 
@@ -24,10 +22,6 @@ is_marked_at omissions lock (byte ∷ folder) = option_map_or (is_marked_out omi
 abbrev pub is_of_project : (lock : Data) → (folder : List ℕ) → Bool
 is_of_project lock [] = true
 is_of_project lock (byte ∷ folder) = is_in_project lock (byte ∷ folder)
-
--- a package has this mark
-abbrev pub has_mark : (mark : List ℕ) → (package_found : Option Data) → Bool
-has_mark mark found = option_map_or (has_true mark) found false
 
 -- What a package in one folder finds in another is left out. npm leaves out what it installs for the project. So a folder that a link names
 -- is left out where the link is: in the `node_modules` of the package that asks, or above it.
@@ -47,23 +41,10 @@ is_needed omissions lock edge =
 abbrev pub is_left_out : Omissions → (lock : Data) → EdgeValue → Bool
 is_left_out omissions lock edge = option_map_or (finds_left_out omissions lock edge.from) edge.to false
 
--- a dependency as it is told, with the version and the marks of the package that asks
-abbrev pub told : (asker : Option Data) → EdgeValue → DependencyValue
-told asker edge = record {
-  from = edge.from;
-  from_version = option_and_then version_of asker;
-  name = edge.name;
-  spec = edge.spec;
-  to = edge.to;
-  version = edge.version;
-  dev = has_mark (codes "dev") asker || edge.is_dev;
-  optional = has_mark (codes "optional") asker || not edge.is_needed;
-  peer = has_mark (codes "peer") asker || edge.is_peer;
-}
-
+-- the dependency, with the version and the marks of the package that asks
 abbrev pub told_if : Omissions → (lock : Data) → EdgeValue → Option DependencyValue
 told_if omissions lock edge = if is_needed omissions lock edge && is_left_out omissions lock edge
-    then Some (told (member_at lock edge.from) edge)
+    then Some (dependency_of (entry_of lock edge.from) edge)
     else None
 
 abbrev pub told_in : Omissions → (lock : Data) → List EdgeValue → List DependencyValue

@@ -1,9 +1,9 @@
 -- Which packages `--omit` leaves out: npm's "npm audit" and "npm ci", "omit", and its "package-lock.json", "packages".
-use Rattle.std.specs.Prelude.{◌&&◌, ◌||◌, ℕ, List, [], ◌∷◌, Bool, false, not, Option, codes, option_and_then}
+use Rattle.std.specs.Prelude.{◌&&◌, ◌||◌, ℕ, List, [], ◌∷◌, Bool, false, not, codes}
 use Rattle.std.specs.Option.{option_map_or}
 use Rattle.serde_json.specs.Data.{Data}
-use Rattle.serde_json.specs.Find.{get}
 use Rattle.npm_texts.specs.Truth.{has_true}
+use Rattle.npm_lock.specs.Mismatches.{entry_of, member_at}
 use Rattle.npm_lock.specs.Outcomes.{DependencyValue}
 use Rattle.npm_lock_reports.specs.Projects.{is_in_project}
 use Rattle.npm_lock_reports.specs.declared.omissions.Omissions.{Omissions}
@@ -23,23 +23,15 @@ is_omitted omissions lock [] member = false
 is_omitted omissions lock (byte ∷ folder) member =
     is_marked_out omissions member && is_in_project lock (byte ∷ folder)
 
--- the member of `packages` for a folder
-abbrev pub member_at : (lock : Data) → (folder : List ℕ) → Option Data
-member_at lock folder = option_and_then (get folder) (get (codes "packages") lock)
-
 abbrev pub is_omitted_at : Omissions → (lock : Data) → (folder : List ℕ) → Bool
 is_omitted_at omissions lock folder = option_map_or (is_omitted omissions lock folder) (member_at lock folder) false
 
 -- ---- dependencies
 
--- the lock file marks the package in this folder so
-abbrev pub has_mark_at : (mark : List ℕ) → (lock : Data) → (folder : List ℕ) → Bool
-has_mark_at mark lock folder = option_map_or (has_true mark) (member_at lock folder) false
-
 -- The dependency is so, as `"dev": true` of its JSON object says. A dependency of the root is not if the lock file marks the root
 -- so, since npm reads no marks of the root.
 abbrev pub is_so : (mark : List ℕ) → (lock : Data) → (from : List ℕ) → (is_marked : Bool) → Bool
-is_so mark lock [] is_marked = is_marked && not (has_mark_at mark lock [])
+is_so mark lock [] is_marked = is_marked && not (has_true mark (entry_of lock []))
 is_so mark lock (byte ∷ from) is_marked = is_marked
 
 -- The dependency is left out: the package that asks is, or the dependency itself is one of `devDependencies`, or one that need not be

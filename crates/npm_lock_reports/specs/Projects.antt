@@ -1,14 +1,15 @@
 -- Which packages npm installs for the project itself: npm's "package.json", "workspaces", and `shouldOmit` of its trees, by which `--omit`
 -- leaves out packages of the root and of its workspaces alone.
-use Rattle.std.specs.Prelude.{◌&&◌, ◌||◌, ◌==◌, ◌<◌, ℕ, List, [], ◌∷◌, Bool, codes, false, if◌then◌else◌, is_some, length, nat_eq, nat_lt, not}
-use Rattle.std.specs.Prelude.{Option, None, Some, option_and_then}
+use Rattle.std.specs.Prelude.{◌&&◌, ◌||◌, ◌==◌, ℕ, List, [], Bool, codes, false, if◌then◌else◌, is_some, length, nat_eq, nat_lt, not}
+use Rattle.std.specs.Prelude.{Option, None, Some}
 use Rattle.std.specs.List.{after_first, before_first, ends_with, position_or_len}
 use Rattle.std.specs.Option.{option_map_or}
-use Rattle.std.specs.Path.{slash}
 use denote.Ref.{Bor}
 use Rattle.serde_json.specs.Data.{Data, Items, item, no_items}
-use Rattle.serde_json.specs.Find.{as_str, get}
+use Rattle.serde_json.specs.Find.{as_str}
+use Rattle.npm_texts.specs.SpecGrammar.{is_slash}
 use Rattle.npm_texts.specs.Texts.{rest_after, without_end}
+use Rattle.npm_lock.specs.Mismatches.{member_at}
 use Rattle.npm_lock.specs.Workspaces.{patterns_of}
 
 abbrev pub begins : (text start : List ℕ) → Bool
@@ -24,9 +25,6 @@ is_at_or_below top folder =
 -- a name of a folder that is not hidden
 abbrev pub is_name : List ℕ → Bool
 is_name name = not (length name == 0) && not (begins name (codes "."))
-
-abbrev pub is_slash : (byte : ℕ) → Bool
-is_slash byte = byte == slash
 
 -- a text before its first `/`, and after it
 pub record Parts : Type 0 where
@@ -89,7 +87,7 @@ is_below_workspace root folder =
 
 abbrev pub is_in_workspace : (lock : Data) → (folder : List ℕ) → Bool
 is_in_workspace lock folder = option_map_or (λ root. is_below_workspace root folder)
-    (option_and_then (get []) (get (codes "packages") lock)) false
+    (member_at lock []) false
 
 -- a package of the root or of a workspace, and not of another folder that a link names
 abbrev pub is_in_project : (lock : Data) → (folder : List ℕ) → Bool

@@ -1,6 +1,7 @@
 //! How many packages are left out.
 ghost use Rattle.std.specs.Prelude.{◌≡◌};
 ghost use Rattle.serde_json.specs.View.{members_view, view};
+ghost use Rattle.npm_lock.specs.Findings.{counted};
 ghost use Rattle.npm_lock_reports.specs.Count as Counts;
 
 use crate::omissions::Omissions;
@@ -26,7 +27,7 @@ pub fn count_of(omissions: Omissions, lock: &Value) -> Option<usize>
 
 /// The number of these members that are left out.
 fn count_in(omissions: Omissions, lock: &Value, members: &Map<String, Value>) -> usize
-    ensures { result ≡ Counts.counted (Counts.omitted_in omissions (view lock.now) (members_view members.now.entries)) }
+    ensures { result ≡ counted (Counts.omitted_in omissions (view lock.now) (members_view members.now.entries)) }
 {
     let mut count: usize = 0;
     for (folder, member) in members.iter() {

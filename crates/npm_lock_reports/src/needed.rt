@@ -1,21 +1,21 @@
 //! What is needed, but left out.
 //!
 //! See docs/DECISIONS.md, "A package that is left out asks for nothing".
-ghost use Rattle.std.specs.Prelude.{◌≡◌, ◌||◌, ◌++◌, IfOk, OnOk, map, option_and_then, option_map};
+ghost use Rattle.std.specs.Prelude.{◌≡◌, ◌++◌, IfOk, OnOk, map, option_map, unwrap_or};
+ghost use Rattle.serde_json.specs.Data.{null};
 ghost use Rattle.serde_json.specs.View.{view};
+ghost use Rattle.npm_lock.specs.Outcomes as Outcomes;
 ghost use Rattle.npm_lock.specs.Outcomes.{dependency_value};
 ghost use Rattle.npm_packages.specs.Edges.{edge_value};
-ghost use Rattle.npm_packages.specs.Packages.{version_of};
 ghost use Rattle.npm_lock_reports.specs.Exceptions.{some_list};
 ghost use Rattle.npm_lock_reports.specs.Needed as Needed;
 ghost use Rattle.npm_lock_reports.specs.Needed.{AreNeeded};
 ghost use Rattle.npm_lock_reports.specs.Private.Askers.{IsAsker};
 
-use crate::omissions::{Omissions, member_at};
+use crate::omissions::Omissions;
 use crate::workspace::is_in_project;
-use npm_lock::Dependency;
-use npm_packages::{Edge, SoundLock, edges_in, version_of};
-use npm_texts::{copied, has_true};
+use npm_lock::{Dependency, dependency_of, member_at};
+use npm_packages::{Edge, SoundLock, edges_in};
 use serde_json::Value;
 use std::alloc::{AllocError, Global};
 
@@ -114,44 +114,23 @@ fn push_told(
         ++ some_list (Needed.told_if omissions (view lock.now) (edge_value edge.now))) }
 {
     if is_needed(omissions, lock, asker, edge) && is_left_out(omissions, lock, edge) {
-        list.push(told(alloc, asker.member, edge)?)?;
+        list.push(dependency_from(alloc, asker.member, edge)?)?;
     }
     Ok(())
 }
 
-/// A dependency, with the version and the marks of the package that asks.
-fn told(alloc: Global, asker: Option<&Value>, edge: &Edge<'_>) -> Result<Dependency, AllocError>
-    ensures { IfOk result (λ dependency. dependency_value dependency
-        ≡ Needed.told (option_map (λ member. view member.now) asker.entry) (edge_value edge.now)) }
-{
-    Ok(Dependency {
-        from: String::from_str(alloc, edge.from)?,
-        from_version: copied(alloc, version_in(asker))?,
-        name: String::from_str(alloc, edge.name)?,
-        spec: String::from_str(alloc, edge.spec)?,
-        to: copied(alloc, edge.to)?,
-        version: copied(alloc, edge.version)?,
-        dev: is_marked(asker, "dev", edge.is_dev),
-        optional: is_marked(asker, "optional", !edge.is_needed),
-        peer: is_marked(asker, "peer", edge.is_peer),
-    })
-}
-
-/// The version of a package that may be absent.
-fn version_in(asker: Option<&Value>) -> Option<&str>
-    ensures { option_map (λ text. text.now) result
-        ≡ option_and_then version_of (option_map (λ member. view member.now) asker.entry) }
-{
-    version_of(asker?)
-}
-
-/// Returns `true` if a package has this mark, or the dependency itself is so.
-fn is_marked(asker: Option<&Value>, mark: &str, is_so: bool) -> bool
-    ensures { result ≡ (Needed.has_mark mark.now (option_map (λ member. view member.now) asker.entry) || is_so) }
+/// A dependency of a package, which may be absent.
+fn dependency_from(
+    alloc: Global,
+    asker: Option<&Value>,
+    edge: &Edge<'_>,
+) -> Result<Dependency, AllocError>
+    ensures { IfOk result (λ dependency. dependency_value dependency ≡ Outcomes.dependency_of
+        (unwrap_or (option_map (λ member. view member.now) asker.entry) null) (edge_value edge.now)) }
 {
     match asker {
-        Some(member) => has_true(member, mark) || is_so,
-        None => is_so,
+        Some(member) => dependency_of(alloc, member, edge),
+        None => dependency_of(alloc, &Value::Null, edge),
     }
 }
 

@@ -1,11 +1,11 @@
 //! Which packages are left out.
-ghost use Rattle.std.specs.Prelude.{◌≡◌, ◌||◌, option_map};
+ghost use Rattle.std.specs.Prelude.{◌≡◌, ◌||◌};
 ghost use Rattle.serde_json.specs.View.{view};
 ghost use Rattle.npm_lock.specs.Outcomes.{dependency_value};
 ghost use Rattle.npm_lock_reports.specs.Omissions as Omitted;
 
 use crate::workspace::is_in_project;
-use npm_lock::Dependency;
+use npm_lock::{Dependency, is_marked, member_at};
 use npm_texts::has_true;
 use serde_json::Value;
 
@@ -69,25 +69,8 @@ impl Omissions {
 }
 
 /// Returns `true` if the dependency itself is so. That of a root with this mark is not, since npm reads no marks of the root.
-fn is_so(lock: &Value, from: &str, mark: &str, is_marked: bool) -> bool
-    ensures { result ≡ Omitted.is_so mark.now (view lock.now) from.now is_marked }
+fn is_so(lock: &Value, from: &str, mark: &str, is_so: bool) -> bool
+    ensures { result ≡ Omitted.is_so mark.now (view lock.now) from.now is_so }
 {
-    is_marked && !(from.is_empty() && has_mark_at(lock, from, mark))
-}
-
-/// Returns `true` if the lock file marks the package in this folder so.
-fn has_mark_at(lock: &Value, folder: &str, mark: &str) -> bool
-    ensures { result ≡ Omitted.has_mark_at mark.now (view lock.now) folder.now }
-{
-    match member_at(lock, folder) {
-        Some(member) => has_true(member, mark),
-        None => false,
-    }
-}
-
-/// The member of `packages` for this folder.
-pub(crate) fn member_at<'v>(lock: &'v Value, folder: &str) -> Option<&'v Value>
-    ensures { option_map (λ member. view member.now) result ≡ Omitted.member_at (view lock.now) folder.now }
-{
-    lock.get("packages")?.get(folder)
+    is_so && !(from.is_empty() && is_marked(lock, from, mark))
 }

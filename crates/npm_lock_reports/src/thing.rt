@@ -4,7 +4,6 @@ ghost use Rattle.npm_advisories.specs.Audit.{found_value};
 ghost use Rattle.npm_lock_reports.specs.Lines.{thing_count};
 
 use crate::hit_sentence::push_hit_sentence;
-use crate::left_out_json::left_out_json;
 use crate::piece::Reading;
 use crate::report::Report;
 use crate::sentence::{
@@ -124,7 +123,7 @@ impl<'a> Thing<'a> {
             Thing::Problem(problem) => problem.to_json(alloc),
             Thing::Hit(found) => found.to_json(alloc),
             Thing::Source(source) => source.to_json(alloc),
-            Thing::LeftOut(dependency) => left_out_json(alloc, dependency),
+            Thing::LeftOut(dependency) => dependency.to_json(alloc, "problem", "left-out"),
             Thing::Unchecked(unchecked) => unchecked.to_json(alloc),
             Thing::Unread(unread) => unread_json(alloc, unread),
         }

@@ -5,7 +5,8 @@ ghost use Rattle.npm_lock_reports.specs.Unread.{unread_value};
 
 use crate::folder_name::FolderName;
 use crate::piece::{Piece, Reading, push_pieces};
-use serde_json::{Map, Value, put};
+use npm_lock::{Member, object_of};
+use serde_json::Value;
 use std::alloc::{AllocError, Global};
 
 /// What was not looked at beside a lock file.
@@ -73,10 +74,9 @@ pub fn push_unread_sentence(
 
 /// The JSON object of what was not looked at.
 pub fn unread_json(alloc: Global, unread: &Unread) -> Result<Value, AllocError> {
-    let mut members = Map::new(alloc);
-    let from = String::from_str(alloc, unread.folder())?;
-    put(&mut members, alloc, "from", Value::String(from))?;
-    let unchecked = String::from_str(alloc, unread.word())?;
-    put(&mut members, alloc, "unchecked", Value::String(unchecked))?;
-    Ok(Value::Object(members))
+    let members = [
+        Member::Text("from", unread.folder()),
+        Member::Text("unchecked", unread.word()),
+    ];
+    object_of(alloc, &members)
 }

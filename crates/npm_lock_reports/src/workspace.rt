@@ -1,10 +1,9 @@
 //! Which packages npm installs for the project itself: those of the root and of its workspaces.
 ghost use Rattle.std.specs.Prelude.{◌≡◌, option_map};
 ghost use Rattle.serde_json.specs.View.{items_view, view};
-ghost use Rattle.npm_lock.specs.Workspaces.{patterns_of};
 ghost use Rattle.npm_lock_reports.specs.Projects as Projects;
 
-use crate::omissions::member_at;
+use npm_lock::{member_at, patterns_of};
 use npm_texts::{ends_with, rest_after, without_end};
 use serde_json::Value;
 
@@ -40,17 +39,6 @@ fn is_below_workspace(root: &Value, folder: &str) -> bool
     match patterns_of(root) {
         Some(patterns) => !has_negated(patterns) && matches_one(patterns, folder),
         None => false,
-    }
-}
-
-/// The patterns of the root: a list, or the list `packages` of an object.
-fn patterns_of(root: &Value) -> Option<&Vec<Value>>
-    ensures { option_map (λ list. items_view list.now.items) result ≡ patterns_of (view root.now) }
-{
-    let said = root.get("workspaces")?;
-    match said.get("packages").and_then(Value::as_array) {
-        Some(patterns) => Some(patterns),
-        None => said.as_array(),
     }
 }
 

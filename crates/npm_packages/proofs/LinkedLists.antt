@@ -1,11 +1,9 @@
--- The folders of links: one more member, one more folder in the map, and the keys of the map.
+-- The folders of links: one more member, and the keys of the map.
 use Rattle.std.proofs.Common.{◌≡◌, ◌⊎◌, ◌↔◌, ℕ, zero, suc, List, [], ◌∷◌, Bool, true, false, cond, Option, Some}
-use Rattle.std.proofs.Common.{BTreeMap, Less, Equal, Greater, None, Ordering, ap, arith, bytes_eq, inl, inr, is_eq, map}
-use Rattle.std.proofs.Common.{codes, nat_cmp, option_and_then, option_map, refl, sym}
+use Rattle.std.proofs.Common.{BTreeMap, Less, Equal, Greater, None, Ordering, ap, arith, inl, inr, is_eq, map}
+use Rattle.std.proofs.Common.{codes, nat_cmp, option_and_then, refl, sym}
 use denote.Ref.{Bor}
-use Rattle.std.proofs.lemmas.Map.Text.{btree_map_updates_str}
-use Rattle.std.proofs.lemmas.Slice.Eq.{bytes_eq-Decides}
-use Rattle.std.specs.BTreeMap.{UpdatesBy, is_at}
+use Rattle.std.specs.BTreeMap.{is_at}
 use Rattle.std.specs.Cmp.Lexicographic.{slice_cmp}
 use Rattle.std.specs.List.{AllByRecursion, Contains}
 use Rattle.std.specs.List.Sorted.{IsStrictlySortedBy}
@@ -14,7 +12,8 @@ use Rattle.std.specs.Option.{IsSome}
 use Rattle.serde_json.specs.Data.{Data, Members, member, object}
 use Rattle.serde_json.specs.Find.{as_object, get, get_member}
 use Rattle.npm_packages.specs.LinkedFolders.{AreLinkedFolders, IsLinkTo, IsLinked}
-use Rattle.npm_packages.specs.Private.Linked.{AreKeys, HasFolder, IsLinkedAmong}
+use Rattle.npm_packages.specs.Lemmas.FolderMaps.{HasFolder}
+use Rattle.npm_packages.specs.Private.Linked.{AreKeys, IsLinkedAmong}
 use Rattle.npm_texts.specs.Lemmas.Objects.{in_no_group, is_object_of}
 use Rattle.npm_texts.specs.Lemmas.Keys.{exact, itself}
 
@@ -58,49 +57,6 @@ module _ (packages : Data) (folder key : List ℕ) (value : Data) (rest : Member
       )
     ]),
   )
-
--- ---- one more folder
-
-module _ {X : Type 0} (old new : BTreeMap (Bor (List ℕ)) X) (value : X) (text folder : List ℕ) where
-  by_text : (b : Bool) → bytes_eq text folder ≡ b
-      → IsSome (cond b (Some value) (lookup (is_at (λ k. slice_cmp nat_cmp folder k.now)) old.entries))
-      ↔ ((text ≡ folder) ⊎ HasFolder old folder)
-  by_text true is = ((λ some. inl ((bytes_eq-Decides text folder).0 is)), (λ either. refl))
-  by_text false is = (
-    (λ some. inr some),
-    (λ either. elim either [
-      | inl same ↦ cc (is, (bytes_eq-Decides text folder).1 same)
-      | inr has ↦ has
-    ]),
-  )
-
-  pub one_folder : UpdatesBy (λ x y. slice_cmp nat_cmp x.now y.now) (λ k. slice_cmp nat_cmp text k.now) old new
-      (Some value)
-      → HasFolder new folder ↔ ((text ≡ folder) ⊎ HasFolder old folder)
-  one_folder updates =
-      rw (btree_map_updates_str text old new (Some value) updates folder) (by_text (bytes_eq text folder) refl)
-
--- ---- both
-
--- a member is passed
-pub passed : {All Has Left Leads More Rest : Type 0} → All ↔ (Has ⊎ Left) → Left ↔ (Leads ⊎ Rest)
-    → More ↔ (Leads ⊎ Has) → All ↔ (More ⊎ Rest)
-passed all left more = (
-  (λ a. elim (all.0 a) [
-    | inl has ↦ inl (more.1 (inr has))
-    | inr among ↦ elim (left.0 among) [
-      | inl leads ↦ inl (more.1 (inl leads))
-      | inr rest ↦ inr rest
-    ]
-  ]),
-  (λ either. elim either [
-    | inl has ↦ elim (more.0 has) [
-      | inl leads ↦ all.1 (inr (left.1 (inl leads)))
-      | inr old ↦ all.1 (inl old)
-    ]
-    | inr rest ↦ all.1 (inr (left.1 (inr rest)))
-  ]),
-)
 
 -- a member that leads to no folder
 pub passed_by : {All Has Left Leads Rest : Type 0} → All ↔ (Has ⊎ Left) → Left ↔ (Leads ⊎ Rest) → ¬ Leads
@@ -175,26 +131,6 @@ module _ {X : Type 0} where
   }
 
 -- ---- the members of `packages`
-
-pub names_that : (found : Option (Bor (List ℕ))) (text : Bor (List ℕ)) (folder : List ℕ) (Leads : Type 0)
-    → found ≡ Some text → (option_map (λ f. f.now) found ≡ Some folder) ↔ Leads → (text.now ≡ folder) ↔ Leads
-names_that found text folder Leads is same = (
-  (λ named. same.0 (rw is (ap Some named))),
-  (λ leads. let named : Some text.now ≡ Some folder = rw is at same.1 leads in cc named),
-)
-
--- the folder of a link, in place of its text
-pub more_that : {Named Leads More Has : Type 0} → Named ↔ Leads → More ↔ (Named ⊎ Has) → More ↔ (Leads ⊎ Has)
-more_that same more = (
-  (λ m. elim (more.0 m) [
-    | inl named ↦ inl (same.0 named)
-    | inr has ↦ inr has
-  ]),
-  (λ either. elim either [
-    | inl leads ↦ more.1 (inl (same.1 leads))
-    | inr has ↦ more.1 (inr has)
-  ]),
-)
 
 pub none_linked : (lock : Data) → option_and_then as_object (get (codes "packages") lock) ≡ None
     → AreLinkedFolders lock []

@@ -32,7 +32,7 @@ pub use folder::{is_folder, is_installed, place_size};
 pub use index::{Index, end_of};
 pub use linked::{linked_folders, members_of};
 pub use overrides::{Rule, Rules, overridden, rules_in, rules_of};
-pub use place::{Lock, Package, is_link, is_named, linked_folder, place_text, version_of};
+pub use place::{Lock, Package, is_link, is_named, linked_folder, name_of, place_text, version_of};
 pub use search::outermost_of;
 pub use sound_lock::SoundLock;
 

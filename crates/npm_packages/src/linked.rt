@@ -2,9 +2,10 @@
 ghost use Rattle.std.specs.Prelude.{◌≡◌, ◌↔◌, ℕ, IfOk, List, Some, codes, map, option_and_then, option_map};
 ghost use Rattle.serde_json.specs.Find.{as_object, get};
 ghost use Rattle.serde_json.specs.View.{members_view, view};
+ghost use Rattle.npm_packages.specs.Lemmas.FolderMaps.{HasFolder};
 ghost use Rattle.npm_packages.specs.LinkedFolders.{AreLinkedFolders, IsLinkTo, IsLinked};
 ghost use Rattle.npm_packages.specs.PackageValue.{packages_data};
-ghost use Rattle.npm_packages.specs.Private.Linked.{AreKeys, HasFolder};
+ghost use Rattle.npm_packages.specs.Private.Linked.{AreKeys};
 
 use crate::Result;
 use crate::folder::is_installed;

@@ -161,8 +161,7 @@ pub fn version_of(member: &Value) -> Option<&str>
     member.get("version")?.as_str()
 }
 
-/// Returns `true` if this is the name of a package: the one that the lock file writes for it, or else that of its folder. Does not
-/// allocate.
+/// Returns `true` if this is the name of a package. Does not allocate.
 ///
 /// # Examples
 ///
@@ -173,8 +172,8 @@ pub fn is_named(found: Package<'_>, name: &str) -> bool
     name_of(found) == name
 }
 
-/// The name of a package.
-fn name_of<'v>(found: Package<'v>) -> &'v str
+/// Returns the name of a package: the one that the lock file writes for it, or else that of its folder. Does not allocate.
+pub fn name_of<'v>(found: Package<'v>) -> &'v str
     ensures { IsNamed (package_value found.entry) result.now }
 {
     match said_name(found.member) {

@@ -1,12 +1,12 @@
 -- Keys that are added one after the other.
-use Rattle.std.proofs.Common.{◌≡◌, ◌∙◌, ◌++◌, ℕ, List, [], ◌∷◌, Option, Some, append-nil, append_assoc, inl, inr}
-use Rattle.std.proofs.Common.{refl, subst, sym}
+use Rattle.std.proofs.Common.{◌≡◌, ◌∙◌, ◌++◌, ℕ, List, [], ◌∷◌, Option, Some, append_assoc, inl, inr}
+use Rattle.std.proofs.Common.{subst, sym}
 use Rattle.std.proofs.lemmas.List.{map-append}
 use Rattle.std.proofs.lemmas.List.Elements.{All-push, Contains-push, Contains-push_cases, Contains-append_left}
 use Rattle.std.specs.List.{Contains}
 use Rattle.semver_cuts.specs.Ends.{Ends}
 use Rattle.semver_cuts.specs.Lemmas.Lists.{any-either, any-left, any-right}
-use Rattle.serde_json.specs.Data.{Data, Members, member, no_members}
+use Rattle.serde_json.specs.Data.{Data, Members, member}
 use Rattle.node_semver.specs.Versions.{VersionValue}
 use Rattle.npm_texts.specs.InstalledVersions.{IsInstalledVersion}
 use Rattle.npm_pick.specs.Kept.{KeyValue}
@@ -18,12 +18,6 @@ texts_pushed : (xs : List KeyValue) (k : KeyValue) → texts_of (xs ++ k ∷ [])
 texts_pushed xs k = map-append (λ (k : KeyValue). k.text) xs (k ∷ [])
 
 module _ (p : Data) (o : Options) (ranges : List (Option (List (Ends VersionValue)))) where
-  pub none_added : (old : List KeyValue) → AreAdded p o ranges [] old old
-  none_added old = record {
-    exact = λ key. ((λ there. inl there), (λ either. elim either [ inl there ↦ there | inr h ↦ absurd h.0 ]));
-    read = λ all. all;
-  }
-
   -- those of one list, and then those of another
   pub both_added : (xs ys : List Release) (old mid new : List KeyValue) → AreAdded p o ranges xs old mid
       → AreAdded p o ranges ys mid new → AreAdded p o ranges (xs ++ ys) old new
@@ -89,9 +83,6 @@ module _ (p : Data) (o : Options) (ranges : List (Option (List (Ends VersionValu
 
   -- ---- in the loop
 
-  pub started : (all : Members) (old : List KeyValue) → AreAddedSoFar p o ranges all all old old
-  started all old = record { done = []; parts = refl; added = none_added old }
-
   more : (all left : Members) (old now new : List KeyValue) (x : Release)
       → AreAddedSoFar p o ranges all (member x.key x.manifest left) old now → AreAdded p o ranges (x ∷ []) now new
       → AreAddedSoFar p o ranges all left old new
@@ -113,8 +104,3 @@ module _ (p : Data) (o : Options) (ranges : List (Option (List (Ends VersionValu
       → AreAddedSoFar p o ranges all (member x.key x.manifest left) old now → ¬ IsWithin p o ranges x.key
       → AreAddedSoFar p o ranges all left old now
   more_passed all left old now x so without = more all left old now now x so (one_passed x now without)
-
-  pub all_added : (all : Members) (old now : List KeyValue) → AreAddedSoFar p o ranges all no_members old now
-      → AreAdded p o ranges (releases_among all) old now
-  all_added all old now so = subst (λ (l : List Release). AreAdded p o ranges l old now)
-      (sym (so.parts ∙ append-nil so.done)) so.added

@@ -1,6 +1,6 @@
 -- Keys in order, each once, and their texts.
-use Rattle.std.proofs.Common.{◌≡◌, ◌∙◌, ◌↔◌, ℕ, List, [], ◌∷◌, true, Equal, ap, inl, inr, is_eq, map, subst, sym}
-use Rattle.std.proofs.lemmas.List.Elements.{All-cons, All-head, All-map, All-tail, Contains-append_cases, Contains-append_left, Contains-append_right, Contains-push, Contains-push_cases}
+use Rattle.std.proofs.Common.{◌≡◌, ◌∙◌, ◌↔◌, ℕ, List, [], ◌∷◌, true, Equal, ap, is_eq, map, subst, sym}
+use Rattle.std.proofs.lemmas.List.Elements.{All-cons, All-head, All-map, All-tail}
 use Rattle.std.proofs.lemmas.List.Filters.{All-dedup}
 use Rattle.std.proofs.lemmas.List.Kept.{Any-dedup, Contains-from_dedup, IsStrictlySortedBy-dedup}
 use Rattle.std.proofs.lemmas.List.Sorted.{All-permutation, Contains-permutation, IsPermutation-sym}
@@ -15,40 +15,13 @@ use Rattle.std.specs.declared.cmp.Ordering.TheVariants.{Greater, Less}
 use Rattle.npm_pick.specs.Kept.{IsInOrder, KeyValue, key_cmp}
 use Rattle.npm_pick.specs.Private.Keeping.{IsKeyRead, key_order, key_total, key_value, texts_of}
 use Rattle.npm_pick.specs.declared.key.Key.{Key}
+use Rattle.npm_pick.specs.Lemmas.Mapped.{contains_mapped, mapped_contains}
 use Rattle.npm_pick.specs.Lemmas.Readings.{exact}
 
--- ---- elements of lists that are mapped
-
-contains_one : {X : Type 0} (x y : X) → Contains (x ∷ []) y → x ≡ y
-contains_one x y h = elim (Contains-push_cases [] x y h) [ inl none ↦ absurd (omega (arith, none.1)) | inr same ↦ same ]
-
-contains_first : {X : Type 0} (x y : X) (xs : List X) → x ≡ y → Contains (x ∷ xs) y
-contains_first x y xs same =
-    subst (λ (z : _). Contains (x ∷ xs) z) same (Contains-append_left (x ∷ []) xs x (Contains-push [] x))
-
-module _ {X Y : Type 0} (f : X → Y) where
-  pub contains_mapped : (xs : List X) (y : Y) → Contains (map f xs) y → (x : X) × Contains xs x × (f x ≡ y)
-  contains_mapped [] y h = absurd (omega (arith, h.1))
-  contains_mapped (x ∷ xs) y h = elim (Contains-append_cases (f x ∷ []) (map f xs) y h) [
-    | inl one ↦ (x, contains_first x x xs refl, contains_one (f x) y one)
-    | inr there ↦
-        let found = contains_mapped xs y there in
-        (found.0, Contains-append_right (x ∷ []) xs found.0 found.1, found.2)
-  ]
-
-  pub mapped_contains : (xs : List X) (x : X) (y : Y) → Contains xs x → f x ≡ y → Contains (map f xs) y
-  mapped_contains [] x y h same = absurd (omega (arith, h.1))
-  mapped_contains (z ∷ xs) x y h same = elim (Contains-append_cases (z ∷ []) xs x h) [
-    | inl one ↦ contains_first (f z) y (map f xs) (ap f (contains_one z x one) ∙ same)
-    | inr there ↦ Contains-append_right (f z ∷ []) (map f xs) y (mapped_contains xs x y there same)
-  ]
-
-  pub all_unmapped : (P : Y → Type 0) (xs : List X) → All P (map f xs) → All (λ x. P (f x)) xs
-  all_unmapped P [] all = λ k d small. absurd (omega (arith, small))
-  all_unmapped P (x ∷ xs) all = All-cons (λ x. P (f x)) x xs (All-head P (f x) (map f xs) all)
-      (all_unmapped P xs (All-tail P (f x) (map f xs) all))
-
--- ---- keys
+all_unmapped : {X Y : Type 0} (f : X → Y) (P : Y → Type 0) (xs : List X) → All P (map f xs) → All (λ x. P (f x)) xs
+all_unmapped f P [] all = λ k d small. absurd (omega (arith, small))
+all_unmapped f P (x ∷ xs) all = All-cons (λ x. P (f x)) x xs (All-head P (f x) (map f xs) all)
+    (all_unmapped f P xs (All-tail P (f x) (map f xs) all))
 
 below_mapped : (a : Key) (keys : List Key) → AllByRecursion (λ b. key_order a b ≡ Less) keys
     → AllByRecursion (λ b. key_cmp (key_value a) b ≡ Less) (map key_value keys)

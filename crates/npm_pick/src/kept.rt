@@ -1,15 +1,15 @@
 //! The versions of a document that a mirror keeps.
-ghost use Rattle.std.specs.Prelude.{◌≡◌, ◌≢◌, ◌↔◌, ℕ, List, IfOk, OnOk, map, string_bytes};
-ghost use Rattle.std.specs.List.{All, Contains};
+ghost use Rattle.std.specs.Prelude.{◌≢◌, IfOk, OnOk, map, string_bytes};
+ghost use Rattle.std.specs.List.{All};
 ghost use Rattle.serde_json.specs.View.{view};
-ghost use Rattle.npm_pick.specs.Kept.{ArePicked, IsInOrder, IsKept};
+ghost use Rattle.npm_pick.specs.Kept.{ArePicked, IsKept};
 ghost use Rattle.npm_pick.specs.declared.error.PickError.TheVariants as Errors;
 ghost use Rattle.npm_pick.specs.Private.Keeping.{AreGathered, IsKeyRead, IsPickAdded, key_value, texts_of};
 
 use crate::Result;
 use crate::admitted::{Admitting, ranges_of};
 use crate::error::PickError;
-use crate::key::Key;
+use crate::key::{Key, in_order};
 use crate::options::Options;
 use crate::picked::pick;
 use serde_json::Value;
@@ -124,27 +124,4 @@ fn unless_memory(error: PickError) -> Result<()>
         PickError::Memory => Err(AllocError),
         _ => Ok(()),
     }
-}
-
-/// The texts of the keys in order, each once.
-fn in_order<'v>(alloc: Global, mut keys: Vec<Key<'v>>) -> Result<Vec<&'v str>>
-    requires { All IsKeyRead (map key_value keys.items) }
-    ensures ordered { IfOk result (λ texts. IsInOrder (map (λ text. text.now) texts.items)) }
-    ensures exact { IfOk result (λ texts. (key : List ℕ) → Contains (map (λ text. text.now) texts.items) key
-        ↔ Contains (texts_of (map key_value keys.entry.items)) key) }
-{
-    keys.sort_unstable();
-    keys.dedup();
-    texts_of_keys(alloc, &keys)
-}
-
-/// The texts of the keys.
-fn texts_of_keys<'v>(alloc: Global, keys: &[Key<'v>]) -> Result<Vec<&'v str>>
-    ensures { IfOk result (λ texts. map (λ text. text.now) texts.items ≡ texts_of (map key_value keys.now)) }
-{
-    let mut texts = Vec::new(alloc);
-    for key in keys {
-        texts.push(key.text)?;
-    }
-    Ok(texts)
 }

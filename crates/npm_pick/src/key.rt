@@ -1,11 +1,15 @@
 //! A key of a document, and its place among others.
-ghost use Rattle.std.specs.Prelude.{◌≡◌, Some, refl};
+ghost use Rattle.std.specs.Prelude.{◌≡◌, ◌↔◌, ℕ, List, IfOk, Some, map, refl};
 ghost use Rattle.std.specs.Cmp.{eq_by_cmp_equiv, partial_equiv_from_equiv, po};
+ghost use Rattle.std.specs.List.{All, Contains};
 ghost use Rattle.std.specs.Ordering.{eq_by_cmp};
-ghost use Rattle.npm_pick.specs.Private.Keeping.{IsKeyRead, key_order, key_total, key_value};
+ghost use Rattle.npm_pick.specs.Kept.{IsInOrder};
+ghost use Rattle.npm_pick.specs.Private.Keeping.{IsKeyRead, key_order, key_total, key_value, texts_of};
 
+use crate::Result;
 use node_semver::VersionRef;
 use npm_texts::installed_version;
+use std::alloc::Global;
 use std::cmp::Ordering;
 
 /// A key, and the version that it is read as.
@@ -71,4 +75,40 @@ impl<'v> Ord for Key<'v> {
         let versions = self.version.cmp(&other.version);
         versions.then(self.text.cmp(other.text))
     }
+}
+
+/// Returns these keys in order, each once: by their versions, and equal versions by their bytes. Keys that are no versions come first.
+pub fn keys_in_order<'v>(alloc: Global, texts: &[&'v str]) -> Result<Vec<&'v str>>
+    ensures ordered { IfOk result (λ keys. IsInOrder (map (λ key. key.now) keys.items)) }
+    ensures exact { IfOk result (λ keys. (key : List ℕ) → Contains (map (λ key. key.now) keys.items) key
+        ↔ Contains (map (λ text. text.now) texts.now) key) }
+{
+    let mut keys = Vec::new(alloc);
+    for text in texts {
+        keys.push(Key::of(text))?;
+    }
+    in_order(alloc, keys)
+}
+
+/// The texts of the keys in order, each once.
+pub(crate) fn in_order<'v>(alloc: Global, mut keys: Vec<Key<'v>>) -> Result<Vec<&'v str>>
+    requires { All IsKeyRead (map key_value keys.items) }
+    ensures ordered { IfOk result (λ texts. IsInOrder (map (λ text. text.now) texts.items)) }
+    ensures exact { IfOk result (λ texts. (key : List ℕ) → Contains (map (λ text. text.now) texts.items) key
+        ↔ Contains (texts_of (map key_value keys.entry.items)) key) }
+{
+    keys.sort_unstable();
+    keys.dedup();
+    texts_of_keys(alloc, &keys)
+}
+
+/// The texts of the keys.
+fn texts_of_keys<'v>(alloc: Global, keys: &[Key<'v>]) -> Result<Vec<&'v str>>
+    ensures { IfOk result (λ texts. map (λ text. text.now) texts.items ≡ texts_of (map key_value keys.now)) }
+{
+    let mut texts = Vec::new(alloc);
+    for key in keys {
+        texts.push(key.text)?;
+    }
+    Ok(texts)
 }

@@ -38,13 +38,4 @@ pub enum ArgumentError<'a> {
     /// A version, a tag or a range after an option that allows none.
     #[error("{0} takes no SPEC, and not {1}; --help shows what is read")]
     NoSpec(&'static str, Quoted<'a>),
-    /// The value of `--before` is no time.
-    #[error("--before takes a time, as 2024-03-01 or 2024-03-01T12:00:00Z, and not {0}; --help lists the options")]
-    Time(Quoted<'a>),
-    /// The value of `--node` is no version.
-    #[error("--node takes a version, as 20 or 20.11.1, and not {0}; --help lists the options")]
-    NodeVersion(Quoted<'a>),
-    /// The value of `--npm` is no version.
-    #[error("--npm takes a version, as 10 or 10.8.2, and not {0}; --help lists the options")]
-    NpmVersion(Quoted<'a>),
 }

@@ -15,20 +15,18 @@ ghost use Rattle.npm_pick_reports.specs.declared.reply.Ending.{Ending};
 mod argument_error;
 mod arguments;
 mod help;
-mod picking;
 mod program_error;
 mod task;
 
 use arguments::{Arguments, read_arguments};
-use command_lines::{Quoted, Shown, words_of};
+use command_lines::{Shown, words_of};
 use help::{HELP, VERSION};
 use npm_pick::Options;
 use npm_pick_reports::{
-    Ending, Question, RunError, checked_manifest, packument_in, reply_to, value_at,
+    Ending, Question, RunError, before_of, file_value, manifests_at, node_of, npm_of, packument_in,
+    reply_to, version_of,
 };
-use picking::{before_of, node_of, npm_of, options_of};
 use program_error::ProgramError;
-use serde_json::Value;
 use std::io;
 use std::io::Write;
 use std::process::ExitCode;
@@ -88,10 +86,15 @@ fn outcome_of<'a>(rt: &HostRuntime, words: &'a [String]) -> Result<Option<Done>,
     let before = before_of(rt.alloc(), asked.before)?;
     let node = node_of(rt.alloc(), asked.node)?;
     let npm = npm_of(rt.alloc(), asked.npm)?;
-    let mut options = options_of(asked.tag, asked.avoid, &node, &npm);
-    options.before = before;
-    options.avoid_strict = asked.avoid_strict;
-    options.include_staged = asked.include_staged;
+    let options = Options {
+        default_tag: asked.tag.unwrap_or("latest"),
+        before,
+        avoid: asked.avoid,
+        avoid_strict: asked.avoid_strict,
+        include_staged: asked.include_staged,
+        node: version_of(&node),
+        npm: version_of(&npm),
+    };
     let done = do_task(rt, task, &asked, &options)?;
     Ok(Some(done))
 }
@@ -160,39 +163,6 @@ fn write_reply<'a>(
             notes,
         }),
         Err(_) => Err(ProgramError::Run(RunError::Write)),
-    }
-}
-
-/// Reads the manifests at these paths.
-fn manifests_at<'a>(rt: &HostRuntime, paths: &[&'a str]) -> Result<Vec<Value>, ProgramError<'a>> {
-    let mut manifests = Vec::new(rt.alloc());
-    for path in paths {
-        let manifest = manifest_at(rt, *path)?;
-        if manifests.push(manifest).is_err() {
-            return Err(ProgramError::Run(RunError::Memory));
-        }
-    }
-    Ok(manifests)
-}
-
-/// Reads a manifest.
-fn manifest_at<'a>(rt: &HostRuntime, path: &'a str) -> Result<Value, ProgramError<'a>> {
-    let value = file_value(rt, "--manifest", path)?;
-    match checked_manifest(value) {
-        Ok(manifest) => Ok(manifest),
-        Err(fault) => Err(ProgramError::Manifest(Quoted { text: path }, fault)),
-    }
-}
-
-/// Reads the JSON value of the file after an option; `-` is standard input.
-fn file_value<'a>(
-    rt: &HostRuntime,
-    option: &'static str,
-    path: &'a str,
-) -> Result<Value, ProgramError<'a>> {
-    match value_at(rt, path) {
-        Ok(value) => Ok(value),
-        Err(error) => Err(ProgramError::File(option, Quoted { text: path }, error)),
     }
 }
 

@@ -1,8 +1,7 @@
 //! Why the program ends with status 2.
 use crate::argument_error::ArgumentError;
-use command_lines::{InputError, Quoted, WordsError};
-use npm_packages::Fault;
-use npm_pick_reports::RunError;
+use command_lines::WordsError;
+use npm_pick_reports::{ReadError, RunError};
 use std::alloc::AllocError;
 use thiserror::Error;
 
@@ -15,12 +14,9 @@ pub enum ProgramError<'a> {
     /// The arguments have an error.
     #[error("{0}")]
     Argument(ArgumentError<'a>),
-    /// The file after this option was not read.
-    #[error("{0} {1}: {2}")]
-    File(&'static str, Quoted<'a>, InputError),
-    /// The JSON value of this file is no manifest.
-    #[error("--manifest {0}: {1}")]
-    Manifest(Quoted<'a>, Fault),
+    /// What an argument names was not read.
+    #[error("{0}")]
+    Read(ReadError<'a>),
     /// The program stopped.
     #[error("{0}")]
     Run(RunError),
@@ -29,6 +25,12 @@ pub enum ProgramError<'a> {
 impl<'a> From<ArgumentError<'a>> for ProgramError<'a> {
     fn from(error: ArgumentError<'a>) -> ProgramError<'a> {
         ProgramError::Argument(error)
+    }
+}
+
+impl<'a> From<ReadError<'a>> for ProgramError<'a> {
+    fn from(error: ReadError<'a>) -> ProgramError<'a> {
+        ProgramError::Read(error)
     }
 }
 

@@ -1,20 +1,12 @@
 -- Texts by the names of packages.
 use Rattle.std.proofs.Common.{◌≡◌, ◌∙◌, ◌<◌, Bor, ap, append-nil, ◌+◌, ◌++◌, ℕ, List, [], ◌∷◌, Bool, bytes_eq, cond, get_or, length, map, refl, sym, take, true, false}
-use Rattle.std.proofs.lemmas.List.{map-append, take_more}
-use Rattle.std.specs.Prelude.{filter}
+use Rattle.std.proofs.lemmas.List.{map-append, map_more}
+use Rattle.std.proofs.lemmas.List.Elements.{filter-append}
 use Rattle.npm_texts.specs.RegistrySpec.{RegistrySpecValue, registry_spec_value}
 use Rattle.npm_pick_reports.specs.Mirror.{texts_for}
 use Rattle.npm_pick_reports.specs.Private.Requests.{at_name, named}
 use Rattle.npm_pick_reports.specs.declared.mirror.requests.Groups.{Groups}
 use Rattle.npm_texts.specs.declared.registry.RegistrySpec.{RegistrySpec}
-
-kept-first : {X : Type 0} (is : Bool) (x : X) (xs ys : List X) → cond is (x ∷ (xs ++ ys)) (xs ++ ys) ≡ cond is (x ∷ xs) xs ++ ys
-kept-first true x xs ys = refl
-kept-first false x xs ys = refl
-
-filter-append : {X : Type 0} (test : X → Bool) (xs ys : List X) → filter test (xs ++ ys) ≡ filter test xs ++ filter test ys
-filter-append test [] ys = refl
-filter-append test (x ∷ xs) ys = rw (filter-append test xs ys) (kept-first (test x) x (filter test xs) (filter test ys))
 
 texts-append : (name : List ℕ) (xs ys : List RegistrySpecValue)
     → texts_for name (xs ++ ys) ≡ texts_for name xs ++ texts_for name ys
@@ -38,15 +30,12 @@ pub texts_more : (name : List ℕ) (requests : List RegistrySpec) (i : ℕ) (non
 texts_more name requests i none old new small is held =
     let one = get_or requests i none in
     let before = map registry_spec_value (take i requests) in
-    let after : map registry_spec_value (take (i + 1) requests) ≡ before ++ (registry_spec_value one ∷ []) =
-    ap (map registry_spec_value) (take_more requests i none small)
-    ∙ map-append registry_spec_value (take i requests) (one ∷ []) in
     ap (map (λ (text : Bor (List ℕ)). text.now)) is
     ∙ map-append (λ (text : Bor (List ℕ)). text.now) old (named name one)
     ∙ ap (λ l. l ++ map (λ (text : Bor (List ℕ)). text.now) (named name one)) held
     ∙ ap (λ l. texts_for name before ++ l) (one-text name one)
     ∙ sym (texts-append name before (registry_spec_value one ∷ []))
-    ∙ ap (texts_for name) (sym after)
+    ∙ ap (texts_for name) (sym (map_more registry_spec_value requests i none small))
 
 -- the texts of a name, with those of one request more
 pub with-named : (old : Groups) (name : List ℕ) (one : RegistrySpec) → at_name old name ++ named name one

@@ -1,7 +1,5 @@
 pub mod Outcomes
 pub mod TextOrder
-pub mod KeyOrder
-pub mod Gathering
 pub mod Grouping
 pub mod Mirrors
 pub mod Elsewhere

@@ -1,104 +1,101 @@
 -- Packages of a mirror, and dependencies of a lock file, one after another.
-use Rattle.std.proofs.Common.{◌≡◌, ◌∙◌, ◌↔◌, Bor, Err, Global, IfErr, IsErrAnd, IsTrue, String, arith, None, Ok, OnOk, Result, Some, false, not, true, ℕ, ◌+◌, ◌<◌, List, [], ◌∷◌, ◌++◌, Bool, ap, append-nil, drop, get_or, length, map, refl, string_bytes, subst, sym}
+use Rattle.std.proofs.Common.{◌≡◌, ◌∙◌, ◌↔◌, IfErr, IsErrAnd, IsTrue, Global, Ok, Err, Result, String, append-nil, false, get_or, inl, inr, length, map, not, refl, string_bytes, subst, sym, take, true, ℕ, ◌+◌, ◌<◌, List, [], ◌∷◌, ◌++◌, Bool, drop}
 use Rattle.std.specs.Prelude.{cond, filter}
-use Rattle.std.proofs.lemmas.List.{drop_more, get_or-map, length-map, map-append}
-use Rattle.std.proofs.lemmas.List.Concat.{flat_map-append}
-use Rattle.std.proofs.lemmas.List.Elements.{All-push, Contains-get_or}
-use Rattle.std.specs.List.{Contains, flat_map}
-use Rattle.serde_json.specs.Data.{Data}
-use Rattle.serde_json.specs.View.{view}
-use Rattle.serde_json.specs.declared.value.Value.{Value}
+use Rattle.std.proofs.lemmas.List.{drop_more, map-append}
+use Rattle.std.proofs.lemmas.List.Elements.{All-push, Contains-append_cases, Contains-append_left, Contains-append_right, filter-append}
+use Rattle.std.specs.List.{All, Contains}
 use Rattle.npm_packages.specs.Edges.{edge_value}
 use Rattle.npm_packages.specs.declared.edges.Edge.{Edge}
+use Rattle.npm_pick.specs.Kept.{IsInOrder}
+use Rattle.npm_pick.specs.Lemmas.Gathering.{seen_more}
 use Rattle.npm_pick.specs.declared.options.Options.{Options}
 use Rattle.npm_texts.specs.RegistrySpec.{RegistrySpecValue}
-use Rattle.npm_pick_reports.specs.Asks.{AreAsksOfEdge, AreAsksOfEdges, AskValue, ask_value}
-use Rattle.npm_pick_reports.specs.Loading.{IsLoadFailure, Loads}
-use Rattle.npm_pick_reports.specs.Mirror.{AreTextsOf, IsNeededFor, IsPackage, PackageValue, absent, absent_of, has_version}
-use Rattle.npm_pick_reports.specs.Mirror.{kept_of, kept_text, known, lacking_of, texts_for, texts_with}
-use Rattle.npm_pick_reports.specs.Private.Mirroring.{AreKeptIn, IsAdded, IsAddedFor, IsKnownAdded, IsUnknownAdded, lacking_in}
-use Rattle.npm_pick_reports.specs.declared.mirror.asks.Ask.{Ask}
-use Rattle.npm_pick_reports.specs.declared.mirror.Mirror.{Mirror}
+use Rattle.npm_pick_reports.specs.Asks.{AreAsksOfEdge, AreAsksOfEdges, AskValue}
+use Rattle.npm_pick_reports.specs.Loading.{IsLoadFailure, Loads, Needed}
+use Rattle.npm_pick_reports.specs.Mirror.{AreTextsOf, AreWithInstalled, IsPackage, IsPackageFor, PackageValue, package_value, texts_for}
+use Rattle.npm_pick_reports.specs.declared.mirror.KeptPackage.{KeptPackage}
 use Rattle.npm_pick_reports.specs.declared.run_error.RunError.{RunError}
 use Rattle.npm_pick_reports.specs.declared.run_error.RunError.TheVariants as RunErrors
 
--- the list of one part more is behind the lists of all parts before it
-flat_more : {X Y : Type 0} (made : X → List Y) (xs : List X) (x : X) (old new : List Y) → new ≡ old ++ made x
-    → old ≡ flat_map made xs → new ≡ flat_map made (xs ++ (x ∷ []))
-flat_more made xs x old new is held = is ∙ ap (λ l. l ++ made x) held
-    ∙ ap (λ l. flat_map made xs ++ l) (sym (append-nil (made x))) ∙ sym (flat_map-append made xs (x ∷ []))
+-- ---- packages
 
--- the name of a package is the one that it was found for
-package_name : (Gives : Loads) (options : Options) (all : Bool) (requests installed : List RegistrySpecValue)
-    (name : List ℕ) (one : PackageValue) → IsPackage Gives options all requests installed name one → one.name ≡ name
-package_name Gives options all requests installed name one (absent versions keys gives found are) = refl
-package_name Gives options all requests installed name one (known packument texts picked versions keys gives asked is found are) = refl
+-- the texts of a name are those of its requests
+texts_like : (requests : List RegistrySpecValue) (name : List ℕ) (came texts : List (List ℕ))
+    → came ≡ texts_for name requests → ((text : List ℕ) → Contains texts text ↔ Contains came text)
+    → AreTextsOf requests name texts
+texts_like requests name came texts is same text = rw is at (same text)
 
 module _ (Gives : Loads) (options : Options) (all : Bool) (requests installed : List RegistrySpecValue) where
-  -- one package more
-  pub kept_more : (names : List (List ℕ)) (name : List ℕ) (old new : Mirror)
-      → IsAdded Gives options all requests installed name old new
-      → AreKeptIn Gives options all requests installed names old
-      → AreKeptIn Gives options all requests installed (names ++ (name ∷ [])) new
-  kept_more names name old new more held =
-      let same = package_name Gives options all requests installed name more.one more.is in
-      let found : IsPackage Gives options all requests installed more.one.name more.one =
-      subst (λ (n : List ℕ). IsPackage Gives options all requests installed n more.one) (sym same) more.is in
+  -- a package of these texts and versions
+  pub is_package : (one : PackageValue) (name : List ℕ) (came texts found versions : List (List ℕ)) → one.name ≡ name
+      → came ≡ texts_for name requests → ((text : List ℕ) → Contains texts text ↔ Contains came text)
+      → found ≡ texts_for name installed → ((text : List ℕ) → Contains versions text ↔ Contains found text)
+      → IsPackageFor Gives options all name texts versions one → IsPackage Gives options all requests installed one
+  is_package one name came texts found versions same of_name asked of_installed had is =
       record {
-        packages = held.packages ++ (more.one ∷ []);
-        named = map-append (λ (one : PackageValue). one.name) held.packages (more.one ∷ [])
-            ∙ ap (λ l. l ++ (more.one.name ∷ [])) held.named ∙ ap (λ n. names ++ (n ∷ [])) same;
-        found = All-push (λ (one : PackageValue). IsPackage Gives options all requests installed one.name one)
-            held.packages more.one held.found found;
-        versions = flat_more kept_of held.packages more.one _ _ more.added.versions held.versions;
-        missing = flat_more absent_of held.packages more.one _ _ more.added.missing held.missing;
-        incomplete = flat_more lacking_of held.packages more.one _ _ more.added.incomplete held.incomplete;
+        texts = texts;
+        versions = versions;
+        asked = subst (λ (n : List ℕ). AreTextsOf requests n texts) (sym same) (texts_like requests name came texts of_name asked);
+        found = subst (λ (n : List ℕ). AreTextsOf installed n versions) (sym same)
+            (texts_like installed name found versions of_installed had);
+        is = subst (λ (n : List ℕ). IsPackageFor Gives options all n texts versions one) (sym same) is;
       }
 
-module _ (Gives : Loads) (options : Options) (all : Bool) (name : List ℕ) (texts versions : List (List ℕ))
-    (old new : Mirror) where
-  -- a package with a document
-  pub known_added : (packument : Value) (result : Result (Unit {0}) RunError) → Gives name (Ok (Some packument))
-      → OnOk result (IsKnownAdded (view packument) options all name texts versions old new)
-      → OnOk result (IsAddedFor Gives options all name texts versions old new)
-  known_added packument (Err error) gives is = tt
-  known_added packument (Ok x) gives is = λ requests installed asked found. record {
-    one = record {
-      name = name;
-      keys = is.keys;
-      lacking = filter (λ key. not (has_version (view packument) key)) versions;
-      is_absent = false;
-    };
-    is = known packument texts is.picked versions is.keys gives asked is.kept found is.are;
-    added = is.added;
-  }
+  -- one package more
+  pub package_more : (old new : List KeptPackage) (one : KeptPackage) → new ≡ old ++ (one ∷ [])
+      → IsPackage Gives options all requests installed (package_value one)
+      → All (IsPackage Gives options all requests installed) (map package_value old)
+      → All (IsPackage Gives options all requests installed) (map package_value new)
+  package_more old new one is found held = rw (is, map-append package_value old (one ∷ []))
+      (All-push (IsPackage Gives options all requests installed) (map package_value old) (package_value one) held found)
 
-  -- a package without one
-  pub unknown_added : (result : Result (Unit {0}) RunError) → Gives name (Ok None)
-      → OnOk result (IsUnknownAdded name versions old new)
-      → OnOk result (IsAddedFor Gives options all name texts versions old new)
-  unknown_added (Err error) gives is = tt
-  unknown_added (Ok x) gives is = λ requests installed asked found. record {
-    one = record { name = name; keys = is.keys; lacking = []; is_absent = true };
-    is = absent versions is.keys gives found is.are;
-    added = is.added;
-  }
+-- its name is the next one
+pub name_more : (names : List (String Global)) (i : ℕ) (item : String Global) (old new : List KeptPackage) (one : KeptPackage)
+    → i < length names → item ≡ get_or names i item → new ≡ old ++ (one ∷ []) → string_bytes one.name ≡ string_bytes item
+    → map (λ (p : PackageValue). p.name) (map package_value old) ≡ map string_bytes (take i names)
+    → map (λ (p : PackageValue). p.name) (map package_value new) ≡ map string_bytes (take (i + 1) names)
+name_more names i item old new one small here is same held = rw (
+  is,
+  map-append package_value old (one ∷ []),
+  map-append (λ (p : PackageValue). p.name) (map package_value old) (package_value one ∷ []),
+  seen_more string_bytes names i item small here,
+  held,
+  same,
+) refl
 
--- one installed version more, if it is one that the document lacks
-lacking_more : (name version : List ℕ) (keys : List (List ℕ)) (has : Bool)
-    → cond has [] (kept_text name version ∷ []) ++ texts_with name keys
-    ≡ texts_with name (cond (not has) (version ∷ keys) keys)
-lacking_more name version keys true = refl
-lacking_more name version keys false = refl
+-- the keys in order are the versions that are picked and those that are installed
+pub with_both : (all picked installed keys : List (List ℕ)) → all ≡ picked ++ installed → IsInOrder keys
+    → ((key : List ℕ) → Contains keys key ↔ Contains all key) → AreWithInstalled picked installed keys
+with_both all picked installed keys is ordered same = record {
+  ordered = ordered;
+  exact = λ key. (
+    (λ there. Contains-append_cases picked installed key (rw is at ((same key).0 there))),
+    (λ either. (same key).1 (rw is (elim either [
+      | inl one ↦ Contains-append_left picked installed key one
+      | inr one ↦ Contains-append_right picked installed key one
+    ]))),
+  );
+}
 
--- the installed versions that a document lacks, one after another
-pub all_lacking : (packument : Data) (name : List ℕ) (versions : List (List ℕ))
-    → flat_map (lacking_in packument name) versions
-    ≡ texts_with name (filter (λ key. not (has_version packument key)) versions)
-all_lacking packument name [] = refl
-all_lacking packument name (version ∷ versions) =
-    ap (λ rest. lacking_in packument name version ++ rest) (all_lacking packument name versions)
-    ∙ lacking_more name version (filter (λ key. not (has_version packument key)) versions) (has_version packument version)
+-- one installed version more, if it passes a test, or not
+module _ (test : List ℕ → Bool) (versions : List (String Global)) (i : ℕ) (item : String Global) (old : List (List ℕ))
+    (small : i < length versions) (here : item ≡ get_or versions i item)
+    (held : old ≡ filter test (map string_bytes (take i versions))) where
+  next : (passes : Bool) → test (string_bytes item) ≡ passes
+      → filter test (map string_bytes (take (i + 1) versions)) ≡ old ++ cond passes (string_bytes item ∷ []) []
+  next passes is = rw (
+    seen_more string_bytes versions i item small here,
+    filter-append test (map string_bytes (take i versions)) (string_bytes item ∷ []),
+    held,
+    is,
+  ) refl
+
+  pub passed_more : (new : List (List ℕ)) → test (string_bytes item) ≡ true → new ≡ old ++ (string_bytes item ∷ [])
+      → new ≡ filter test (map string_bytes (take (i + 1) versions))
+  passed_more new is more = more ∙ sym (next true is)
+
+  pub failed_more : test (string_bytes item) ≡ false → old ≡ filter test (map string_bytes (take (i + 1) versions))
+  failed_more is = sym (next false is ∙ append-nil old)
 
 -- ---- dependencies of a lock file
 
@@ -107,11 +104,6 @@ pub edges_from : (edges : List Edge) (i : ℕ) (none : Edge) (here later : List 
     → AreAsksOfEdge (edge_value (get_or edges i none)) here → AreAsksOfEdges (map edge_value (drop (i + 1) edges)) later
     → AreAsksOfEdges (map edge_value (drop i edges)) (here ++ later)
 edges_from edges i none here later small is are = rw (drop_more edges i none small) (here, later, is, are, refl)
-
--- a dependency more
-pub asks_more : (old new : List Ask) (ask : Ask) → new ≡ old ++ (ask ∷ [])
-    → map ask_value new ≡ map ask_value old ++ (ask_value ask ∷ [])
-asks_more old new ask is = ap (map ask_value) is ∙ map-append ask_value old (ask ∷ [])
 
 -- ---- facts as values
 
@@ -122,30 +114,6 @@ not_is false is = ((λ _. λ p. cc (is.1 p)), (λ _. refl))
 pub no_truth : (b : Bool) → b ≡ false → IsTrue b → ⊥
 no_truth b is holds = cc (is, holds)
 
--- texts that are those of an equal list
-pub texts_like : (came all texts : List (List ℕ)) → came ≡ all
-    → ((text : List ℕ) → Contains texts text ↔ Contains came text)
-    → (text : List ℕ) → Contains texts text ↔ Contains all text
-texts_like came all texts is same = λ text. rw is at (same text)
-
--- the texts of a name are those of its requests
-pub texts_asked : (requests : List RegistrySpecValue) (name : List ℕ) (came texts : List (List ℕ))
-    → came ≡ texts_for name requests → ((text : List ℕ) → Contains texts text ↔ Contains came text)
-    → AreTextsOf requests name texts
-texts_asked requests name came texts is same = texts_like came (texts_for name requests) texts is same
-
--- ---- keys that are borrowed
-
-keys-seen : (name : List ℕ) (keys : List (Bor (List ℕ))) → map (λ key. kept_text name key.now) keys
-    ≡ map (λ key. kept_text name key) (map (λ key. key.now) keys)
-keys-seen name [] = refl
-keys-seen name (key ∷ keys) = ap (λ l. kept_text name key.now ∷ l) (keys-seen name keys)
-
-pub keys_added : (old new : List (List ℕ)) (name : List ℕ) (keys : List (Bor (List ℕ)))
-    → new ≡ old ++ map (λ key. kept_text name key.now) keys
-    → new ≡ old ++ map (λ key. kept_text name key) (map (λ key. key.now) keys)
-keys_added old new name keys is = is ∙ ap (λ l. old ++ l) (keys-seen name keys)
-
 -- ---- failures
 
 -- what holds of an error holds where the error is passed on
@@ -154,19 +122,10 @@ pub passed_on : {T E : Type 0} (result : Result T E) (P Q : E → Type 0) → Is
 passed_on (Ok x) P Q is then = tt
 passed_on (Err error) P Q is then = then error is
 
--- a document that was needed for the package of a name is needed for the requests
-pub needed_for_name : (Gives : Loads) (requests installed : List RegistrySpecValue) (names : List (String Global)) (i : ℕ)
-    (item : String Global) (error : RunError) → i < length names → item ≡ get_or names i item
-    → ((name : List ℕ) → Contains (map string_bytes names) name ↔ IsNeededFor requests installed name)
-    → IsLoadFailure (λ needed. needed ≡ string_bytes item) Gives error
-    → IsLoadFailure (IsNeededFor requests installed) Gives error
-needed_for_name Gives requests installed names i item RunErrors.Memory small here exact is = tt
-needed_for_name Gives requests installed names i item RunErrors.Write small here exact is = is
-needed_for_name Gives requests installed names i item (RunErrors.NoLock fault) small here exact is = is
-needed_for_name Gives requests installed names i item (RunErrors.Load error) small here exact is =
-    let long = length-map names string_bytes in
-    let inside : i < length (map string_bytes names) = omega (arith, long, small) in
-    let there : Contains (map string_bytes names) (string_bytes item) =
-    subst (Contains (map string_bytes names)) (get_or-map string_bytes names i item (string_bytes item) small ∙ ap string_bytes (sym here))
-    (Contains-get_or (map string_bytes names) i (string_bytes item) inside) in
-    (is.0, subst (IsNeededFor requests installed) (sym is.1) ((exact (string_bytes item)).0 there), is.2)
+-- a document that one part needs is needed for the whole
+pub needed_too : (Gives : Loads) (Part Whole : Needed) (error : RunError) → ((name : List ℕ) → Part name → Whole name)
+    → IsLoadFailure Part Gives error → IsLoadFailure Whole Gives error
+needed_too Gives Part Whole RunErrors.Memory to is = tt
+needed_too Gives Part Whole RunErrors.Write to is = is
+needed_too Gives Part Whole (RunErrors.NoLock fault) to is = is
+needed_too Gives Part Whole (RunErrors.Load error) to is = (is.0, to is.0 is.1, is.2)

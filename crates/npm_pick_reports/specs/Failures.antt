@@ -3,8 +3,7 @@ use Rattle.std.specs.Prelude.{◌≡◌, ◌⊎◌, Bool, List, Option, Some, ma
 use Rattle.serde_json.specs.Data.{Data}
 use Rattle.serde_json.specs.View.{view}
 use Rattle.npm_packages.specs.Edges.{AreLockEdges, EdgeValue}
-use Rattle.npm_pick_reports.specs.Loading.{IsLoadFailure, Loads}
-use Rattle.npm_pick_reports.specs.LockFailures.{IsLockFailure}
+use Rattle.npm_pick_reports.specs.Loading.{IsLoadFailure, IsLockFailure, Loads}
 use Rattle.npm_pick_reports.specs.declared.run_error.RunError.{RunError}
 use Rattle.npm_pick_reports.specs.declared.run_error.RunError.TheVariants.{Memory}
 use Rattle.npm_texts.specs.RegistrySpec.{RegistrySpecValue}

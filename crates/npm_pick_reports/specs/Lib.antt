@@ -1,7 +1,6 @@
 -- What the contracts of npm_pick_reports say, in reading order.
 
-pub mod Loading  -- why a question has no reply if a document is not loaded
-pub mod LockFailures  -- why it has none if a lock file has a fault
+pub mod Loading  -- why a question has no reply if a document is not loaded, or a lock file has a fault
 -- ---- dependencies that are outdated
 pub mod Outdated  -- which dependencies are outdated
 -- ---- a mirror
@@ -12,7 +11,6 @@ pub mod Mirror  -- the versions that a mirror keeps for them
 pub mod Reply  -- the reply to a question, and how the program ends
 pub mod Failures  -- why there is no reply
 -- ---- what programs about packages read
-pub mod Given  -- the times and versions that arguments name
 pub mod Manifest  -- which values are manifests
 pub mod PackumentFile  -- where the document of a package is
 -- ---- not part of any public contract: what private functions compute

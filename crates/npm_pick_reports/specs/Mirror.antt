@@ -1,6 +1,6 @@
 -- The versions that a mirror keeps.
-use Rattle.std.specs.Prelude.{◌≡◌, ◌↔◌, ◌⊎◌, ℕ, List, [], ◌∷◌, ◌++◌, Bool, true, false, not, Option, Some, None, Ok}
-use Rattle.std.specs.Prelude.{bytes_eq, codes, filter, if◌then◌else◌, is_some, map, option_and_then}
+use Rattle.std.specs.Prelude.{◌≡◌, ◌↔◌, ◌⊎◌, ◌&&◌, ◌==◌, ℕ, List, [], ◌∷◌, ◌++◌, Bool, true, false, not, Option, Some, None, Ok}
+use Rattle.std.specs.Prelude.{bytes_eq, codes, filter, if◌then◌else◌, is_some, length, map, option_and_then, string_bytes}
 use Rattle.std.specs.Cmp.Lexicographic.{slice_cmp}
 use Rattle.std.specs.List.{All, Contains, flat_map}
 use Rattle.std.specs.List.Sorted.{IsStrictlySortedBy}
@@ -15,6 +15,7 @@ use Rattle.npm_pick.specs.Kept.{IsInOrder, IsKept}
 use Rattle.npm_pick.specs.declared.options.Options.{Options}
 use Rattle.npm_pick_reports.specs.Asks.{AskValue}
 use Rattle.npm_pick_reports.specs.Loading.{Loads}
+use Rattle.npm_pick_reports.specs.declared.mirror.KeptPackage.{KeptPackage}
 
 -- ---- requests to a registry
 
@@ -66,60 +67,45 @@ pub record PackageValue : Type 0 where
   pub lacking : List (List ℕ)
   pub is_absent : Bool
 
--- The versions that are kept of a package: those for all its texts together, and each that is installed. A package without
--- a document keeps what is installed.
-pub data IsPackage (Gives : Loads) (options : Options) (all : Bool) (requests installed : List RegistrySpecValue)
-    (name : List ℕ)
-    : PackageValue → Type 0 where
-  absent : (versions keys : List (List ℕ)) → Gives name (Ok None) → AreTextsOf installed name versions
-      → AreWithInstalled [] versions keys
-      → IsPackage Gives options all requests installed name
-      (record { name = name; keys = keys; lacking = []; is_absent = true })
-  known : (packument : Value) (texts picked versions keys : List (List ℕ)) → Gives name (Ok (Some packument))
-      → AreTextsOf requests name texts → IsKept (view packument) options all texts picked
-      → AreTextsOf installed name versions → AreWithInstalled picked versions keys
-      → IsPackage Gives options all requests installed name (record {
-        name = name;
-        keys = keys;
-        lacking = filter (λ key. not (has_version (view packument) key)) versions;
-        is_absent = false;
-      })
+-- it has a document with all its installed versions
+abbrev pub is_complete : PackageValue → Bool
+is_complete one = not one.is_absent && (length one.lacking == 0)
 
--- a version of a package: `a@1.2.0`
-abbrev pub kept_text : (name key : List ℕ) → List ℕ
-kept_text name key = name ++ (codes "@" ++ key)
+-- What is kept of the package with this name: the versions for all its texts together, and each that is installed. A package
+-- without a document keeps what is installed.
+pub data IsPackageFor (Gives : Loads) (options : Options) (all : Bool) (name : List ℕ) (texts installed : List (List ℕ))
+    (one : PackageValue)
+    : Type 0 where
+  absent : Gives name (Ok None) → one.is_absent ≡ true → AreWithInstalled [] installed one.keys → one.lacking ≡ []
+      → IsPackageFor Gives options all name texts installed one
+  known : (packument : Value) (picked : List (List ℕ)) → Gives name (Ok (Some packument)) → one.is_absent ≡ false
+      → IsKept (view packument) options all texts picked → AreWithInstalled picked installed one.keys
+      → one.lacking ≡ filter (λ key. not (has_version (view packument) key)) installed
+      → IsPackageFor Gives options all name texts installed one
 
--- versions of a package
-abbrev pub texts_with : (name : List ℕ) → (keys : List (List ℕ)) → List (List ℕ)
-texts_with name keys = map (λ key. kept_text name key) keys
+-- the same for the texts of its requests, and for its installed versions
+pub record IsPackage (Gives : Loads) (options : Options) (all : Bool) (requests installed : List RegistrySpecValue)
+    (one : PackageValue)
+    : Type 0 where
+  pub texts : List (List ℕ)
+  pub versions : List (List ℕ)
+  pub asked : AreTextsOf requests one.name texts
+  pub found : AreTextsOf installed one.name versions
+  pub is : IsPackageFor Gives options all one.name texts versions one
 
--- the versions of a package that are kept, and those that its document lacks
-abbrev pub kept_of : PackageValue → List (List ℕ)
-kept_of one = texts_with one.name one.keys
-
-abbrev pub lacking_of : PackageValue → List (List ℕ)
-lacking_of one = texts_with one.name one.lacking
-
--- its name, if it has no document
-abbrev pub absent_of : PackageValue → List (List ℕ)
-absent_of one = if one.is_absent then one.name ∷ [] else []
-
--- These versions are kept of the packages with these names, one package after another; these packages have no document; and
--- these installed versions are not in one
-pub record AreKept (Gives : Loads) (options : Options) (all : Bool) (requests installed : List RegistrySpecValue)
-    (names kept absent lacking : List (List ℕ)) : Type 0 where
-  pub packages : List PackageValue
-  pub named : map (λ (one : PackageValue). one.name) packages ≡ names
-  pub found : All (λ (one : PackageValue). IsPackage Gives options all requests installed one.name one) packages
-  pub versions : kept ≡ flat_map kept_of packages
-  pub missing : absent ≡ flat_map absent_of packages
-  pub incomplete : lacking ≡ flat_map lacking_of packages
-
--- These versions are kept of the packages of all requests and of all that are installed, in the order of the bytes of the
--- names; these packages have no document; and these installed versions are not in one
+-- What is kept of the packages of all requests and of all that are installed, in the order of the bytes of their names
 pub record IsMirror (Gives : Loads) (options : Options) (all : Bool) (requests installed : List RegistrySpecValue)
-    (kept absent lacking : List (List ℕ)) : Type 0 where
-  pub names : List (List ℕ)
-  pub ordered : IsStrictlySortedBy (slice_cmp nat_cmp) names
-  pub exact : (name : List ℕ) → Contains names name ↔ IsNeededFor requests installed name
-  pub are : AreKept Gives options all requests installed names kept absent lacking
+    (packages : List PackageValue) : Type 0 where
+  pub ordered : IsStrictlySortedBy (slice_cmp nat_cmp) (map (λ (one : PackageValue). one.name) packages)
+  pub exact : (name : List ℕ) → Contains (map (λ (one : PackageValue). one.name) packages) name
+      ↔ IsNeededFor requests installed name
+  pub kept : All (IsPackage Gives options all requests installed) packages
+
+-- what a contract sees of a package
+abbrev pub package_value : KeptPackage → PackageValue
+package_value one = record {
+  name = string_bytes one.name;
+  keys = map string_bytes one.versions.items;
+  lacking = map string_bytes one.lacking.items;
+  is_absent = one.is_absent;
+}

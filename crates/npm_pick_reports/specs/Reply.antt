@@ -1,6 +1,6 @@
 -- The reply to a question, and how the program ends.
-use Rattle.std.specs.Prelude.{◌==◌, ◌&&◌, ℕ, List, Bool, Err, Ok, Option, count_by, length, map, option_map, string_bytes}
-use Rattle.std.specs.List.{AllZip, list_any}
+use Rattle.std.specs.Prelude.{ℕ, List, Bool, Err, Ok, Option, count_by, map, option_map}
+use Rattle.std.specs.List.{AllZip, list_all, list_any}
 use Rattle.serde_json.specs.Data.{Data}
 use Rattle.serde_json.specs.View.{view}
 use Rattle.npm_packages.specs.Edges.{AreLockEdges, EdgeValue}
@@ -12,7 +12,7 @@ use Rattle.npm_pick.specs.declared.options.Options.{Options}
 use Rattle.npm_pick_reports.specs.Asks.{AreAsks, AskValue}
 use Rattle.npm_pick_reports.specs.Installed.{AreInstalledIfAny}
 use Rattle.npm_pick_reports.specs.Loading.{Loads}
-use Rattle.npm_pick_reports.specs.Mirror.{IsMirror, requests_of}
+use Rattle.npm_pick_reports.specs.Mirror.{IsMirror, PackageValue, is_complete, package_value, requests_of}
 use Rattle.npm_pick_reports.specs.Outdated.{IsOutcome, OutcomeValue, is_absent, is_outdated, outcome_value}
 use Rattle.npm_pick_reports.specs.declared.reply.Ending.{Ending}
 use Rattle.npm_pick_reports.specs.declared.reply.Ending.TheVariants as Endings
@@ -21,13 +21,12 @@ use Rattle.npm_pick_reports.specs.declared.reply.Question.TheVariants as Questio
 use Rattle.npm_pick_reports.specs.declared.reply.Reply.{Reply}
 use Rattle.npm_pick_reports.specs.declared.reply.Reply.TheVariants as Replies
 
--- the version that is picked; the reason why none is; the outcome of each dependency; or what a mirror keeps, which packages
--- have no document, and which installed versions are not in one
+-- the version that is picked; the reason why none is; the outcome of each dependency; or what a mirror keeps of each package
 pub data ReplyValue : Type 0 where
   picked : PickedValue → ReplyValue
   nothing : PickError → ReplyValue
   compared : List OutcomeValue → ReplyValue
-  kept : (versions absent lacking : List (List ℕ)) → ReplyValue
+  kept : List PackageValue → ReplyValue
 
 -- the version that npm would install, or the reason why there is none; the empty text is `*`
 pub data IsPickedReply (packument : Data) (options : Options) (wanted : List ℕ) : ReplyValue → Type 0 where
@@ -45,10 +44,10 @@ pub data IsComparedReply (Gives : Loads) (lock : Data) (all : Bool) (options : O
 -- installed
 pub data IsKeptReply (Gives : Loads) (manifests : List Data) (lock : Option Data) (all : Bool) (options : Options)
     : ReplyValue → Type 0 where
-  of_all : (asks : List AskValue) (installed : List RegistrySpecValue) (versions absent lacking : List (List ℕ))
+  of_all : (asks : List AskValue) (installed : List RegistrySpecValue) (packages : List PackageValue)
       → AreAsks manifests lock asks → AreInstalledIfAny lock installed
-      → IsMirror Gives options all (requests_of asks) installed versions absent lacking
-      → IsKeptReply Gives manifests lock all options (kept versions absent lacking)
+      → IsMirror Gives options all (requests_of asks) installed packages
+      → IsKeptReply Gives manifests lock all options (kept packages)
 
 -- the reply to a question, where `load` returns these documents
 abbrev pub IsReply : Loads → Question → Options → ReplyValue → Type 0
@@ -64,12 +63,11 @@ abbrev pub ending_of : ReplyValue → Ending
 ending_of (picked version) = Endings.Picked
 ending_of (nothing error) = Endings.Nothing error
 ending_of (compared outcomes) = Endings.Compared (list_any is_outdated outcomes) (count_by is_absent outcomes)
-ending_of (kept versions absent lacking) = Endings.Kept ((length absent == 0) && (length lacking == 0))
+ending_of (kept packages) = Endings.Kept (list_all is_complete packages)
 
 -- what a contract sees of it
 abbrev pub reply_value : Reply → ReplyValue
 reply_value (Replies.Picked version) = picked (picked_value version)
 reply_value (Replies.Nothing error) = nothing error
 reply_value (Replies.Compared outcomes) = compared (map outcome_value outcomes.items)
-reply_value (Replies.Kept mirror notes) = kept (map string_bytes mirror.kept.items) (map string_bytes mirror.absent.items)
-    (map string_bytes mirror.lacking.items)
+reply_value (Replies.Kept packages notes) = kept (map package_value packages.items)

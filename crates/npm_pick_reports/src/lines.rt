@@ -1,5 +1,7 @@
 //! The lines of replies, and those of notes.
 use crate::format::Format;
+use crate::mirror::KeptPackage;
+use crate::mirror::texts::kept_texts;
 use crate::outdated::{Outcome, Row};
 use command_lines::push_shown;
 use npm_pick::Picked;
@@ -109,12 +111,13 @@ fn push_member(
 pub fn push_kept(
     alloc: Global,
     lines: &mut Vec<u8>,
-    kept: &[String],
+    packages: &[KeptPackage],
     format: Format,
 ) -> Result<(), AllocError> {
+    let kept = kept_texts(alloc, packages)?;
     match format {
-        Format::Text => push_lines(lines, "", kept),
-        Format::Json => push_list(alloc, lines, kept),
+        Format::Text => push_lines(lines, "", &kept),
+        Format::Json => push_list(alloc, lines, &kept),
     }
 }
 

@@ -5,34 +5,42 @@ ghost use Rattle.serde_json.specs.View.{view};
 ghost use Rattle.npm_texts.specs.RegistrySpec.{registry_spec_value};
 ghost use Rattle.npm_pick_reports.specs.Loading.{IsLoadFailure};
 ghost use Rattle.npm_pick_reports.specs.Mirror as Mirrors;
-ghost use Rattle.npm_pick_reports.specs.Mirror.{IsMirror, IsNeededFor, kept_text, texts_with};
-ghost use Rattle.npm_pick_reports.specs.Private.Mirroring.{AreKeysAdded, IsAddedFor, IsKnownAdded, IsUnknownAdded, lacking_in};
+ghost use Rattle.npm_pick_reports.specs.Mirror.{AreWithInstalled, IsMirror, IsNeededFor, IsPackageFor, package_value};
 
 pub mod asks;
 mod in_order;
 pub mod installed;
-pub mod key;
 pub mod notes;
 pub mod requests;
+pub mod texts;
 
 use crate::load_error::LoadError;
-use crate::mirror::key::with_installed;
-use crate::mirror::requests::{Groups, names_of};
+use crate::mirror::requests::{Groups, copies_of, names_of};
 use crate::run_error::RunError;
-use npm_pick::{Options, keep};
+use npm_pick::{Options, keep, keys_in_order};
 use npm_texts::RegistrySpec;
 use serde_json::Value;
 use std::alloc::{AllocError, Global};
 
-/// The versions that a mirror keeps.
+/// What a mirror keeps of a package.
 #[derive(Drop)]
-pub struct Mirror {
-    /// Versions of packages, as `a@1.2.0`.
-    pub kept: Vec<String>,
-    /// The names of packages that have no document.
-    pub absent: Vec<String>,
-    /// Installed versions that are not in the document of their package, as `a@1.2.0`.
+pub struct KeptPackage {
+    pub name: String,
+    /// The versions that are kept, in order.
+    pub versions: Vec<String>,
+    /// Installed versions that are not in its document.
     pub lacking: Vec<String>,
+    /// The package has no document.
+    pub is_absent: bool,
+}
+
+impl KeptPackage {
+    /// Returns `true` if the package has a document with all its installed versions.
+    pub fn is_complete(&self) -> bool
+        ensures { result ≡ Mirrors.is_complete (package_value self.now) }
+    {
+        !self.is_absent && self.lacking.is_empty()
+    }
 }
 
 /// Returns what a mirror keeps for these requests and these installed versions: of each package what `npm_pick::keep` keeps for all of
@@ -45,12 +53,10 @@ pub fn mirror_of<F: Fn(&str) -> Result<Option<Value>, LoadError>>(
     all: bool,
     options: &Options<'_>,
     load: F,
-) -> Result<Mirror, RunError>
+) -> Result<Vec<KeptPackage>, RunError>
     requires { F.IsAlwaysCallable load }
-    ensures mirror { IfOk result (λ mirror. IsMirror (FnReturnsAt F.Fn load) options.now all
-        (map registry_spec_value requests.now) (map registry_spec_value installed.now)
-        (map string_bytes mirror.kept.items) (map string_bytes mirror.absent.items)
-        (map string_bytes mirror.lacking.items)) }
+    ensures mirror { IfOk result (λ packages. IsMirror (FnReturnsAt F.Fn load) options.now all
+        (map registry_spec_value requests.now) (map registry_spec_value installed.now) (map package_value packages.items)) }
     ensures failed { IfErr result (IsLoadFailure
         (IsNeededFor (map registry_spec_value requests.now) (map registry_spec_value installed.now))
         (FnReturnsAt F.Fn load)) }
@@ -58,152 +64,106 @@ pub fn mirror_of<F: Fn(&str) -> Result<Option<Value>, LoadError>>(
     let names = names_of(alloc, requests, installed)?;
     let asked = Groups::of_requests(alloc, requests)?;
     let found = Groups::of_requests(alloc, installed)?;
-    let mut mirror = Mirror {
-        kept: Vec::new(alloc),
-        absent: Vec::new(alloc),
-        lacking: Vec::new(alloc),
-    };
+    let mut packages = Vec::new(alloc);
     for name in &names {
         let name = name.as_str();
         let texts = asked.texts_of(alloc, name)?;
         let versions = found.texts_of(alloc, name)?;
-        add_package(
-            alloc,
-            &mut mirror,
-            name,
-            &texts,
-            &versions,
-            all,
-            options,
-            &load,
-        )?;
+        let one = package_of(alloc, name, &texts, &versions, all, options, &load)?;
+        add_package(&mut packages, one)?;
     }
-    Ok(mirror)
+    Ok(packages)
 }
 
-/// Adds the versions of a package that are kept for these texts and these installed versions.
-fn add_package<F: Fn(&str) -> Result<Option<Value>, LoadError>>(
+/// Adds a package.
+fn add_package(packages: &mut Vec<KeptPackage>, one: KeptPackage) -> Result<(), AllocError>
+    ensures { OnOk result (packages.new.items ≡ packages.old.items ++ (one ∷ [])) }
+{
+    packages.push(one)?;
+    Ok(())
+}
+
+/// What is kept of a package for these texts and these installed versions.
+fn package_of<F: Fn(&str) -> Result<Option<Value>, LoadError>>(
     alloc: Global,
-    mirror: &mut Mirror,
     name: &str,
     texts: &[String],
     versions: &[String],
     all: bool,
     options: &Options<'_>,
     load: &F,
-) -> Result<(), RunError>
+) -> Result<KeptPackage, RunError>
     requires { F.IsAlwaysCallable load.now }
-    ensures added { OnOk result (IsAddedFor (FnReturnsAt F.Fn load.now) options.now all name.now
-        (map string_bytes texts.now) (map string_bytes versions.now) mirror.old mirror.new) }
+    ensures name { IfOk result (λ one. string_bytes one.name ≡ name.now) }
+    ensures found { IfOk result (λ one. IsPackageFor (FnReturnsAt F.Fn load.now) options.now all name.now
+        (map string_bytes texts.now) (map string_bytes versions.now) (package_value one)) }
     ensures failed { IfErr result (IsLoadFailure (λ needed. needed ≡ name.now) (FnReturnsAt F.Fn load.now)) }
 {
     match load(name) {
         Ok(Some(packument)) => {
-            add_known(
-                alloc, mirror, name, &packument, texts, versions, all, options,
-            )
+            let picked = keep(alloc, &packument, texts, options, all)?;
+            Ok(KeptPackage {
+                name: String::from_str(alloc, name)?,
+                versions: with_installed(alloc, &picked, versions)?,
+                lacking: lacking_of(alloc, &packument, versions)?,
+                is_absent: false,
+            })
         }
-        Ok(None) => add_unknown(alloc, mirror, name, versions),
+        Ok(None) => Ok(KeptPackage {
+            name: String::from_str(alloc, name)?,
+            versions: with_installed(alloc, &[], versions)?,
+            lacking: Vec::new(alloc),
+            is_absent: true,
+        }),
         Err(error) => Err(RunError::Load(error)),
     }
 }
 
-/// Adds the versions of a package that are kept, by its document.
-fn add_known(
+/// These versions of a package and those that are installed, in order, each once.
+fn with_installed(
     alloc: Global,
-    mirror: &mut Mirror,
-    name: &str,
-    packument: &Value,
-    texts: &[String],
-    versions: &[String],
-    all: bool,
-    options: &Options<'_>,
-) -> Result<(), RunError>
-    ensures added { OnOk result (IsKnownAdded (view packument.now) options.now all name.now (map string_bytes texts.now)
-        (map string_bytes versions.now) mirror.old mirror.new) }
-    ensures failed { IfErr result (λ error. error ≡ RunError.Memory) }
-{
-    let picked = keep(alloc, packument, texts, options, all)?;
-    add_keys(alloc, &mut mirror.kept, name, &picked, versions)?;
-    add_lacking(alloc, &mut mirror.lacking, name, packument, versions)?;
-    Ok(())
-}
-
-/// Adds the installed versions of a package that has no document, and its name.
-fn add_unknown(
-    alloc: Global,
-    mirror: &mut Mirror,
-    name: &str,
-    versions: &[String],
-) -> Result<(), RunError>
-    ensures added { OnOk result (IsUnknownAdded name.now (map string_bytes versions.now) mirror.old mirror.new) }
-    ensures failed { IfErr result (λ error. error ≡ RunError.Memory) }
-{
-    add_keys(alloc, &mut mirror.kept, name, &[], versions)?;
-    add_name(alloc, &mut mirror.absent, name)?;
-    Ok(())
-}
-
-/// Adds the name of a package.
-fn add_name(alloc: Global, names: &mut Vec<String>, name: &str) -> Result<(), AllocError>
-    ensures { OnOk result (map string_bytes names.new.items ≡ map string_bytes names.old.items ++ (name.now ∷ [])) }
-{
-    names.push(String::from_str(alloc, name)?)?;
-    Ok(())
-}
-
-/// Adds these versions of a package and those that are installed, in order.
-fn add_keys(
-    alloc: Global,
-    kept: &mut Vec<String>,
-    name: &str,
     picked: &[&str],
-    versions: &[String],
-) -> Result<(), AllocError>
-    ensures { OnOk result (AreKeysAdded name.now (map (λ key. key.now) picked.now) (map string_bytes versions.now)
-        (map string_bytes kept.old.items) (map string_bytes kept.new.items)) }
+    installed: &[String],
+) -> Result<Vec<String>, AllocError>
+    ensures { IfOk result (λ keys. AreWithInstalled (map (λ key. key.now) picked.now) (map string_bytes installed.now)
+        (map string_bytes keys.items)) }
 {
-    let keys = with_installed(alloc, picked, versions)?;
-    for key in &keys {
-        kept.push(text_of(alloc, name, key)?)?;
-    }
-    Ok(())
+    both_in_order(alloc, picked, installed)
 }
 
-/// Adds the installed versions that are not in the document.
-fn add_lacking(
+/// The same of texts that are lent for the same time.
+fn both_in_order<'k>(
     alloc: Global,
-    lacking: &mut Vec<String>,
-    name: &str,
+    picked: &[&'k str],
+    installed: &'k [String],
+) -> Result<Vec<String>, AllocError>
+    ensures { IfOk result (λ keys. AreWithInstalled (map (λ key. key.now) picked.now) (map string_bytes installed.now)
+        (map string_bytes keys.items)) }
+{
+    let mut keys = Vec::from_slice(alloc, picked)?;
+    for version in installed {
+        keys.push(version.as_str())?;
+    }
+    let ordered = keys_in_order(alloc, &keys)?;
+    copies_of(alloc, &ordered)
+}
+
+/// The installed versions that are not in the document.
+fn lacking_of(
+    alloc: Global,
     packument: &Value,
     versions: &[String],
-) -> Result<(), AllocError>
-    ensures { OnOk result (map string_bytes lacking.new.items ≡ map string_bytes lacking.old.items
-        ++ texts_with name.now (filter (λ key. not (Mirrors.has_version (view packument.now) key))
-        (map string_bytes versions.now))) }
+) -> Result<Vec<String>, AllocError>
+    ensures { IfOk result (λ lacking. map string_bytes lacking.items
+        ≡ filter (λ key. not (Mirrors.has_version (view packument.now) key)) (map string_bytes versions.now)) }
 {
+    let mut lacking = Vec::new(alloc);
     for version in versions {
-        add_if_lacking(alloc, lacking, name, packument, version.as_str())?;
+        if !has_version(packument, version.as_str()) {
+            lacking.push(String::from_str(alloc, version.as_str())?)?;
+        }
     }
-    Ok(())
-}
-
-/// Adds an installed version, if it is not in the document.
-fn add_if_lacking(
-    alloc: Global,
-    lacking: &mut Vec<String>,
-    name: &str,
-    packument: &Value,
-    version: &str,
-) -> Result<(), AllocError>
-    ensures { OnOk result (map string_bytes lacking.new.items
-        ≡ map string_bytes lacking.old.items ++ lacking_in (view packument.now) name.now version.now) }
-{
-    if has_version(packument, version) {
-        return Ok(());
-    }
-    lacking.push(text_of(alloc, name, version)?)?;
-    Ok(())
+    Ok(lacking)
 }
 
 /// Returns `true` if the document has this version.
@@ -214,14 +174,4 @@ fn has_version(packument: &Value, key: &str) -> bool
         Some(versions) => versions.get(key).is_some(),
         None => false,
     }
-}
-
-/// A version of a package.
-fn text_of(alloc: Global, name: &str, key: &str) -> Result<String, AllocError>
-    ensures { IfOk result (λ text. string_bytes text ≡ kept_text name.now key.now) }
-{
-    let mut text = String::from_str(alloc, name)?;
-    text.push_str("@")?;
-    text.push_str(key)?;
-    Ok(text)
 }

@@ -1,12 +1,14 @@
 //! The reply to a question, and how the program ends.
-ghost use Rattle.std.specs.Prelude.{◌≡◌, ◌⊎◌, ◌==◌, ◌&&◌, IfErr, IfOk, Some, count_by, length, map, option_map};
+ghost use Rattle.std.specs.Prelude.{◌≡◌, ◌⊎◌, IfErr, IfOk, Some, count_by, map, option_map};
 ghost use Rattle.std.specs.Fn.{FnReturnsAt};
-ghost use Rattle.std.specs.List.{list_any};
+ghost use Rattle.std.specs.List.{list_all, list_any};
 ghost use Rattle.serde_json.specs.View.{view};
-ghost use Rattle.npm_pick_reports.specs.LockFailures.{IsLockFailure};
+ghost use Rattle.npm_pick_reports.specs.Failures.{IsComparedFailure, IsFailure, IsKeptFailure};
+ghost use Rattle.npm_pick_reports.specs.Loading.{IsLockFailure};
+ghost use Rattle.npm_pick_reports.specs.Mirror as Mirrors;
+ghost use Rattle.npm_pick_reports.specs.Mirror.{package_value};
 ghost use Rattle.npm_pick_reports.specs.Outdated as Rows;
 ghost use Rattle.npm_pick_reports.specs.Outdated.{outcome_value};
-ghost use Rattle.npm_pick_reports.specs.Failures.{IsComparedFailure, IsFailure, IsKeptFailure};
 ghost use Rattle.npm_pick_reports.specs.Reply.{IsComparedReply, IsKeptReply, IsPickedReply, IsReply, ending_of, reply_value};
 
 use crate::format::Format;
@@ -15,7 +17,7 @@ use crate::load_error::LoadError;
 use crate::mirror::asks::asked_of;
 use crate::mirror::notes::notes_of;
 use crate::mirror::requests::requests_of;
-use crate::mirror::{Mirror, mirror_of};
+use crate::mirror::{KeptPackage, mirror_of};
 use crate::outdated::{Outcome, outcomes_of};
 use crate::run_error::RunError;
 use npm_packages::{CheckError, edges_of};
@@ -44,8 +46,8 @@ pub enum Reply<'a> {
     Nothing(PickError),
     /// The outcome of each dependency.
     Compared(Vec<Outcome<'a>>),
-    /// What a mirror keeps, and notes about the rest.
-    Kept(Mirror, Vec<String>),
+    /// What a mirror keeps of each package, and notes about the rest.
+    Kept(Vec<KeptPackage>, Vec<String>),
 }
 
 /// How the program ends.
@@ -157,9 +159,9 @@ fn kept_reply<'a, F: Fn(&str) -> Result<Option<Value>, LoadError>>(
 {
     let asked = asked_of(alloc, manifests, lock)?;
     let requests = requests_of(alloc, &asked.asks)?;
-    let mirror = mirror_of(alloc, &requests, &asked.installed, all, options, load)?;
-    let notes = notes_of(alloc, &asked.asks, &mirror)?;
-    Ok(Reply::Kept(mirror, notes))
+    let packages = mirror_of(alloc, &requests, &asked.installed, all, options, load)?;
+    let notes = notes_of(alloc, &asked.asks, &packages)?;
+    Ok(Reply::Kept(packages, notes))
 }
 
 impl<'a> Reply<'a> {
@@ -173,7 +175,7 @@ impl<'a> Reply<'a> {
             Reply::Compared(outcomes) => {
                 Ending::Compared(has_outdated(outcomes), absent_count(outcomes))
             }
-            Reply::Kept(mirror, _) => Ending::Kept(is_complete(mirror)),
+            Reply::Kept(packages, _) => Ending::Kept(are_complete(packages)),
         }
     }
 
@@ -184,7 +186,7 @@ impl<'a> Reply<'a> {
             Reply::Picked(picked) => push_picked(alloc, &mut lines, *picked, format)?,
             Reply::Nothing(_) => {}
             Reply::Compared(outcomes) => push_outcomes(alloc, &mut lines, outcomes, format)?,
-            Reply::Kept(mirror, _) => push_kept(alloc, &mut lines, &mirror.kept, format)?,
+            Reply::Kept(packages, _) => push_kept(alloc, &mut lines, packages, format)?,
         }
         Ok(lines)
     }
@@ -217,8 +219,8 @@ fn absent_count(outcomes: &[Outcome<'_>]) -> usize
 }
 
 /// Returns `true` if each package has a document with all its installed versions.
-fn is_complete(mirror: &Mirror) -> bool
-    ensures { result ≡ ((length mirror.now.absent.items == 0) && (length mirror.now.lacking.items == 0)) }
+fn are_complete(packages: &[KeptPackage]) -> bool
+    ensures { result ≡ list_all (λ one. Mirrors.is_complete (package_value one)) packages.now }
 {
-    mirror.absent.is_empty() && mirror.lacking.is_empty()
+    packages.iter().all(KeptPackage::is_complete)
 }

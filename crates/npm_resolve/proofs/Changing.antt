@@ -10,7 +10,7 @@ use Rattle.version_solving.specs.declared.demand.Demand.{Demand}
 use Rattle.version_solving.specs.declared.documents.Documents.{Documents}
 use Rattle.version_solving.specs.declared.documents.Package.{Package}
 use Rattle.version_solving.specs.declared.documents.Range.{Range}
-use Rattle.npm_resolve.proofs.Zips.{zip_weaker}
+use Rattle.npm_pick.specs.Lemmas.Zips.{zip_weaker}
 use Rattle.npm_resolve.specs.Explanations.{IsCulprit}
 use Rattle.npm_resolve.specs.declared.conflict.Culprit.{Culprit}
 use Rattle.npm_resolve.specs.declared.posed.Posed.{Posed}

@@ -20,7 +20,7 @@ use Rattle.npm_resolve.specs.Private.Gathering as Gathered
 use Rattle.npm_resolve.specs.declared.documents.Document.{Document}
 use Rattle.npm_resolve.specs.declared.requests.Request.{Request}
 use Rattle.npm_resolve.specs.declared.requests.Requests.{Requests}
-use Rattle.npm_resolve.proofs.Zips.{zip_push}
+use Rattle.npm_pick.specs.Lemmas.Zips.{zip_push}
 
 -- ---- asks among more asks
 

@@ -4,7 +4,7 @@ use Rattle.std.proofs.lemmas.List.{map-append}
 use Rattle.version_solving.specs.Wishes.{SomeMakes}
 use Rattle.version_solving.specs.declared.reasoning.reason.Wish.{Wish}
 use Rattle.npm_resolve.specs.Explanations.{AreKeys, asks, candidates_of, key_at, other}
-use Rattle.npm_resolve.specs.ReasonValues.{text}
+use Rattle.npm_resolve.specs.Texts.{text}
 use Rattle.npm_resolve.specs.declared.posed.Posed.{Posed}
 
 module _ (posed : Posed) (name : ℕ) (wish : Wish) (candidate : ℕ) (keys : List (Bor (List ℕ)))

@@ -10,4 +10,3 @@ mod Needing
 mod Reaching
 mod Unmet
 mod Wishing
-mod Zips

@@ -9,7 +9,7 @@ use Rattle.npm_resolve.specs.declared.candidates.asks.Asks.{Asks}
 use Rattle.npm_resolve.specs.declared.candidates.options.Omits.{Omits}
 use Rattle.npm_resolve.specs.Private.Wishing.{AreWishesAdded}
 use Rattle.npm_resolve.specs.Wishes.{AreWishes, IsWish, WishesValue}
-use Rattle.npm_resolve.proofs.Zips.{item_more}
+use Rattle.npm_pick.specs.Lemmas.Zips.{item_more}
 
 -- the list of one part more
 parts_more : {X Y : Type 0} (part : X → List Y) (old new : List Y) (each : List X) (one : X) → old ≡ flat_map part each

@@ -14,7 +14,7 @@ use Rattle.npm_resolve.specs.Explanations.{IsConflict}
 use Rattle.npm_resolve.specs.Instance.{IsInstance, key_of}
 use Rattle.npm_resolve.specs.Missing.{missing_among}
 use Rattle.npm_resolve.specs.Optional.{unmet_names}
-use Rattle.npm_resolve.specs.ReasonValues.{text}
+use Rattle.npm_resolve.specs.Texts.{text}
 use Rattle.npm_resolve.specs.Rules.{rules_of, unread_among}
 use Rattle.npm_resolve.specs.declared.answer.Answer.{Answer}
 use Rattle.npm_resolve.specs.declared.answer.Chosen.{Chosen}

@@ -22,12 +22,17 @@ use Rattle.version_solving.specs.Naming.{IsAskOf}
 use Rattle.version_solving.specs.declared.ask.Listed.{Listed}
 use Rattle.version_solving.specs.declared.wanted.Wanted.{Wanted}
 use Rattle.npm_resolve.specs.Instance.{key_of}
-use Rattle.npm_resolve.specs.ReasonValues.{ReasonValue, SourceValue, TermValue, WishValue, asking, of_lines, of_root, of_versions, outside, reason_value, text}
 use Rattle.npm_resolve.specs.declared.conflict.Conflict.{Conflict}
 use Rattle.npm_resolve.specs.declared.conflict.Culprit.{Culprit}
 use Rattle.npm_resolve.specs.declared.conflict.Reason.{Reason}
+use Rattle.npm_resolve.specs.declared.conflict.Source.{Source}
+use Rattle.npm_resolve.specs.declared.conflict.Source.TheVariants as Sources
+use Rattle.npm_resolve.specs.declared.conflict.Term.{Term}
+use Rattle.npm_resolve.specs.declared.conflict.Term.TheVariants as Terms
+use Rattle.npm_resolve.specs.declared.conflict.Wish.{Wish}
 use Rattle.npm_resolve.specs.declared.instance.Offer.{Offer}
 use Rattle.npm_resolve.specs.declared.posed.Posed.{Posed}
+use Rattle.npm_resolve.specs.Texts.{text}
 
 -- ---- what numbers stand for; those of what is posed are there
 
@@ -40,12 +45,16 @@ spec_of posed range = option_map_or (λ (wanted : Wanted). wanted.spec.now) (sli
 abbrev pub key_at : Posed → (name candidate : ℕ) → List ℕ
 key_at posed name candidate = option_map_or (λ (offer : Offer). key_of offer candidate) (slice_get posed.offers.items name) []
 
-abbrev pub wish_of : Posed → LineWish → WishValue
-wish_of posed wish = record { name = name_of posed wish.name; spec = option_map (spec_of posed) wish.range; needed = wish.needed }
+-- The wish is this one.
+pub record IsWish (posed : Posed) (line : LineWish) (wish : Wish) : Type 0 where
+  pub name : wish.name.now ≡ name_of posed line.name
+  pub spec : option_map text wish.spec ≡ option_map (spec_of posed) line.range
+  pub needed : wish.needed ≡ line.needed
 
-abbrev pub term_of : Posed → LineTerm → TermValue
-term_of posed (Making name wish) = asking (name_of posed name) (wish_of posed wish)
-term_of posed (Against wish) = outside (wish_of posed wish)
+abbrev pub IsTerm : Posed → LineTerm → Term → Type 0
+IsTerm posed (Making name line) (Terms.Asking asker wish) = (asker.now ≡ name_of posed name) × IsWish posed line wish
+IsTerm posed (Against line) (Terms.Outside wish) = IsWish posed line wish
+IsTerm posed line term = ⊥
 
 -- ---- lines
 
@@ -65,19 +74,17 @@ pub data AreKeys (posed : Posed) (name : ℕ) (wish : LineWish) : (candidate : �
 abbrev pub AreKeysOf : Posed → (name : ℕ) → LineWish → (keys : List (List ℕ)) → Type 0
 AreKeysOf posed name wish keys = AreKeys posed name wish ((candidates_of posed).count name) keys
 
-abbrev pub IsSourceOf : Posed → LineSource → SourceValue → Type 0
-IsSourceOf posed (Root demand) source = source ≡ of_root (wish_of posed (Reasons.wish_of demand))
-IsSourceOf posed (Candidates name wish) source = (keys : List (List ℕ)) × AreKeysOf posed name wish keys
-    × (source ≡ of_versions (name_of posed name) (wish_of posed wish) keys)
-IsSourceOf posed (Lines name lines) source = source ≡ of_lines (name_of posed name) lines.items
+abbrev pub IsSource : Posed → LineSource → Source → Type 0
+IsSource posed (Root demand) (Sources.Root wish) = IsWish posed (Reasons.wish_of demand) wish
+IsSource posed (Candidates name line) (Sources.Versions asker wish keys) = (asker.now ≡ name_of posed name)
+    × IsWish posed line wish × AreKeysOf posed name line (map text keys.items)
+IsSource posed (Lines name lines) (Sources.Lines asker numbers) = (asker.now ≡ name_of posed name) × (numbers.items ≡ lines.items)
+IsSource posed line source = ⊥
 
 -- The line in names, specs and versions.
-pub record IsLineOf (posed : Posed) (line : Line) (value : ReasonValue) : Type 0 where
-  pub source : IsSourceOf posed line.source value.source
-  pub terms : value.terms ≡ map (term_of posed) line.terms.items
-
-abbrev pub IsReasonOf : Posed → Line → Reason → Type 0
-IsReasonOf posed line reason = IsLineOf posed line (reason_value reason)
+pub record IsReasonOf (posed : Posed) (line : Line) (reason : Reason) : Type 0 where
+  pub source : IsSource posed line.source reason.source
+  pub terms : AllZip (IsTerm posed) line.terms.items reason.terms.items
 
 -- ---- what cannot be met together
 

@@ -3,6 +3,7 @@
 -- `AreCandidates` of Candidates is the claim of `candidates_of`, `IsLock` of Lock that of `lock_of`, and `IsLockText` of LockText that of
 -- `lock_text`.
 
+pub mod Texts  -- what a contract sees of a text
 pub mod Asks  -- what a manifest asks for
 pub mod Preference  -- which of two candidates is preferred
 pub mod Candidates  -- the versions of a document that can be chosen
@@ -13,7 +14,6 @@ pub mod Wishes  -- what manifests ask for
 pub mod Documents  -- the documents that are needed
 pub mod Optional  -- optional dependencies of the root
 pub mod Instance  -- the problem that manifests and documents pose
-pub mod ReasonValues  -- what a contract sees of a culprit and of a line
 pub mod Missing  -- names without a document that rule versions out
 pub mod Explanations  -- what cannot be met together, and why
 pub mod Answers  -- what an answer says

@@ -4,7 +4,7 @@ ghost use Rattle.version_solving.specs.declared.ask.Listed.{Listed};
 ghost use Rattle.npm_resolve.specs.Instance.{AreAbsent, AreAskersNamed, IsAskNamed, IsNamed};
 ghost use Rattle.npm_resolve.specs.Missing as Missing;
 ghost use Rattle.npm_resolve.specs.Private.Naming.{AreNamesAdded};
-ghost use Rattle.npm_resolve.specs.ReasonValues.{text};
+ghost use Rattle.npm_resolve.specs.Texts.{text};
 
 use crate::Result;
 use crate::missing::missing_among;

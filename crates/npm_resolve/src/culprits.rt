@@ -5,7 +5,7 @@ ghost use Rattle.version_solving.specs.Documents.{problem_of};
 ghost use Rattle.version_solving.specs.Fitting.{IsChange};
 ghost use Rattle.version_solving.specs.Naming.{IsAskOf};
 ghost use Rattle.npm_resolve.specs.Explanations.{IsCulprit, fitting_key};
-ghost use Rattle.npm_resolve.specs.ReasonValues.{text};
+ghost use Rattle.npm_resolve.specs.Texts.{text};
 
 use crate::Result;
 use crate::conflict::Culprit;

@@ -2,8 +2,8 @@
 ghost use Rattle.std.specs.Prelude.{◌≡◌, IfOk, map};
 ghost use Rattle.std.specs.List.{AllZip};
 ghost use Rattle.npm_resolve.specs.Explanations as Explanations;
-ghost use Rattle.npm_resolve.specs.Explanations.{AreKeysOf, IsReasonOf, IsSourceOf};
-ghost use Rattle.npm_resolve.specs.ReasonValues.{source_value, term_value, text, wish_value};
+ghost use Rattle.npm_resolve.specs.Explanations.{AreKeysOf, IsReasonOf, IsSource, IsTerm, IsWish};
+ghost use Rattle.npm_resolve.specs.Texts.{text};
 
 use crate::Result;
 use crate::conflict::{Reason, Source, Term, Wish};
@@ -35,7 +35,7 @@ fn source_of<'v>(
     posed: &Posed<'v>,
     source: &version_solving::Source,
 ) -> Result<Source<'v>>
-    ensures { IfOk result (λ found. IsSourceOf posed.now source.now (source_value found)) }
+    ensures { IfOk result (λ found. IsSource posed.now source.now found) }
 {
     match source {
         version_solving::Source::Root(demand) => {
@@ -63,7 +63,7 @@ fn terms_of<'v>(
     posed: &Posed<'v>,
     terms: &[version_solving::Term],
 ) -> Result<Vec<Term<'v>>>
-    ensures { IfOk result (λ found. map term_value found.items ≡ map (Explanations.term_of posed.now) terms.now) }
+    ensures { IfOk result (λ found. AllZip (IsTerm posed.now) terms.now found.items) }
 {
     let mut found = Vec::with_capacity(alloc, terms.len())?;
     for term in terms {
@@ -74,7 +74,7 @@ fn terms_of<'v>(
 
 /// A term.
 fn term_of<'v>(posed: &Posed<'v>, term: version_solving::Term) -> Term<'v>
-    ensures { term_value result ≡ Explanations.term_of posed.now term }
+    ensures { IsTerm posed.now term result }
 {
     match term {
         version_solving::Term::Making(name, wish) => {
@@ -86,7 +86,7 @@ fn term_of<'v>(posed: &Posed<'v>, term: version_solving::Term) -> Term<'v>
 
 /// A wish.
 fn wish_of<'v>(posed: &Posed<'v>, wish: version_solving::Wish) -> Wish<'v>
-    ensures { wish_value result ≡ Explanations.wish_of posed.now wish }
+    ensures { IsWish posed.now wish result }
 {
     let spec = match wish.range {
         Some(range) => Some(spec_of(posed, range)),

@@ -5,7 +5,7 @@ ghost use Rattle.version_solving.specs.declared.ask.Ask.{Ask};
 ghost use Rattle.version_solving.specs.declared.ask.Asker.{Asker};
 ghost use Rattle.version_solving.specs.declared.ask.Listed.{Listed};
 ghost use Rattle.npm_resolve.specs.Missing as Missing;
-ghost use Rattle.npm_resolve.specs.ReasonValues.{text};
+ghost use Rattle.npm_resolve.specs.Texts.{text};
 ghost use Rattle.npm_resolve.specs.Private.Needing.{AreNeeded, has};
 
 use crate::Result;

@@ -4,7 +4,7 @@ ghost use Rattle.std.specs.List.{list_any};
 ghost use Rattle.serde_json.specs.View.{view};
 ghost use Rattle.npm_packages.specs.Asked as Asked;
 ghost use Rattle.npm_resolve.specs.Optional as Optional;
-ghost use Rattle.npm_resolve.specs.ReasonValues.{text};
+ghost use Rattle.npm_resolve.specs.Texts.{text};
 
 use crate::Result;
 use npm_packages::is_optional_peer;

@@ -4,7 +4,7 @@
 ghost use Rattle.std.specs.Prelude.{◌≡◌, IfOk, map};
 ghost use Rattle.version_solving.specs.declared.ask.Listed.{Listed};
 ghost use Rattle.npm_packages.specs.Rules.{rule_at};
-ghost use Rattle.npm_resolve.specs.ReasonValues.{text};
+ghost use Rattle.npm_resolve.specs.Texts.{text};
 ghost use Rattle.npm_resolve.specs.Rules as Counting;
 
 use crate::Result;

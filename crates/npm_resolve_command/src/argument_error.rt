@@ -35,12 +35,6 @@ pub enum ArgumentError<'a> {
     /// No folder of packuments is named.
     #[error("--packuments FOLDER is missing; --help lists the options")]
     NoPackuments,
-    /// The value of `--before` is no time.
-    #[error("--before takes a time, as 2024-03-01 or 2024-03-01T12:00:00Z, and not {0}; --help lists the options")]
-    Time(Quoted<'a>),
-    /// The value of `--node` is no version.
-    #[error("--node takes a version, as 20 or 20.11.1, and not {0}; --help lists the options")]
-    NodeVersion(Quoted<'a>),
     /// The value of `--steps` is no number.
     #[error("--steps takes a number below 18446744073709551616, and not {0}; --help lists the options")]
     Steps(Quoted<'a>),

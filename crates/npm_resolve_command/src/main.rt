@@ -20,15 +20,14 @@ use arguments::{Arguments, read_arguments};
 use command_lines::{Quoted, Shown, words_of};
 use help::{HELP, VERSION};
 use lock_file::{LockFile, lock_in};
-use npm_pick_reports::{checked_manifest, packument_in, value_at, version_of};
+use npm_pick_reports::{before_of, file_value, manifests_at, node_of, packument_in, version_of};
 use npm_resolve::Options;
 use npm_resolve_reports::{Done, Ending, Platform, Question, RunError, run};
 use program_error::ProgramError;
-use serde_json::Value;
 use std::io::Write;
 use std::process::ExitCode;
 use std::{fs, io};
-use values::{before_of, check_lock, folder_of, node_of, steps_of};
+use values::{check_lock, folder_of, steps_of};
 
 /// Ends with the status of `status_of`.
 fn main(rt: HostRuntime) -> ExitCode {
@@ -132,27 +131,6 @@ fn check_folder<'a>(rt: &HostRuntime, folder: &'a str) -> Result<(), ProgramErro
     }
 }
 
-/// Reads the manifests at these paths.
-fn manifests_at<'a>(rt: &HostRuntime, paths: &[&'a str]) -> Result<Vec<Value>, ProgramError<'a>> {
-    let mut manifests = Vec::new(rt.alloc());
-    for path in paths {
-        let manifest = manifest_at(rt, *path)?;
-        if manifests.push(manifest).is_err() {
-            return Err(ProgramError::Run(RunError::Memory));
-        }
-    }
-    Ok(manifests)
-}
-
-/// Reads a manifest.
-fn manifest_at<'a>(rt: &HostRuntime, path: &'a str) -> Result<Value, ProgramError<'a>> {
-    let value = file_value(rt, "--manifest", path)?;
-    match checked_manifest(value) {
-        Ok(manifest) => Ok(manifest),
-        Err(fault) => Err(ProgramError::Manifest(Quoted { text: path }, fault)),
-    }
-}
-
 /// Reads the lock file, if one is named.
 fn lock_file_at<'a>(
     rt: &HostRuntime,
@@ -163,18 +141,6 @@ fn lock_file_at<'a>(
     };
     let value = file_value(rt, "--lock", path)?;
     Ok(Some(LockFile { path, value }))
-}
-
-/// Reads the JSON value of the file after an option; `-` is standard input.
-fn file_value<'a>(
-    rt: &HostRuntime,
-    option: &'static str,
-    path: &'a str,
-) -> Result<Value, ProgramError<'a>> {
-    match value_at(rt, path) {
-        Ok(value) => Ok(value),
-        Err(error) => Err(ProgramError::File(option, Quoted { text: path }, error)),
-    }
 }
 
 /// Returns the exit status: 0 if versions fit together or a text was shown, 1 if none do, 3 if the steps were used up before either was

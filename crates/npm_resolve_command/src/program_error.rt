@@ -1,7 +1,8 @@
 //! Why the program ends with status 2.
 use crate::argument_error::ArgumentError;
-use command_lines::{InputError, Quoted, WordsError};
+use command_lines::{Quoted, WordsError};
 use npm_packages::Fault;
+use npm_pick_reports::ReadError;
 use npm_resolve_reports::RunError;
 use std::alloc::AllocError;
 use thiserror::Error;
@@ -15,15 +16,12 @@ pub enum ProgramError<'a> {
     /// The arguments have an error.
     #[error("{0}")]
     Argument(ArgumentError<'a>),
-    /// The file after this option was not read.
-    #[error("{0} {1}: {2}")]
-    File(&'static str, Quoted<'a>, InputError),
+    /// What an argument names was not read.
+    #[error("{0}")]
+    Read(ReadError<'a>),
     /// The folder of packuments is not there.
     #[error("--packuments {0}: no such folder")]
     NoFolder(Quoted<'a>),
-    /// The JSON value of this file is no manifest.
-    #[error("--manifest {0}: {1}")]
-    Manifest(Quoted<'a>, Fault),
     /// The JSON value of this file is no lock file.
     #[error("--lock {0}: {1}")]
     Lock(Quoted<'a>, Fault),
@@ -41,14 +39,20 @@ impl<'a> From<ArgumentError<'a>> for ProgramError<'a> {
     }
 }
 
-impl<'a> From<RunError> for ProgramError<'a> {
-    fn from(error: RunError) -> ProgramError<'a> {
-        ProgramError::Run(error)
+impl<'a> From<ReadError<'a>> for ProgramError<'a> {
+    fn from(error: ReadError<'a>) -> ProgramError<'a> {
+        ProgramError::Read(error)
     }
 }
 
 impl<'a> From<AllocError> for ProgramError<'a> {
     fn from(_error: AllocError) -> ProgramError<'a> {
         ProgramError::Run(RunError::Memory)
+    }
+}
+
+impl<'a> From<RunError> for ProgramError<'a> {
+    fn from(error: RunError) -> ProgramError<'a> {
+        ProgramError::Run(error)
     }
 }

@@ -1,12 +1,9 @@
-//! The folder, the time, the version and the number that the arguments name.
+//! The folder and the number that the arguments name.
 use crate::argument_error::ArgumentError;
 use crate::arguments::Arguments;
-use crate::program_error::ProgramError;
 use command_lines::Quoted;
-use npm_pick_reports::{time_given, version_given};
 use npm_resolve::Reach;
 use npm_resolve_reports::Format;
-use std::alloc::Global;
 
 /// So many steps are done if `--steps` names no number.
 const STEPS: u64 = 10_000_000;
@@ -37,35 +34,6 @@ pub fn check_lock<'a>(asked: &Arguments<'a>) -> Result<(), ArgumentError<'a>> {
         return Err(ArgumentError::LockOfManifests);
     }
     Ok(())
-}
-
-/// Returns the time of `--before`.
-pub fn before_of<'a>(
-    alloc: Global,
-    text: Option<&'a str>,
-) -> Result<Option<i128>, ProgramError<'a>> {
-    let Some(text) = text else {
-        return Ok(None);
-    };
-    let time = time_given(alloc, text)?;
-    if time.is_none() {
-        return Err(ProgramError::Argument(ArgumentError::Time(Quoted { text })));
-    }
-    Ok(time)
-}
-
-/// Returns the whole text of the version of `--node`.
-pub fn node_of<'a>(
-    alloc: Global,
-    text: Option<&'a str>,
-) -> Result<Option<String>, ProgramError<'a>> {
-    let Some(text) = text else {
-        return Ok(None);
-    };
-    match version_given(alloc, text)? {
-        Some(node) => Ok(Some(node)),
-        None => Err(ProgramError::Argument(ArgumentError::NodeVersion(Quoted { text }))),
-    }
 }
 
 /// Returns the number of `--steps`.

@@ -26,14 +26,6 @@ either_place [] ys i x is = inr (item_of ys i x is)
 either_place (y ∷ xs) ys zero x is = inl is
 either_place (y ∷ xs) ys (suc i) x is = either_place xs ys i x is
 
-pub zip_left : {X Y : Type 0} (R : X → Y → Type 0) (xs : List X) (ys : List Y) (i : ℕ) (x : X) → AllZip R xs ys
-    → slice_get xs i ≡ Some x → (y : Y) × (slice_get ys i ≡ Some y) × R x y
-zip_left R [] [] i x all is = absurd (cc is)
-zip_left R [] (y ∷ ys) i x all is = absurd all
-zip_left R (w ∷ xs) [] i x all is = absurd all
-zip_left R (w ∷ xs) (y ∷ ys) zero x all is = let same : w ≡ x = cc is in (y, refl, subst (λ z. R z y) same all.0)
-zip_left R (w ∷ xs) (y ∷ ys) (suc i) x all is = zip_left R xs ys i x all.1 is
-
 pub zip_right : {X Y : Type 0} (R : X → Y → Type 0) (xs : List X) (ys : List Y) (i : ℕ) (y : Y) → AllZip R xs ys
     → slice_get ys i ≡ Some y → (x : X) × (slice_get xs i ≡ Some x) × R x y
 zip_right R [] [] i y all is = absurd (cc is)
@@ -73,14 +65,6 @@ pub in_map : {X Y : Type 0} (f : X → Y) (xs : List X) (x : X) → Contains xs 
 in_map f xs x is =
     let at = place_of xs x is in
     item_of (map f xs) at.0 (f x) (slice_get-map f xs at.0 ∙ ap (option_map f) at.1)
-
-pub from_map : {X Y : Type 0} (f : X → Y) (xs : List X) (y : Y) → Contains (map f xs) y → (x : X) × Contains xs x × (f x ≡ y)
-from_map f [] y is = absurd (none_in y is)
-from_map f (x ∷ xs) y is = by_part (from_map f xs y) (in_cases (f x) (map f xs) y is) where
-  by_part : (Contains (map f xs) y → (z : _) × Contains xs z × (f z ≡ y)) → (f x ≡ y) ⊎ Contains (map f xs) y
-      → (z : _) × Contains (x ∷ xs) z × (f z ≡ y)
-  by_part more (inl here) = (x, first_in x xs, here)
-  by_part more (inr later) = let found = more later in (found.0, later_in x xs found.0 found.1, found.2)
 
 pub in_filter : {X : Type 0} (test : X → Bool) (xs : List X) (x : X) → Contains xs x → test x ≡ true → Contains (filter test xs) x
 in_filter test [] x is passes = absurd (none_in x is)

@@ -30,7 +30,8 @@ use Rattle.npm_resolve.specs.Optional.{root_demand}
 use Rattle.npm_resolve.specs.declared.documents.Document.{Document}
 use Rattle.npm_resolve_reports.specs.Locks.{packument_of}
 use Rattle.npm_resolve_laws.specs.Selected.{IsSelectedFrom}
-use Rattle.npm_resolve_laws.proofs.Lists.{either_place, from_map, item_of, place_of, place_within, zip_right}
+use Rattle.npm_pick.specs.Lemmas.Mapped.{contains_mapped}
+use Rattle.npm_resolve_laws.proofs.Lists.{either_place, item_of, place_of, place_within, zip_right}
 use Rattle.npm_resolve_laws.proofs.Numbers.{document_of, number_named}
 use Rattle.npm_resolve_laws.proofs.Types.{Offer, Posed}
 
@@ -134,7 +135,7 @@ module _ (manifests : List Value) (documents : List Document) (options : Options
 
   pub needed_named : (s : Selection) → Fits (problem_posed posed) s → (n : ℕ) → IsNeeded (problem_posed posed) s n → IsOfName n
   needed_named s fits n (by_root d inside needed) =
-      let from = from_map (root_demand manifests names posed.documents.ranges.items) posing.demands d
+      let from = contains_mapped (root_demand manifests names posed.documents.ranges.items) posing.demands d
       (subst (λ (ds : List Demand). Contains ds d) posing.root inside) in
       subst (λ (one : Demand). IsOfName one.name) from.2 (demand_named posed.wishes.items posing.demands posing.demanded from.0 from.1)
   needed_named s fits n (by_candidate other c d is_needed is inside needed) =

@@ -31,7 +31,7 @@ use Rattle.npm_resolve.specs.Answers.{ChosenValue, IsAnswer, IsResolution, chose
 use Rattle.npm_resolve.specs.Instance.{IsAllowed, IsAskNamed, IsInstance, IsMeaningFor, IsRangeFor}
 use Rattle.npm_resolve.specs.Instance as Posing
 use Rattle.npm_resolve.specs.Optional.{is_met, is_required, is_required_in, is_unmet, name_at, root_demand, unmet_names}
-use Rattle.npm_resolve.specs.ReasonValues.{text}
+use Rattle.npm_resolve.specs.Texts.{text}
 use Rattle.npm_resolve.specs.Wishes.{IsWish, WishesValue}
 use Rattle.npm_resolve.specs.declared.answer.Answer.{Answer}
 use Rattle.npm_resolve.specs.declared.answer.Resolution.{Resolution}
@@ -39,7 +39,9 @@ use Rattle.npm_resolve.specs.declared.answer.Resolution.TheVariants as Resolutio
 use Rattle.npm_resolve.specs.declared.documents.Document.{Document}
 use Rattle.npm_resolve_laws.specs.Selected.{AreAnswered, IfSelected, IsAllowedBy, IsAnswered, IsAnsweredFor, IsSound}
 use Rattle.npm_resolve_laws.specs.Selected as Answering
-use Rattle.npm_resolve_laws.proofs.Lists.{from_map, in_filter, in_flat_map, in_map, in_reverse, item_of, none_in, place_of, zip_left}
+use Rattle.npm_pick.specs.Lemmas.Mapped.{contains_mapped}
+use Rattle.npm_pick.specs.Lemmas.Zips.{zip_at}
+use Rattle.npm_resolve_laws.proofs.Lists.{in_filter, in_flat_map, in_map, in_reverse, item_of, none_in, place_of}
 use Rattle.npm_resolve_laws.proofs.Numbers.{chosen_in, in_selection}
 use Rattle.npm_resolve_laws.proofs.Optionals.{is_told, named_at, none_any, not_required}
 use Rattle.npm_resolve_laws.proofs.Posing.{IsAt, at_named, candidate_at, chosen_at, chosen_is, needed_named, problem_posed, selected_from, value_at}
@@ -90,7 +92,7 @@ module _ (manifests : List Value) (documents : List Document) (options : Options
 
   from_selected : (one : ChosenValue) → Contains selected one → (n : ℕ) × (c : ℕ) × (s n ≡ Some c) × (chosen_at posed.offers.items n c ≡ one)
   from_selected one there =
-      let choice = from_map (chosen_of posed.offers.items) choices one there in (
+      let choice = contains_mapped (chosen_of posed.offers.items) choices one there in (
         choice.0.name,
         choice.0.candidate,
         in_selection (problem_posed posed) (reverse choices) best.first choice.0
@@ -169,7 +171,7 @@ module _ (manifests : List Value) (documents : List Document) (options : Options
       by_range : (range : Range) → IsAllowed options.before ask.spec.now range spot.offer → allowed_in (Some range) c ≡ true
           → IsAllowedBy documents options ask.spec.now one
       by_range range are allows =
-          let each = zip_left (λ (candidate : Candidate) (allowed : Bool). IsTrue allowed ↔ IsAdmitted are.meaning candidate) spot.offer.candidates.items range.allowed.items c spot.candidate
+          let each = zip_at (λ (candidate : Candidate) (allowed : Bool). IsTrue allowed ↔ IsAdmitted are.meaning candidate) spot.offer.candidates.items range.allowed.items c spot.candidate
           are.each spot.candidate_at in
           let on : each.0 ≡ true = sym (ap (λ (o : Option Bool). unwrap_or o false) each.1) ∙ allows in
           admitted_by are.meaning (each.2.0 on) are.is
@@ -177,7 +179,7 @@ module _ (manifests : List Value) (documents : List Document) (options : Options
       allowed_so : (problem_posed posed).allows d.range c ≡ true → IsAllowedBy documents options ask.spec.now one
       allowed_so allows =
           let wanted = at.wanted in
-          let range = zip_left (IsRangeFor options.before posed.offers.items) posed.ranges.items posed.documents.ranges.items d.range wanted
+          let range = zip_at (IsRangeFor options.before posed.offers.items) posed.ranges.items posed.documents.ranges.items d.range wanted
           posing.allowed at.there in
           let offer_at : slice_get posed.offers.items wanted.name ≡ Some spot.offer = ap (slice_get posed.offers.items) at.of_name ∙ spot.offer_at in
           let are : IsAllowed options.before wanted.spec.now range.0 spot.offer =
@@ -218,9 +220,9 @@ module _ (manifests : List Value) (documents : List Document) (options : Options
         → All (Holds (problem_posed posed) s) demands → (ask : AskValue) → Contains (map ask_value asks) ask
         → IsAnswered documents options selected [] manifest ask
     all_answered asks demands are hold ask there =
-        let from = from_map ask_value asks ask there in
+        let from = contains_mapped ask_value asks ask there in
         let place = place_of asks from.0 from.1 in
-        let demand = zip_left (IsDemandOf names posed.ranges.items) asks demands place.0 from.0 are place.1 in
+        let demand = zip_at (IsDemandOf names posed.ranges.items) asks demands place.0 from.0 are place.1 in
         subst (IsAnswered documents options selected [] manifest) from.2 (by_demand from.0 demand.0 demand.2
         (answered from.0 demand.0 demand.2.name demand.2.range
         (All-contains (Holds (problem_posed posed) s) demands demand.0 hold (item_of demands place.0 demand.0 demand.1))))
@@ -270,12 +272,12 @@ module _ (manifests : List Value) (documents : List Document) (options : Options
       → AreAnswered documents options selected unmet (view manifest) Root (rules_of manifests) omits
   of_manifest manifest there name ask asked registered =
       let place = place_of manifests manifest there in
-      let wish = zip_left (IsWish (rules_of manifests) omits) manifests posing.asked.each place.0 manifest posing.asked.are place.1 in
+      let wish = zip_at (IsWish (rules_of manifests) omits) manifests posing.asked.each place.0 manifest posing.asked.are place.1 in
       let inside = asked_there (view manifest) Root (rules_of manifests) omits wish.0.asks wish.0.left_out wish.2 name ask asked registered in
-      let from = from_map ask_value posed.wishes.items ask (subst (λ (asks : List AskValue). Contains asks ask) (sym posing.asked.asked)
+      let from = contains_mapped ask_value posed.wishes.items ask (subst (λ (asks : List AskValue). Contains asks ask) (sym posing.asked.asked)
       (in_flat_map (λ (one : WishesValue). one.asks) posing.asked.each wish.0 ask (item_of posing.asked.each place.0 wish.0 wish.1) inside)) in
       let spot = place_of posed.wishes.items from.0 from.1 in
-      let demand = zip_left (IsDemandOf names posed.ranges.items) posed.wishes.items posing.demands spot.0 from.0 posing.demanded spot.1 in
+      let demand = zip_at (IsDemandOf names posed.ranges.items) posed.wishes.items posing.demands spot.0 from.0 posing.demanded spot.1 in
       subst (IsAnswered documents options selected unmet (view manifest)) from.2 (root_answered manifest there from.0 from.1 demand.0 demand.2
       (item_of posing.demands spot.0 demand.0 demand.1))
 

@@ -7,7 +7,7 @@ use Rattle.npm_texts.specs.SpecLaws.{IsAskedAsWritten}
 use Rattle.npm_resolve.specs.declared.candidates.options.Options.{Options}
 use Rattle.npm_resolve.specs.declared.candidates.owner.Reach.TheVariants.{Dependencies}
 use Rattle.npm_resolve.specs.Answers.{ChosenValue, IsAnswer}
-use Rattle.npm_resolve.specs.ReasonValues.{text}
+use Rattle.npm_resolve.specs.Texts.{text}
 use Rattle.npm_resolve.specs.declared.answer.Answer.{Answer}
 use Rattle.npm_resolve.specs.declared.answer.Resolution.{Resolution}
 use Rattle.npm_resolve.specs.declared.answer.Resolution.TheVariants as Resolutions

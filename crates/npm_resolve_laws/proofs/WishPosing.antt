@@ -36,7 +36,8 @@ use Rattle.npm_resolve.specs.declared.documents.Document.{Document}
 use Rattle.npm_resolve_laws.specs.Single.{AsksNothing, IsSingleWish}
 use Rattle.npm_resolve_laws.proofs.Optionals.{alone_off, still_needed}
 use Rattle.npm_resolve_laws.proofs.Places.{is_allowed}
-use Rattle.npm_resolve_laws.proofs.Zips.{head_zip, no_map, one_map, one_zip, zip_at, zip_length}
+use Rattle.npm_pick.specs.Lemmas.Zips.{zip_at, zip_length}
+use Rattle.npm_resolve_laws.proofs.Zips.{head_zip, no_map, one_map, one_zip}
 
 -- the lock file has no version of the name
 offered_are : (name : List ℕ) (options : Options) (document : Document) (cs : List Candidate)

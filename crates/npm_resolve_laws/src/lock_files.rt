@@ -7,7 +7,7 @@ ghost use Rattle.npm_resolve.specs.declared.candidates.options.Options.{Options}
 ghost use Rattle.npm_resolve.specs.declared.candidates.owner.Reach.{Reach};
 ghost use Rattle.npm_resolve.specs.declared.candidates.owner.Reach.TheVariants.{Dependencies};
 ghost use Rattle.npm_resolve.specs.Answers.{IsAnswer};
-ghost use Rattle.npm_resolve.specs.ReasonValues.{text};
+ghost use Rattle.npm_resolve.specs.Texts.{text};
 ghost use Rattle.npm_resolve.specs.declared.answer.Answer.{Answer};
 ghost use Rattle.npm_resolve.specs.declared.documents.Document.{Document};
 ghost use Rattle.npm_resolve.specs.Installed.{InstalledValue};

@@ -1,2 +1,1 @@
-mod Gathered
 pub mod Examples

@@ -7,7 +7,7 @@ use Rattle.npm_pick_reports.specs.Loading.{IsLoadFailure}
 use Rattle.npm_pick_reports.specs.declared.run_error.RunError.{RunError}
 use Rattle.npm_resolve.specs.Answers.{IsAnswer, chosen_value}
 use Rattle.npm_resolve.specs.Documents.{AreDocumentsFor}
-use Rattle.npm_resolve.specs.ReasonValues.{text}
+use Rattle.npm_resolve.specs.Texts.{text}
 use Rattle.npm_resolve.specs.declared.answer.Answer.{Answer}
 use Rattle.npm_resolve.specs.declared.answer.Resolution.{Resolution}
 use Rattle.npm_resolve.specs.declared.answer.Resolution.TheVariants as Resolutions

@@ -20,6 +20,7 @@ pub use format::Format;
 pub use lock::lock_lines;
 pub use npm_pick_reports::{LoadError, RunError};
 pub use object_text::{resolution_text, unread_text};
+pub use pieces::{Piece, push_pieces};
 pub use platform::Platform;
 pub use reply::{Done, Ending, Question, run};
 

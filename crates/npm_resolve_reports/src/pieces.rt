@@ -6,7 +6,7 @@ use std::alloc::Global;
 
 /// A piece of a line or of a JSON text.
 #[derive(Clone, Copy, Drop)]
-pub(crate) enum Piece<'a> {
+pub enum Piece<'a> {
     /// Words as they stand.
     Fixed(&'a str),
     /// A text in printable ASCII, for a line.
@@ -18,7 +18,7 @@ pub(crate) enum Piece<'a> {
 
 impl<'a> Piece<'a> {
     /// A JSON string, or `null` if there is no text.
-    pub(crate) fn json_or_null(text: Option<&'a str>) -> Piece<'a> {
+    pub fn json_or_null(text: Option<&'a str>) -> Piece<'a> {
         match text {
             Some(text) => Piece::Json(text),
             None => Piece::Fixed("null"),
@@ -26,13 +26,13 @@ impl<'a> Piece<'a> {
     }
 
     /// `true` or `false`.
-    pub(crate) fn flag(is_set: bool) -> Piece<'a> {
+    pub fn flag(is_set: bool) -> Piece<'a> {
         Piece::Fixed(if is_set { "true" } else { "false" })
     }
 }
 
 /// Adds pieces to a text.
-pub(crate) fn push_pieces(alloc: Global, text: &mut Vec<u8>, pieces: &[Piece<'_>]) -> Result<()> {
+pub fn push_pieces(alloc: Global, text: &mut Vec<u8>, pieces: &[Piece<'_>]) -> Result<()> {
     for piece in pieces {
         match piece {
             Piece::Fixed(words) => text.extend_from_slice(words.as_bytes())?,

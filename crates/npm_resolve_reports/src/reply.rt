@@ -2,7 +2,7 @@
 ghost use Rattle.std.specs.Prelude.{◌≡◌, ◌≢◌, List, ℕ, IfErr, IfOk, map};
 ghost use Rattle.std.specs.Fn.{FnReturnsAt};
 ghost use Rattle.std.specs.Io.KnownBytes.{Appends};
-ghost use Rattle.npm_resolve.specs.ReasonValues.{text};
+ghost use Rattle.npm_resolve.specs.Texts.{text};
 ghost use Rattle.npm_resolve_reports.specs.Reply as Replies;
 ghost use Rattle.npm_resolve_reports.specs.Reply.{AreFileLines, AreLines, IsFailure, IsReply, done_value, reply_value};
 

@@ -3,7 +3,5 @@ pub mod Answered
 pub mod Best
 pub mod Gathering
 pub mod Increments
-pub mod OpenedSets
 pub mod ReadTexts
 pub mod Satisfying
-pub mod SetNotes

@@ -9,7 +9,6 @@ pub mod Chosen  -- the versions of texts that are chosen
 pub mod Kept  -- which versions are written, and in which order
 pub mod Answer  -- those of a request
 pub mod Increment  -- the version after an increment
-pub mod Opened  -- which prereleases satisfy a set, for `--explain`
 pub mod Status  -- the exit status
 -- ---- not part of any public contract: what private functions compute
 pub mod Private

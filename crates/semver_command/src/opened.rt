@@ -1,11 +1,4 @@
 //! The prereleases that satisfy a set.
-ghost use Rattle.std.specs.Prelude.{◌≡◌, ◌∷◌, [], ⊤, IfOk};
-ghost use Rattle.semver_cuts.specs.Ends.{Ends};
-ghost use Rattle.node_semver.specs.Ranges.{IsRangeCut, IsRangeEnd, IsRangeSet, Opens};
-ghost use Rattle.node_semver.specs.Versions.{VersionValue, least_of, release};
-ghost use Rattle.semver_command.specs.Opened.{AreOpened, releases_of};
-ghost use Rattle.semver_command.specs.Private.Opening.{AreBoth, IsFound, prereleases_set};
-ghost use Rattle.node_semver.specs.Cuts.{Before};
 
 use node_semver::{Range, Version};
 use npm_semver::range_from_sets;
@@ -23,11 +16,7 @@ pub enum Opened {
 }
 
 /// Returns the releases whose prereleases satisfy the set. `alone` is the range with this set alone.
-pub fn opened_in(alloc: Global, alone: &Range, set: &Span<Version>) -> Result<Opened, AllocError>
-    requires set { IsRangeSet set.now }
-    requires alone { alone.now ≡ set.now ∷ [] }
-    ensures { IfOk result (λ opened. AreOpened set.now (releases_of opened)) }
-{
+pub fn opened_in(alloc: Global, alone: &Range, set: &Span<Version>) -> Result<Opened, AllocError> {
     let (lower, upper) = set.ends();
     let below = opened_by(alloc, alone, lower)?;
     let above = opened_by(alloc, alone, upper)?;
@@ -35,26 +24,16 @@ pub fn opened_in(alloc: Global, alone: &Range, set: &Span<Version>) -> Result<Op
 }
 
 /// The releases in ascending order, and equal ones once.
-fn in_order(below: Option<Version>, above: Option<Version>) -> Opened
-    ensures { (set : Ends VersionValue) → IsFound (set ∷ []) (Opens set.lower) below
-        → IsFound (set ∷ []) (Opens set.upper) above → AreOpened set (releases_of result) }
-{
+fn in_order(below: Option<Version>, above: Option<Version>) -> Opened {
     match (below, above) {
         (None, None) => Opened::Nothing,
         (Some(release), None) => Opened::One(release),
         (None, Some(release)) => Opened::One(release),
-        (Some(one), Some(other)) => both_in_order(one, other),
-    }
-}
-
-/// The two releases in ascending order, or one if they are equal.
-fn both_in_order(one: Version, other: Version) -> Opened
-    ensures { AreBoth one other (releases_of result) }
-{
-    match one.cmp(&other) {
-        Ordering::Less => Opened::Two(one, other),
-        Ordering::Equal => Opened::One(one),
-        Ordering::Greater => Opened::Two(other, one),
+        (Some(one), Some(other)) => match one.cmp(&other) {
+            Ordering::Less => Opened::Two(one, other),
+            Ordering::Equal => Opened::One(one),
+            Ordering::Greater => Opened::Two(other, one),
+        },
     }
 }
 
@@ -63,10 +42,7 @@ fn opened_by(
     alloc: Global,
     range: &Range,
     cut: &Cut<Version>,
-) -> Result<Option<Version>, AllocError>
-    requires { IsRangeCut cut.now }
-    ensures { IfOk result (IsFound range.now (Opens cut.now)) }
-{
+) -> Result<Option<Version>, AllocError> {
     match cut {
         Cut::Start | Cut::End => Ok(None),
         Cut::Before(version) | Cut::After(version) => opened_at(alloc, range, version),
@@ -74,14 +50,17 @@ fn opened_by(
 }
 
 /// The release that the version is a prerelease of, if a prerelease with this triple satisfies the range.
-fn opened_at(alloc: Global, range: &Range, version: &Version) -> Result<Option<Version>, AllocError>
-    requires { IsRangeEnd version.now }
-    ensures { IfOk result (IsFound range.now (Opens (Before version.now))) }
-{
+fn opened_at(
+    alloc: Global,
+    range: &Range,
+    version: &Version,
+) -> Result<Option<Version>, AllocError> {
     if !version.is_prerelease() {
         return Ok(None);
     }
-    let prereleases = prereleases_of(alloc, version)?;
+    let Some(prereleases) = prereleases_of(alloc, version)? else {
+        return Ok(None);
+    };
     match range.least_common(alloc, &prereleases)? {
         Some(_) => Ok(Some(release_of(alloc, version))),
         None => Ok(None),
@@ -89,29 +68,16 @@ fn opened_at(alloc: Global, range: &Range, version: &Version) -> Result<Option<V
 }
 
 /// The release with the triple of the version.
-fn release_of(alloc: Global, version: &Version) -> Version
-    ensures { result ≡ release version.now.major version.now.minor version.now.patch }
-{
+fn release_of(alloc: Global, version: &Version) -> Version {
     Version::new(alloc, version.major, version.minor, version.patch)
 }
 
-/// The least version with the triple of the version.
-fn least_of(alloc: Global, version: &Version) -> Result<Version, AllocError>
-    ensures { IfOk result (λ v. v ≡ least_of version.now.major version.now.minor version.now.patch) }
-{
-    Version::with_pre_release(alloc, version.major, version.minor, version.patch, 0)
-}
-
 /// The range that the prereleases with the triple of the version satisfy, and no other version: `>=1.2.3-0 <1.2.3`.
-fn prereleases_of(alloc: Global, version: &Version) -> Result<Range, AllocError>
-    requires { IsRangeEnd version.now }
-    ensures { IfOk result (λ range. range ≡ prereleases_set version.now ∷ []) }
-{
+fn prereleases_of(alloc: Global, version: &Version) -> Result<Option<Range>, AllocError> {
+    let least = Version::with_pre_release(alloc, version.major, version.minor, version.patch, 0)?;
     let release = release_of(alloc, version);
-    let least = least_of(alloc, version)?;
-    let set = Span::between(Cut::Before(least), Cut::Before(release));
-    match range_from_sets(alloc, slice::from_ref(&set))? {
-        Some(range) => Ok(range),
-        None => unreachable!(),
+    match Span::new(Cut::Before(least), Cut::Before(release)) {
+        Some(set) => range_from_sets(alloc, slice::from_ref(&set)),
+        None => Ok(None),
     }
 }

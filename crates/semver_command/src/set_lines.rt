@@ -1,9 +1,4 @@
 //! The sets of a range, a line each.
-ghost use Rattle.std.specs.Prelude.{◌≡◌, ◌∷◌, [], IfOk, MatchOption};
-ghost use Rattle.node_semver.specs.Ranges.{IsRangeSet};
-ghost use Rattle.node_semver.specs.Versions.{VersionValue};
-ghost use Rattle.npm_semver.specs.NpmRanges.{NpmSetsAdmit};
-ghost use Rattle.semver_command.specs.Opened.{IsNote};
 
 use crate::opened::{Opened, opened_in};
 use crate::stopped::Stopped;
@@ -35,10 +30,11 @@ pub fn write_sets<W: Write>(
 ) -> Result<(), Stopped> {
     let sets = range.sets(alloc)?;
     for set in &sets {
-        let alone = range_of_set(alloc, set)?;
-        let note = note_of(alloc, &alone, set, include_prerelease)?;
-        let line = line_of(alloc, &alone, &note)?;
-        write_text(writer, line.as_bytes())?;
+        if let Some(alone) = range_from_sets(alloc, slice::from_ref(set))? {
+            let note = note_of(alloc, &alone, set, include_prerelease)?;
+            let line = line_of(alloc, &alone, &note)?;
+            write_text(writer, line.as_bytes())?;
+        }
     }
     Ok(())
 }
@@ -56,49 +52,23 @@ fn line_of(alloc: Global, alone: &Range, note: &Note) -> Result<String, AllocErr
     }
 }
 
-/// The range with this set alone.
-fn range_of_set(alloc: Global, set: &Span<Version>) -> Result<Range, AllocError>
-    requires { IsRangeSet set.now }
-    ensures { IfOk result (λ range. range ≡ set.now ∷ []) }
-{
-    match range_from_sets(alloc, slice::from_ref(set))? {
-        Some(range) => Ok(range),
-        None => unreachable!(),
-    }
-}
-
 /// Which prereleases satisfy the set. `alone` is the range with this set alone.
 fn note_of(
     alloc: Global,
     alone: &Range,
     set: &Span<Version>,
     include_prerelease: bool,
-) -> Result<Note, AllocError>
-    requires set { IsRangeSet set.now }
-    requires alone { alone.now ≡ set.now ∷ [] }
-    ensures { IfOk result (IsNote include_prerelease set.now) }
-{
-    let Some(_) = least_in(alloc, alone, include_prerelease)? else {
-        return Ok(Note::NoVersions);
+) -> Result<Note, AllocError> {
+    let least = if include_prerelease {
+        alone.with_prereleases().min_version(alloc)?
+    } else {
+        alone.min_version(alloc)?
     };
+    if least.is_none() {
+        return Ok(Note::NoVersions);
+    }
     if include_prerelease {
         return Ok(Note::AllInside);
     }
     Ok(Note::Of(opened_in(alloc, alone, set)?))
-}
-
-/// The least version that satisfies the range.
-fn least_in(
-    alloc: Global,
-    range: &Range,
-    include_prerelease: bool,
-) -> Result<Option<Version>, AllocError>
-    ensures { IfOk result (λ least. MatchOption least
-        ((v : VersionValue) → ¬ NpmSetsAdmit include_prerelease range.now v)
-        (NpmSetsAdmit include_prerelease range.now)) }
-{
-    if include_prerelease {
-        return range.with_prereleases().min_version(alloc);
-    }
-    range.min_version(alloc)
 }

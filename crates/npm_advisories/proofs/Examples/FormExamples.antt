@@ -1,23 +1,21 @@
 -- The advisories of some files in npm's form and in OSV's, and the faults of others.
 use Rattle.std.proofs.Common.{◌≡◌, ◌∷◌, [], List, ℕ, Some, None, arith, codes, false, map, refl, true}
-use Rattle.std.specs.Fmt.{digits}
-use Rattle.serde_json.specs.Data.{Data, Items, array, item, member, no_items, no_members, null, number, object, string}
-use Rattle.serde_json.specs.Data.{unsigned}
+use Rattle.serde_json.specs.Data.{Data, Items, array, item, member, no_items, no_members, null, object, string}
 use Rattle.toml_datetime.proofs.OnLiterals.{toml_datetime_on_literals}
 use Rattle.toml_datetime.specs.declared.datetime.Date.{Date}
 use Rattle.semver_versions.specs.Lemmas.Public.{is-version_in, version_in}
 use Rattle.node_semver.specs.Versions.{IsVersionText, release}
-use Rattle.npm_advisories.specs.Advisories.{AboutValue, in_osv, npm_about, range_text}
+use Rattle.npm_advisories.specs.Advisories.{AboutValue, in_osv, range_text}
 use Rattle.npm_advisories.specs.KnownIds.{is_known_as}
 use Rattle.npm_advisories.specs.OsvForm.{osv_about}
 use Rattle.npm_advisories.specs.Faults.{fault_at}
 use Rattle.npm_advisories.specs.Files.{IsFileFault, advisories_of}
-use Rattle.npm_advisories.specs.Ids.{id_in, number as id_number, text as id_text}
+use Rattle.npm_advisories.specs.Ids.{text as id_text}
 use Rattle.npm_advisories.specs.OsvRanges.{fixed, introduced}
 use Rattle.npm_advisories.specs.Severities.{is_at_least, severity_of_text}
 use Rattle.npm_advisories.specs.Timestamps.{day_of, is_timestamp}
 use Rattle.npm_advisories.specs.declared.fault.FaultKind.TheVariants as Faults
-use Rattle.npm_advisories.specs.declared.severity.Severity.TheVariants.{Critical, High, Info, Low, Moderate, Unknown}
+use Rattle.npm_advisories.specs.declared.severity.Severity.TheVariants.{Critical, High, Low, Moderate, Unknown}
 
 two : IsVersionText (codes "2.0.0") (release 2 0 0)
 unfolding version_in
@@ -43,18 +41,6 @@ unsaid id = record { id = string id; severity = Unknown; title = None; url = Non
 pub an_object_with_lists_is_npms_form : advisories_of today in_npm
     ≡ record { name = codes "a"; about = unsaid (codes "N"); affected = range_text (codes "<2") } ∷ []
 an_object_with_lists_is_npms_form = refl
-
--- with no range, or `null`, all versions are affected
-pub no_range_is_all_versions : advisories_of today (only (codes "a") (array
-    (item (only (codes "id") (string (codes "N"))) (item (object (member (codes "id") (string (codes "N"))
-    (member (codes "vulnerable_versions") null no_members))) no_items))))
-    ≡ record { name = codes "a"; about = unsaid (codes "N"); affected = range_text (codes "*") }
-    ∷ record { name = codes "a"; about = unsaid (codes "N"); affected = range_text (codes "*") } ∷ []
-no_range_is_all_versions = refl
-
--- a package may be called `id`
-pub a_list_under_id_is_npms_form : advisories_of today (only (codes "id") (array no_items)) ≡ []
-a_list_under_id_is_npms_form = refl
 
 -- ---- OSV's form
 
@@ -104,11 +90,6 @@ pub an_ecosystem_range_is_read : advisories_of today (osv_of (item (element (cod
     (item (up_to (codes "ECOSYSTEM") (codes "2.0.0")) no_items)) no_items)) ≡ advisories_of today in_osvs
 an_ecosystem_range_is_read = refl
 
-pub a_git_range_is_passed_over : advisories_of today (osv_of (item (element (codes "npm")
-    (item (up_to (codes "GIT") (codes "2.0.0")) no_items)) no_items))
-    ≡ record { name = codes "a"; about = unsaid (codes "O"); affected = in_osv [] [] } ∷ []
-a_git_range_is_passed_over = refl
-
 -- an advisory that is taken back at this time
 abbrev withdrawn : (time : List ℕ) → Data
 withdrawn time = object (member (codes "affected") (array
@@ -125,9 +106,6 @@ unfolding toml_datetime_on_literals
 withdrawn_tomorrow = refl
 
 -- ---- times
-
-pub times : map is_timestamp (codes "2022-01-31T23:59:59Z" ∷ codes "2022-01-31T23:59:59.5Z" ∷ []) ≡ true ∷ true ∷ []
-times = refl
 
 pub no_times : map is_timestamp ([] ∷ codes "2022-01-31" ∷ codes "2022-01-31T23:59:59" ∷ codes "2022-01-31 23:59:59Z"
     ∷ codes "2022-01-31T23:59:59.Z" ∷ codes "2022-01-31T23:59:59ZZ" ∷ [])
@@ -156,16 +134,6 @@ pub known_as : map (λ id. is_known_as id known) (codes "ghsa-1" ∷ codes "cve-
     ≡ true ∷ true ∷ false ∷ false ∷ false ∷ []
 known_as = refl
 
--- in npm's form the address has an id
-abbrev known_to_npm : AboutValue
-known_to_npm = npm_about (object (member (codes "id") (number (unsigned 12)) (member (codes "url")
-    (string (codes "https://github.com/advisories/GHSA-1")) no_members)))
-
-pub known_as_to_npm : map (λ id. is_known_as id known_to_npm) (codes "12" ∷ codes "ghsa-1" ∷ codes "2" ∷ codes "1" ∷ [])
-    ≡ true ∷ true ∷ false ∷ false ∷ []
-unfolding digits
-known_as_to_npm = refl
-
 -- ---- severities
 
 pub the_words_of_npm : map severity_of_text (codes "low" ∷ codes "moderate" ∷ codes "high" ∷ codes "critical" ∷ [])
@@ -179,10 +147,6 @@ medium_is_no_word = refl
 pub moderate_is_between : is_at_least Moderate Low ∷ is_at_least Moderate Moderate ∷ is_at_least Moderate High ∷ []
     ≡ false ∷ true ∷ true ∷ []
 moderate_is_between = refl
-
-pub low_is_above_info : is_at_least Low Info ∷ is_at_least Low Low ∷ is_at_least Info Low ∷ []
-    ≡ false ∷ true ∷ true ∷ []
-low_is_above_info = refl
 
 -- ---- faults
 
@@ -207,12 +171,6 @@ pub another_type_is_a_fault : IsFileFault today installed (osv_of (item (element
     (Some (fault_at (codes "a") 0 (Some (id_text (codes "O"))) Faults.Type))
 another_type_is_a_fault is_version told = refl
 
--- in a range without events no version can be
-pub no_event_is_a_fault : IsFileFault today installed (osv_of (item (element (codes "npm")
-    (item (object (member (codes "events") (array no_items) (member (codes "type") (string (codes "SEMVER")) no_members)))
-    no_items)) no_items)) (Some (fault_at (codes "a") 0 (Some (id_text (codes "O"))) Faults.NoStart))
-no_event_is_a_fault is_version told = refl
-
 -- nor in an element with commits alone
 pub commits_are_no_versions : IsFileFault today installed (osv_of (item (element (codes "npm")
     (item (up_to (codes "GIT") (codes "2.0.0")) no_items)) no_items))
@@ -225,20 +183,6 @@ pub a_fault_has_its_place : IsFileFault today installed (array (item in_osvs (it
     (Some (fault_at (codes "a") 1 None Faults.OsvId))
 a_fault_has_its_place is_version told = rw (told.passes (codes "2.0.0") (release 2 0 0) two) refl
 
--- an event with two members is none, whatever their texts
-pub two_members_are_no_event : IsFileFault today installed (osv_of (item (element (codes "npm") (item (object
-    (member (codes "type") (string (codes "SEMVER")) (member (codes "events") (array (item (object
-    (member (codes "fixed") (string (codes "2.0.0")) (member (codes "introduced") (string (codes "0")) no_members)))
-    no_items)) no_members))) no_items)) no_items)) (Some (fault_at (codes "a") 0
-    (Some (id_text (codes "O"))) Faults.Event))
-two_members_are_no_event is_version told = refl
-
--- an `id` that is no whole number and no string is none; then the `url` is one
-pub an_id_is_a_number_or_a_text : id_in (only (codes "id") (string (codes "A"))) ∷ id_in (only (codes "id") (number (unsigned 7)))
-    ∷ id_in (only (codes "id") null) ∷ id_in (only (codes "url") (string (codes "u"))) ∷ []
-    ≡ Some (id_text (codes "A")) ∷ Some (id_number 7) ∷ None ∷ Some (id_text (codes "u")) ∷ []
-an_id_is_a_number_or_a_text = refl
-
 -- ---- advisories about packages that are not installed
 
 -- neither an object without `id` about `a`, nor one that names no package
@@ -246,57 +190,13 @@ pub about_none_has_no_fault : IsFileFault today (codes "b" ∷ []) (array (item 
     (array (item (element (codes "npm") no_items) no_items))) (item (only (codes "affected") (array no_items)) no_items))) None
 about_none_has_no_fault is_version told = refl
 
--- an object whose `affected` is no list may be about any package
-pub about_any_is_a_fault : IsFileFault today [] (array (item (only (codes "affected") (string [])) no_items))
-    (Some (fault_at [] 0 None Faults.OsvId))
-about_any_is_a_fault is_version told = refl
-
--- an object without `affected` may be about any package: `[{"id": "O"}]`
-pub affected_is_missing : IsFileFault today [] (array (item (only (codes "id") (string (codes "O"))) no_items))
-    (Some (fault_at [] 0 (Some (id_text (codes "O"))) Faults.Affected))
-affected_is_missing is_version told = refl
-
 -- unless it is withdrawn
 pub a_withdrawn_advisory_needs_none : IsFileFault today [] (array (item (object (member (codes "id") (string (codes "O"))
     (member (codes "withdrawn") (string (codes "2022-01-01T00:00:00Z")) no_members))) no_items)) None
 unfolding toml_datetime_on_literals
 a_withdrawn_advisory_needs_none is_version told = refl
 
--- `withdrawn` says at which time: in `[{"id": "O", "withdrawn": ""}]` it does not
-pub no_time_is_a_fault : IsFileFault today [] (array (item (object (member (codes "id") (string (codes "O"))
-    (member (codes "withdrawn") (string []) no_members))) no_items))
-    (Some (fault_at [] 0 (Some (id_text (codes "O"))) Faults.Withdrawn))
-no_time_is_a_fault is_version told = refl
-
--- under each name stands a list: in `{"a": ""}`, where `a` is not installed
-pub no_list_under_any_name :
-    IsFileFault today (codes "b" ∷ []) (only (codes "a") (string [])) (Some (fault_at (codes "a") 0 None Faults.List))
-no_list_under_any_name is_version told = refl
-
--- of advisories: in `{"results": [{}]}`
-pub no_advisory_under_any_name : IsFileFault today [] (only (codes "results") (array (item (object no_members) no_items)))
-    (Some (fault_at (codes "results") 0 None Faults.Id))
-no_advisory_under_any_name is_version told = refl
-
 -- in npm's form, and not in OSV's: `{"vulns": [{"affected": [], "id": "O"}]}`
 pub osvs_form_under_a_name : IsFileFault today [] (only (codes "vulns") (array (item (osv_of no_items) no_items)))
     (Some (fault_at (codes "vulns") 0 (Some (id_text (codes "O"))) Faults.OsvUnderName))
 osvs_form_under_a_name is_version told = refl
-
--- nor in that of an answer of OSV's service: `{"vulns": [{"id": "O", "modified": ""}]}`
-pub no_member_under_any_name : IsFileFault today [] (only (codes "vulns") (array (item (object (member (codes "id") (string (codes "O"))
-    (member (codes "modified") (string []) no_members))) no_items)))
-    (Some (fault_at (codes "vulns") 0 (Some (id_text (codes "O"))) Faults.NoMember))
-no_member_under_any_name is_version told = refl
-
--- of `[{"id": 1, "title": 1}]` under `a` the title is a fault if `a` is installed
-abbrev untitled : Data
-untitled = only (codes "a") (array (item (object (member (codes "id") (number (unsigned 1)) (member (codes "title")
-    (number (unsigned 1)) no_members))) no_items))
-
-pub a_title_of_an_installed_package :
-    IsFileFault today installed untitled (Some (fault_at (codes "a") 0 (Some (id_number 1)) Faults.Title))
-a_title_of_an_installed_package is_version told = refl
-
-pub a_title_of_another_package : IsFileFault today (codes "b" ∷ []) untitled None
-a_title_of_another_package is_version told = refl

@@ -11,7 +11,7 @@ use Rattle.node_semver.specs.Versions.{IsVersionText, VersionValue, least_of, re
 use Rattle.npm_texts.specs.InstalledVersions.{bare}
 use Rattle.npm_advisories.specs.ReadVersions.{IsReadAs, by_npm}
 use Rattle.npm_advisories.specs.OsvRanges.{Begins, EndsAt, EventValue, IsDoubtful, IsInEvents, IsInOsv, IsIntroducedAt}
-use Rattle.npm_advisories.specs.OsvRanges.{IsReachedBefore, LimitsAt, fixed, introduced, last_affected, limit}
+use Rattle.npm_advisories.specs.OsvRanges.{LimitsAt, fixed, introduced, last_affected, limit}
 
 one : IsVersionText (codes "1.0.0") (release 1 0 0)
 unfolding version_in
@@ -135,118 +135,6 @@ the_last_affected_version_is_hit = record {
     | inr rest ↦ elim rest [
       | inl none ↦ none
       | inr none ↦ none
-    ]
-  ]);
-}
-
--- `introduced` 1.0.0 and 2.0.0, and `last_affected` 2.0.0: the end may be that of 1.0.0 alone
-abbrev doubtful : List EventValue
-doubtful = introduced (codes "1.0.0") ∷ introduced (codes "2.0.0") ∷ last_affected (codes "2.0.0") ∷ []
-
-ended_once : (cut : Cut VersionValue) → AnyByRecursion (λ event. EndsAt event cut) doubtful
-    → cut ≡ After (release 2 0 0)
-ended_once cut (inl none) = absurd none
-ended_once cut (inr (inl none)) = absurd none
-ended_once cut (inr (inr (inl at))) = last_at_two cut at
-ended_once cut (inr (inr (inr none))) = absurd none
-
-pub a_later_version_is_hit_where_an_end_is_doubtful : IsInEvents doubtful (release 2 5 0)
-a_later_version_is_hit_where_an_end_is_doubtful = record {
-  from = After (release 2 0 0);
-  begins = inr (
-    release 2 0 0,
-    record {
-      introduced = inl (inr (inl (inr (release 2 0 0, two, refl))));
-      end = After (release 2 0 0);
-      ended = inr (inr (inl (release 2 0 0, two, refl)));
-      later = refl;
-      here = inr refl;
-      reached = record {
-        from = Before (release 1 0 0);
-        introduced = inl (inl (inr (release 1 0 0, one, refl)));
-        before = refl;
-        lasts = λ end some later.
-            subst (IsCutBelow version_cmp (Before (release 2 0 0))) (sym (ended_once end some)) refl;
-      };
-    },
-    refl,
-  );
-  reached = inl refl;
-  lasts = λ end some later. absurd (cc (subst (IsCutBelow version_cmp (After (release 2 0 0))) (ended_once end some)
-      later));
-  limited = inl (λ cut some. elim some [
-    | inl none ↦ none
-    | inr rest ↦ elim rest [
-      | inl none ↦ none
-      | inr more ↦ elim more [
-        | inl none ↦ none
-        | inr none ↦ none
-      ]
-    ]
-  ]);
-}
-
--- `introduced` and `last_affected` 2.0.0 alone are the one version
-abbrev alone : List EventValue
-alone = introduced (codes "2.0.0") ∷ last_affected (codes "2.0.0") ∷ []
-
-introduced_at_two : (cut : Cut VersionValue) → IsIntroducedAt alone cut → cut ≡ Before (release 2 0 0)
-introduced_at_two cut (inl (inl (inl zero))) = absurd (cc zero.0)
-introduced_at_two cut (inl (inl (inr at))) = at.2 ∙ ap Before (one_reading _ at.0 (release 2 0 0) at.1 two)
-introduced_at_two cut (inl (inr (inl none))) = absurd none
-introduced_at_two cut (inl (inr (inr none))) = absurd none
-introduced_at_two cut (inr (inl behind)) = absurd (cc behind.2)
-introduced_at_two cut (inr (inr (inl none))) = absurd none
-introduced_at_two cut (inr (inr (inr none))) = absurd none
-
--- no other fault is introduced before it
-never_reached : ¬ IsReachedBefore (IsIntroducedAt alone)
-    (λ cut. AnyByRecursion (λ event. EndsAt event cut) alone) (Before (release 2 0 0))
-never_reached is = cc (subst (λ c. IsCutBelow version_cmp c (Before (release 2 0 0)))
-    (introduced_at_two is.from is.introduced) is.before)
-
-pub a_version_alone_has_no_later_one : ¬ IsInEvents alone (release 2 5 0)
-a_version_alone_has_no_later_one is = elim is.begins [
-  | inl here ↦
-      let later : IsCutBelow version_cmp is.from (After (release 2 0 0)) =
-      subst (λ c. IsCutBelow version_cmp c (After (release 2 0 0))) (sym (introduced_at_two is.from here)) refl in
-      cc (is.lasts (After (release 2 0 0)) (inr (inl (release 2 0 0, two, refl))) later)
-  | inr again ↦
-      let at : Before again.0 ≡ Before (release 2 0 0) = introduced_at_two (Before again.0) again.1.introduced in
-      never_reached (subst (IsReachedBefore (IsIntroducedAt alone)
-      (λ cut. AnyByRecursion (λ event. EndsAt event cut) alone)) at again.1.reached)
-]
-
--- Listed the other way, the end comes before what is introduced: `last_affected` 1.0.0, `introduced` 1.0.0, and then
--- `last_affected` 2.0.0
-abbrev turned : List EventValue
-turned = last_affected (codes "1.0.0") ∷ introduced (codes "1.0.0") ∷ last_affected (codes "2.0.0") ∷ []
-
-pub a_later_version_is_hit_where_an_end_is_listed_first : IsInEvents turned (release 1 5 0)
-a_later_version_is_hit_where_an_end_is_listed_first = record {
-  from = After (release 1 0 0);
-  begins = inl (inr (inr (inl (release 1 0 0, one, refl, refl))));
-  reached = inl refl;
-  lasts = λ end some later. elim some [
-    | inl at ↦
-        let here : end ≡ After (release 1 0 0) = at.2 ∙ ap After (one_reading _ at.0 (release 1 0 0) at.1 one) in
-        absurd (cc (subst (IsCutBelow version_cmp (After (release 1 0 0))) here later))
-    | inr rest ↦ elim rest [
-      | inl none ↦ absurd none
-      | inr more ↦ elim more [
-        | inl at ↦ subst (IsCutBelow version_cmp (Before (release 1 5 0))) (sym (last_at_two end at)) refl
-        | inr none ↦ absurd none
-      ]
-    ]
-  ];
-  limited = inl (λ cut some. elim some [
-    | inl none ↦ none
-    | inr rest ↦ elim rest [
-      | inl none ↦ none
-      | inr more ↦ elim more [
-        | inl none ↦ none
-        | inr none ↦ none
-      ]
     ]
   ]);
 }

@@ -1,15 +1,6 @@
 //! Where in an OSV object a fault is.
-ghost use Rattle.std.specs.Prelude.{◌≡◌, ◌++◌, [], IfOk, OnOk, is_some};
-ghost use Rattle.serde_json.specs.View.{items_view, view};
-ghost use Rattle.json_places.specs.Steps.{steps_seen};
-ghost use Rattle.npm_advisories.specs.FaultSteps as FaultSteps;
-ghost use Rattle.npm_advisories.specs.FaultSteps.{steps_among};
-ghost use Rattle.npm_advisories.specs.Faults.{first_fault};
-ghost use Rattle.npm_advisories.specs.OsvFaults as Faults;
-ghost use Rattle.npm_advisories.specs.Index.{has_name};
-ghost use Rattle.npm_advisories.specs.Private.VersionTest.{is_version};
 
-use crate::fault::is_refused;
+use crate::fault::{Unread, is_refused};
 use crate::member::{items_at, listed_at};
 use crate::osv::affected::{
     has_versions, range_of, spans_of_range, spans_of_ranges, spans_of_versions,
@@ -31,10 +22,7 @@ pub(crate) fn push_osv<'v>(
     names: &Names<'_>,
     entry: &'v Value,
     kind: FaultKind,
-) -> Result<()>
-    ensures { OnOk result (steps_seen steps.new.items ≡ steps_seen steps.old.items
-        ++ FaultSteps.osv_steps is_version (has_name names.now) kind (view entry.now)) }
-{
+) -> Result<()> {
     match kind {
         FaultKind::Advisory => Ok(()),
         FaultKind::OsvId => push_member(steps, entry, "id"),
@@ -56,11 +44,7 @@ fn push_affected<'v>(
     steps: &mut Vec<Step<'v>>,
     names: &Names<'_>,
     affected: &'v [Value],
-) -> Result<()>
-    ensures { OnOk result (steps_seen steps.new.items ≡ steps_seen steps.old.items
-        ++ steps_among (Faults.affected_fault is_version (has_name names.now)) (FaultSteps.affected_steps is_version) 0
-        (items_view affected.now)) }
-{
+) -> Result<()> {
     for position in 0..affected.len() {
         let one = &affected[position];
         if has_affected_fault(alloc, names, one)? {
@@ -72,31 +56,16 @@ fn push_affected<'v>(
 }
 
 /// Whether an element of `affected` has a fault.
-fn has_affected_fault(alloc: Global, names: &Names<'_>, one: &Value) -> Result<bool>
-    ensures { IfOk result (λ has. has ≡ is_some (Faults.affected_fault is_version (has_name names.now) (view one.now))) }
-{
+fn has_affected_fault(alloc: Global, names: &Names<'_>, one: &Value) -> Result<bool> {
     match npm_name(one) {
         Err(_) => Ok(true),
-        Ok(Some(name)) if names.has(name) => has_own_fault(alloc, one),
+        Ok(Some(name)) if names.has(name) => has_failed(range_of(alloc, one)),
         Ok(_) => Ok(false),
-    }
-}
-
-/// Whether the ranges or the versions of an element of `affected` have a fault.
-fn has_own_fault(alloc: Global, one: &Value) -> Result<bool>
-    ensures { IfOk result (λ has. has ≡ is_some (Faults.element_fault is_version (view one.now))) }
-{
-    match range_of(alloc, one) {
-        Ok(_) => Ok(false),
-        Err(unread) => is_refused(unread),
     }
 }
 
 /// Adds the steps that lead to the fault of an element of `affected`.
-fn push_in_affected<'v>(alloc: Global, steps: &mut Vec<Step<'v>>, one: &'v Value) -> Result<()>
-    ensures { OnOk result (steps_seen steps.new.items
-        ≡ steps_seen steps.old.items ++ FaultSteps.affected_steps is_version (view one.now)) }
-{
+fn push_in_affected<'v>(alloc: Global, steps: &mut Vec<Step<'v>>, one: &'v Value) -> Result<()> {
     if npm_name(one).is_err() {
         return push_member(steps, one, "package");
     }
@@ -112,31 +81,15 @@ fn push_in_affected<'v>(alloc: Global, steps: &mut Vec<Step<'v>>, one: &'v Value
 }
 
 /// Whether the versions of an element of `affected` have a fault.
-fn has_versions_fault(alloc: Global, one: &Value) -> Result<bool>
-    ensures { IfOk result (λ has. has ≡ is_some (Faults.versions_fault (view one.now))) }
-{
+fn has_versions_fault(alloc: Global, one: &Value) -> Result<bool> {
     match items_at(one, "versions", FaultKind::Versions) {
-        Ok(versions) => have_versions_fault(alloc, versions),
+        Ok(versions) => has_failed(spans_of_versions(alloc, versions)),
         Err(_) => Ok(true),
     }
 }
 
-/// Whether one of these versions has a fault.
-fn have_versions_fault(alloc: Global, versions: &[Value]) -> Result<bool>
-    ensures { IfOk result (λ have. have
-        ≡ is_some (first_fault Faults.version_text_fault (items_view versions.now))) }
-{
-    match spans_of_versions(alloc, versions) {
-        Ok(_) => Ok(false),
-        Err(unread) => is_refused(unread),
-    }
-}
-
 /// Adds the step to the first of these versions that has a fault.
-fn push_version<'v>(steps: &mut Vec<Step<'v>>, versions: &'v [Value]) -> Result<()>
-    ensures { OnOk result (steps_seen steps.new.items ≡ steps_seen steps.old.items
-        ++ steps_among Faults.version_text_fault (λ value. []) 0 (items_view versions.now)) }
-{
+fn push_version<'v>(steps: &mut Vec<Step<'v>>, versions: &'v [Value]) -> Result<()> {
     for position in 0..versions.len() {
         if !versions[position].is_string() {
             steps.push(Step::Item(position))?;
@@ -147,34 +100,18 @@ fn push_version<'v>(steps: &mut Vec<Step<'v>>, versions: &'v [Value]) -> Result<
 }
 
 /// Whether the ranges of an element of `affected` have a fault.
-fn has_ranges_fault(alloc: Global, one: &Value) -> Result<bool>
-    ensures { IfOk result (λ has. has ≡ is_some (Faults.ranges_fault is_version (view one.now))) }
-{
+fn has_ranges_fault(alloc: Global, one: &Value) -> Result<bool> {
     match items_at(one, "ranges", FaultKind::Ranges) {
-        Ok(ranges) => have_fault(alloc, ranges),
+        Ok(ranges) => has_failed(spans_of_ranges(alloc, ranges)),
         Err(_) => Ok(true),
     }
 }
 
-/// Whether one of these ranges has a fault.
-fn have_fault(alloc: Global, ranges: &[Value]) -> Result<bool>
-    ensures { IfOk result (λ have. have
-        ≡ is_some (first_fault (Faults.osv_range_fault is_version) (items_view ranges.now))) }
-{
-    match spans_of_ranges(alloc, ranges) {
-        Ok(_) => Ok(false),
-        Err(unread) => is_refused(unread),
-    }
-}
-
 /// Adds the steps that lead to the first fault of these ranges.
-fn push_ranges<'v>(alloc: Global, steps: &mut Vec<Step<'v>>, ranges: &'v [Value]) -> Result<()>
-    ensures { OnOk result (steps_seen steps.new.items ≡ steps_seen steps.old.items
-        ++ steps_among (Faults.osv_range_fault is_version) (FaultSteps.range_steps is_version) 0 (items_view ranges.now)) }
-{
+fn push_ranges<'v>(alloc: Global, steps: &mut Vec<Step<'v>>, ranges: &'v [Value]) -> Result<()> {
     for position in 0..ranges.len() {
         let range = &ranges[position];
-        if has_range_fault(alloc, range)? {
+        if has_failed(spans_of_range(alloc, range))? {
             steps.push(Step::Item(position))?;
             return push_in_range(alloc, steps, range);
         }
@@ -183,10 +120,7 @@ fn push_ranges<'v>(alloc: Global, steps: &mut Vec<Step<'v>>, ranges: &'v [Value]
 }
 
 /// Adds the steps that lead to the fault of a range.
-fn push_in_range<'v>(alloc: Global, steps: &mut Vec<Step<'v>>, range: &'v Value) -> Result<()>
-    ensures { OnOk result (steps_seen steps.new.items
-        ≡ steps_seen steps.old.items ++ FaultSteps.range_steps is_version (view range.now)) }
-{
+fn push_in_range<'v>(alloc: Global, steps: &mut Vec<Step<'v>>, range: &'v Value) -> Result<()> {
     if has_versions(range).is_err() {
         return push_member(steps, range, "type");
     }
@@ -198,9 +132,7 @@ fn push_in_range<'v>(alloc: Global, steps: &mut Vec<Step<'v>>, range: &'v Value)
 }
 
 /// Whether `events` of a range is no list, or one of them has a fault.
-fn has_events_fault(alloc: Global, range: &Value) -> Result<bool>
-    ensures { IfOk result (λ has. has ≡ is_some (Faults.events_fault is_version (view range.now))) }
-{
+fn has_events_fault(alloc: Global, range: &Value) -> Result<bool> {
     match items_at(range, "events", FaultKind::Events) {
         Ok(events) => events::have_fault(alloc, events),
         Err(_) => Ok(true),
@@ -208,10 +140,7 @@ fn has_events_fault(alloc: Global, range: &Value) -> Result<bool>
 }
 
 /// Adds the step to the first of these events that has a fault.
-fn push_event<'v>(alloc: Global, steps: &mut Vec<Step<'v>>, events: &'v [Value]) -> Result<()>
-    ensures { OnOk result (steps_seen steps.new.items ≡ steps_seen steps.old.items
-        ++ steps_among (Faults.event_fault is_version) (λ event. []) 0 (items_view events.now)) }
-{
+fn push_event<'v>(alloc: Global, steps: &mut Vec<Step<'v>>, events: &'v [Value]) -> Result<()> {
     for position in 0..events.len() {
         if has_fault(alloc, &events[position])? {
             steps.push(Step::Item(position))?;
@@ -221,11 +150,9 @@ fn push_event<'v>(alloc: Global, steps: &mut Vec<Step<'v>>, events: &'v [Value])
     Ok(())
 }
 
-/// Whether a range has a fault.
-fn has_range_fault(alloc: Global, range: &Value) -> Result<bool>
-    ensures { IfOk result (λ has. has ≡ is_some (Faults.osv_range_fault is_version (view range.now))) }
-{
-    match spans_of_range(alloc, range) {
+/// Whether what was read has a fault.
+fn has_failed<T: Drop>(read: Result<T, Unread>) -> Result<bool> {
+    match read {
         Ok(_) => Ok(false),
         Err(unread) => is_refused(unread),
     }

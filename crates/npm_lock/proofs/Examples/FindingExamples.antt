@@ -9,6 +9,7 @@ use Rattle.std.specs.List.Sorted.{IsStrictlySortedBy}
 use Rattle.std.specs.Option.{IsSome}
 use Rattle.serde_json.specs.Data.{Data, Members, boolean, member, no_members, object, string}
 use Rattle.npm_packages.specs.Asked.{AreNames, AskedValue, asked_of}
+use Rattle.npm_packages.specs.Edges.{edge_of}
 use Rattle.npm_lock.specs.Findings.{AreFindings, AreMemberFindings, dependency, of_dependency, of_package}
 use Rattle.npm_lock.specs.Findings.{ArePackageFindings}
 use Rattle.npm_lock.specs.Outcomes.{ProblemValue, dependency_of, missing, wrong}
@@ -81,7 +82,7 @@ abbrev pub asked : AskedValue
 asked = record { spec = codes "^1"; is_needed = true; is_peer = false; is_dev = false; is_overridden = false }
 
 abbrev pub problem : ProblemValue
-problem = record { kind = Missing; dependency = dependency_of (codes "node_modules/p") asker (codes "a") asked None }
+problem = record { kind = Missing; dependency = dependency_of asker (edge_of (codes "node_modules/p") (codes "a") asked None) }
 
 of_p : ArePackageFindings packages None (codes "node_modules/p") asker
     (of_package None ∷ of_dependency (Some problem) None ∷ [])

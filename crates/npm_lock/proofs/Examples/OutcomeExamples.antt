@@ -2,12 +2,13 @@
 use Rattle.std.proofs.Common.{◌≡◌, ℕ, List, true, false, Some, None, codes, refl}
 use Rattle.serde_json.specs.Data.{Data, boolean, member, no_members, object, string}
 use Rattle.npm_packages.specs.Asked.{AskedValue}
-use Rattle.npm_lock.specs.Outcomes.{IsOutcome, IsVerdictOn, absent, by_spec, dependency_of, engine_of, fine, valid}
+use Rattle.npm_packages.specs.Edges.{edge_of}
+use Rattle.npm_lock.specs.Outcomes.{DependencyValue, IsOutcome, IsVerdictOn, absent, by_spec, dependency_of, engine_of, fine, valid}
 use Rattle.npm_packages.specs.Overrides.{changed_by, unread}
 use Rattle.npm_packages.specs.Packages.{IsFound, Package, above, here}
 use Rattle.npm_lock.specs.Verdict.{better}
 use Rattle.npm_lock.specs.declared.problem.Reason.TheVariants.{Location, Tag}
-use Rattle.npm_lock.specs.declared.verdict.Verdict.TheVariants.{Invalid, Unchecked, Valid}
+use Rattle.npm_lock.specs.declared.verdict.Verdict.TheVariants.{Invalid, Unchecked}
 
 abbrev nothing : Data
 nothing = object no_members
@@ -26,14 +27,8 @@ what_is_needed_is_not_left_out (valid found is outside verdict) = no_package _ _
 
 -- ---- two specs, of which one is accepted too
 
-pub a_valid_one_is_enough : better Invalid Valid ≡ Valid
-a_valid_one_is_enough = refl
-
 pub a_tag_hides_an_invalid_one : better Invalid (Unchecked Tag) ≡ Unchecked Tag
 a_tag_hides_an_invalid_one = refl
-
-pub two_invalid_ones : better Invalid Invalid ≡ Invalid
-two_invalid_ones = refl
 
 pub the_first_reason_counts : better (Unchecked Location) (Unchecked Tag) ≡ Unchecked Location
 the_first_reason_counts = refl
@@ -44,19 +39,19 @@ the_first_reason_counts = refl
 abbrev marked : Data
 marked = object (member (codes "dev") (boolean true) (member (codes "version") (string (codes "1.0.0")) no_members))
 
-pub of_a_marked_package : (dependency_of (codes "node_modules/b") marked (codes "a") asked None).dev ≡ true
+pub of_a_marked_package : dependency_of marked (edge_of (codes "node_modules/b") (codes "a") (record asked { is_needed = false }) None)
+    ≡ record {
+      from = codes "node_modules/b";
+      from_version = Some (codes "1.0.0");
+      name = codes "a";
+      spec = codes "^1";
+      to = None;
+      version = None;
+      dev = true;
+      optional = true;
+      peer = false;
+    }
 of_a_marked_package = refl
-
-pub of_no_marked_package : (dependency_of (codes "") nothing (codes "a") asked None).dev ≡ false
-of_no_marked_package = refl
-
-pub what_need_not_be_found_is_optional :
-    (dependency_of (codes "") nothing (codes "a") (record asked { is_needed = false }) None).optional ≡ true
-what_need_not_be_found_is_optional = refl
-
-pub the_version_of_the_asker : (dependency_of (codes "node_modules/b") marked (codes "a") asked None).from_version
-    ≡ Some (codes "1.0.0")
-the_version_of_the_asker = refl
 
 -- ---- a rule of `overrides` that is not read
 

@@ -1,5 +1,5 @@
 -- Which folders are workspaces, by patterns of the root.
-use Rattle.std.proofs.Common.{◌≡◌, ℕ, List, None, Some, codes, refl}
+use Rattle.std.proofs.Common.{◌≡◌, ℕ, List, Some, codes, refl}
 use Rattle.serde_json.specs.Data.{Items, array, item, member, no_items, no_members, object, string}
 use Rattle.npm_lock.specs.Workspaces.{IsByPatterns, patterns_of}
 use Rattle.npm_lock.specs.declared.workspace.Workspace.TheVariants.{Is, IsNot, Unread}
@@ -8,14 +8,8 @@ use Rattle.npm_lock.proofs.Globs.Lists.{by-written}
 abbrev one : List ℕ → Items
 one pattern = item (string pattern) no_items
 
-pub a_folder : IsByPatterns (codes "w") (one (codes "./w")) Is
-a_folder = by-written _ _
-
 pub a_slash_at_the_start : IsByPatterns (codes "packages/a") (one (codes "/packages/*")) Is
 a_slash_at_the_start = by-written _ _
-
-pub slashes_at_the_start : IsByPatterns (codes "w") (one (codes ".//w")) Is
-slashes_at_the_start = by-written _ _
 
 -- npm takes `./` from the start of a text alone
 pub a_dot_after_a_slash : IsByPatterns (codes "w") (one (codes "/./w")) IsNot
@@ -24,20 +18,8 @@ a_dot_after_a_slash = by-written _ _
 pub up_after_a_folder : IsByPatterns (codes "w") (one (codes "a/../w")) Unread
 up_after_a_folder = by-written _ _
 
-pub up_at_the_start : IsByPatterns (codes "../w") (one (codes "../*")) Is
-up_at_the_start = by-written _ _
-
-pub two_slashes : IsByPatterns (codes "a/w") (one (codes "a//w")) Unread
-two_slashes = by-written _ _
-
 pub a_mark_for_any_letter : IsByPatterns (codes "w") (one (codes "?")) Unread
 a_mark_for_any_letter = by-written _ _
-
-pub another_folder : IsByPatterns (codes "v") (one (codes "w")) IsNot
-another_folder = by-written _ _
-
-pub a_star_is_one_part : IsByPatterns (codes "packages/a") (one (codes "packages/*")) Is
-a_star_is_one_part = by-written _ _
 
 pub a_star_is_not_two : IsByPatterns (codes "packages/a/b") (one (codes "packages/*")) IsNot
 a_star_is_not_two = by-written _ _
@@ -45,17 +27,8 @@ a_star_is_not_two = by-written _ _
 pub a_star_hides_no_dot : IsByPatterns (codes "packages/.a") (one (codes "packages/*")) IsNot
 a_star_hides_no_dot = by-written _ _
 
-pub two_stars_are_some_parts : IsByPatterns (codes "packages/a/b") (one (codes "packages/**")) Is
-two_stars_are_some_parts = by-written _ _
-
 pub two_stars_are_no_part_too : IsByPatterns (codes "packages") (one (codes "packages/**")) Is
 two_stars_are_no_part_too = by-written _ _
-
-pub two_stars_hide_no_dot : IsByPatterns (codes "packages/a/.b") (one (codes "packages/**")) IsNot
-two_stars_hide_no_dot = by-written _ _
-
-pub one_star_is_a_part : IsByPatterns (codes "packages") (one (codes "packages/*")) IsNot
-one_star_is_a_part = by-written _ _
 
 pub a_folder_that_is_left_out : IsByPatterns (codes "w") (item (string (codes "*")) (one (codes "!w"))) Unread
 a_folder_that_is_left_out = by-written _ _
@@ -63,6 +36,3 @@ a_folder_that_is_left_out = by-written _ _
 pub a_list_of_packages : patterns_of (object (member (codes "workspaces")
     (object (member (codes "packages") (array (one (codes "w"))) no_members)) no_members)) ≡ Some (one (codes "w"))
 a_list_of_packages = refl
-
-pub no_patterns_at_all : patterns_of (object no_members) ≡ None
-no_patterns_at_all = refl

@@ -5,6 +5,7 @@ use crate::arguments::help::{
     OUTSIDE, REGISTRY, SEVERITY, SOURCES, STRICT, UNCHECKED,
 };
 use clap::{Arg, ArgAction, Command};
+use npm_lock::PROBLEM_WORDS;
 use std::alloc::{AllocError, Global};
 
 /// The version that `--version`, a SARIF log and a page name.
@@ -45,7 +46,7 @@ fn with_checks<'a>(alloc: Global, command: Command<'a>) -> Result<Command<'a>, A
         .arg(
             option(alloc, "ignore", "KIND", IGNORE)
                 .action(ArgAction::Append)
-                .value_parser(["group", "missing", "invalid", "peer-local", "engine"].as_slice()),
+                .value_parser(PROBLEM_WORDS.as_slice()),
         )?
         .arg(
             option(alloc, "omit", "GROUP", OMIT)

@@ -1,12 +1,8 @@
 //! A fault, and where it is in the text of a file.
 ghost use Rattle.std.specs.Prelude.{◌≡◌, IfOk};
-ghost use Rattle.npm_lock_findings.specs.FaultPaths.{fault_path_value};
-ghost use Rattle.npm_lock_findings.specs.FaultPlaces as FaultPlaces;
-ghost use Rattle.npm_lock_findings.specs.FaultPlaces.{IsFaultPlace, fault_place_value};
 
 use crate::faults::fault_path::FaultPath;
 use crate::faults::{Result, ShownPlace};
-use json_places::Path;
 use npm_packages::Fault;
 use std::alloc::Global;
 use std::fmt;
@@ -32,23 +28,12 @@ impl FaultPlace {
     ///
     /// Allocates what [`ShownPlace::of_path`](crate::ShownPlace::of_path) does, and a copy of the path.
     pub fn in_text(alloc: Global, text: &str, found: &FaultPath<'_>) -> Result<FaultPlace>
-        ensures { IfOk result (λ made. IsFaultPlace text.now (fault_path_value found.now) (fault_place_value made)) }
+        ensures { IfOk result (λ made. made.fault ≡ found.now.fault) }
     {
-        let path = Path::of_members(alloc, &found.names, 0, 0)?;
         Ok(FaultPlace {
             fault: found.fault,
-            place: ShownPlace::of_path(alloc, text, path)?,
+            place: ShownPlace::of_names(alloc, text, &found.names)?,
         })
-    }
-
-    /// A fault without a place: at the beginning of the file. Does not allocate.
-    pub fn of_file(alloc: Global, fault: Fault) -> FaultPlace
-        ensures { fault_place_value result ≡ FaultPlaces.of_file fault }
-    {
-        FaultPlace {
-            fault,
-            place: ShownPlace::of_file(alloc),
-        }
     }
 }
 

@@ -1,17 +1,14 @@
 //! Where the fault of a lock file is.
 ghost use Rattle.std.specs.Prelude.{◌≡◌, IfOk, None, option_map};
 ghost use Rattle.serde_json.specs.View.{view};
-ghost use Rattle.npm_packages.specs.PackageValue.{packages_data};
 ghost use Rattle.npm_lock.specs.VersionOne.{any_fault};
-ghost use Rattle.npm_lock_findings.specs.FaultPaths as FaultPaths;
-ghost use Rattle.npm_lock_findings.specs.FaultPaths.{fault_of, fault_path_value};
 
 use crate::faults::Result;
 use crate::faults::fault_path::FaultPath;
-use crate::faults::package::{of_member, package_fault_path};
-use crate::faults::version_one::version_one_fault_path;
-use npm_lock::is_version_one;
-use npm_packages::{Fault, Lock, has_format, has_patterns, is_folder, is_link, link_fault};
+use crate::faults::package::{push_member, push_package};
+use crate::faults::version_one::push_version_one;
+use npm_lock::{fault_of, is_version_one};
+use npm_packages::{Lock, has_format, has_patterns, is_folder, is_link, link_fault};
 use serde_json::Value;
 use std::alloc::Global;
 
@@ -26,90 +23,61 @@ use std::alloc::Global;
 ///
 /// Allocates the path, if there is a fault, and in a file of version 1 the folders of a package and of those around it.
 pub fn lock_fault_path<'v>(alloc: Global, lock: &'v Value) -> Result<Option<FaultPath<'v>>>
-    ensures found { IfOk result (λ found. option_map fault_path_value found
-        ≡ FaultPaths.any_fault_path (view lock.now)) }
-    ensures same { IfOk result (λ found. fault_of (option_map fault_path_value found) ≡ any_fault (view lock.now) None) }
+    ensures { IfOk result (λ found. option_map (λ found. found.fault) found ≡ any_fault (view lock.now) None) }
 {
-    any_fault_path(alloc, lock)
-}
-
-/// Where the fault of a lock file is.
-fn any_fault_path<'v>(alloc: Global, lock: &'v Value) -> Result<Option<FaultPath<'v>>>
-    ensures { IfOk result (λ found. option_map fault_path_value found
-        ≡ FaultPaths.any_fault_path (view lock.now)) }
-{
+    let Some(fault) = fault_of(alloc, lock, None) else {
+        return Ok(None);
+    };
+    let mut names = Vec::new(alloc);
     if is_version_one(lock) {
-        version_one_fault_path(alloc, lock)
+        push_version_one(alloc, &mut names, lock)?;
     } else {
-        later_fault_path(alloc, lock)
+        push_later(alloc, &mut names, lock)?;
     }
+    Ok(Some(FaultPath { fault, names }))
 }
 
-/// Where the fault of a lock file of version 2 or 3 is.
-fn later_fault_path<'v>(alloc: Global, lock: &'v Value) -> Result<Option<FaultPath<'v>>>
-    ensures { IfOk result (λ found. option_map fault_path_value found
-        ≡ FaultPaths.lock_fault_path (view lock.now)) }
-{
+/// The fault of a lock file of version 2 or 3.
+fn push_later<'v>(alloc: Global, names: &mut Vec<&'v str>, lock: &'v Value) -> Result<bool> {
     if !has_format(lock) {
-        return of_member(alloc, lock, "lockfileVersion", Fault::Version);
+        return push_member(names, lock, "lockfileVersion");
     }
     let Some(packages) = lock.get("packages") else {
-        return Ok(Some(FaultPath::of_value(alloc, Fault::Packages)));
+        return Ok(true);
     };
-    match packages_fault_path(alloc, packages)? {
-        Some(found) => Ok(Some(found.inside("packages")?)),
-        None => Ok(None),
-    }
-}
-
-/// Where the fault of `packages` is.
-fn packages_fault_path<'v>(alloc: Global, packages: &'v Value) -> Result<Option<FaultPath<'v>>>
-    ensures { IfOk result (λ found. option_map fault_path_value found
-        ≡ FaultPaths.packages_fault_path (view packages.now)) }
-{
+    names.push("packages")?;
     let Value::Object(members) = packages else {
-        return Ok(Some(FaultPath::of_value(alloc, Fault::Packages)));
+        return Ok(true);
     };
     let lock = Lock { alloc, members };
     for (folder, entry) in members.iter() {
-        if let Some(found) = member_fault_path(lock, folder.as_str(), entry)? {
-            return Ok(Some(found.inside(folder.as_str())?));
+        names.push(folder.as_str())?;
+        if push_entry(lock, names, folder.as_str(), entry)? {
+            return Ok(true);
         }
+        names.pop();
     }
-    Ok(None)
+    Ok(false)
 }
 
-/// Where the fault of a member of `packages` is.
-fn member_fault_path<'v>(
+/// The fault of a member of `packages`.
+fn push_entry<'v>(
     lock: Lock<'v>,
+    names: &mut Vec<&'v str>,
     folder: &str,
     entry: &'v Value,
-) -> Result<Option<FaultPath<'v>>>
-    ensures { IfOk result (λ found. option_map fault_path_value found
-        ≡ FaultPaths.member_fault_path (packages_data lock.entry) folder.now (view entry.now)) }
-{
-    if !is_folder(folder) {
-        return Ok(Some(FaultPath::of_value(lock.alloc, Fault::Folder)));
+) -> Result<bool> {
+    if !is_folder(folder) || !entry.is_object() {
+        return Ok(true);
     }
     if folder.is_empty() && !has_patterns(entry) {
-        return of_member(lock.alloc, entry, "workspaces", Fault::Workspaces);
-    }
-    own_fault_path(lock, entry)
-}
-
-/// Where the fault of a member of `packages` is, whatever its folder.
-fn own_fault_path<'v>(lock: Lock<'v>, entry: &'v Value) -> Result<Option<FaultPath<'v>>>
-    ensures { IfOk result (λ found. option_map fault_path_value found
-        ≡ FaultPaths.own_fault_path (packages_data lock.entry) (view entry.now)) }
-{
-    if !entry.is_object() {
-        return Ok(Some(FaultPath::of_value(lock.alloc, Fault::Package)));
+        return push_member(names, entry, "workspaces");
     }
     if !is_link(entry) {
-        return package_fault_path(lock.alloc, entry);
+        return push_package(names, entry);
     }
     match link_fault(lock, entry) {
-        Some(fault) => of_member(lock.alloc, entry, "resolved", fault),
-        None => Ok(None),
+        Some(_) => push_member(names, entry, "resolved"),
+        None => Ok(false),
     }
 }

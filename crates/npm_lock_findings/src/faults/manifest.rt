@@ -3,13 +3,12 @@ ghost use Rattle.std.specs.Prelude.{◌≡◌, IfOk, option_map};
 ghost use Rattle.serde_json.specs.View.{view};
 ghost use Rattle.npm_lock.specs.VersionOne as VersionOne;
 ghost use Rattle.npm_lock.specs.Mismatches as Mismatches;
-ghost use Rattle.npm_lock_findings.specs.FaultPaths as FaultPaths;
-ghost use Rattle.npm_lock_findings.specs.FaultPaths.{fault_of, fault_path_value};
 
 use crate::faults::Result;
 use crate::faults::fault_path::FaultPath;
-use crate::faults::package::{of_member, package_fault_path};
-use npm_packages::{Fault, has_patterns, is_link};
+use crate::faults::package::{push_member, push_package};
+use npm_lock::{check_manifest, check_root_manifest};
+use npm_packages::{has_patterns, is_link};
 use serde_json::Value;
 use std::alloc::Global;
 
@@ -23,23 +22,16 @@ use std::alloc::Global;
 ///
 /// Allocates the path, and nothing if there is no fault.
 pub fn manifest_fault_path<'v>(alloc: Global, manifest: &'v Value) -> Result<Option<FaultPath<'v>>>
-    ensures found { IfOk result (λ found. option_map fault_path_value found
-        ≡ FaultPaths.manifest_fault_path (view manifest.now)) }
-    ensures same { IfOk result (λ found. fault_of (option_map fault_path_value found)
-        ≡ Mismatches.manifest_fault (view manifest.now)) }
+    ensures { IfOk result (λ found. option_map (λ found. found.fault) found ≡ Mismatches.manifest_fault (view manifest.now)) }
 {
-    path_in_manifest(alloc, manifest)
-}
-
-/// Where the fault of a manifest is.
-fn path_in_manifest<'v>(alloc: Global, manifest: &'v Value) -> Result<Option<FaultPath<'v>>>
-    ensures { IfOk result (λ found. option_map fault_path_value found
-        ≡ FaultPaths.manifest_fault_path (view manifest.now)) }
-{
-    if !manifest.is_object() {
-        return Ok(Some(FaultPath::of_value(alloc, Fault::Manifest)));
+    let Err(fault) = check_manifest(manifest) else {
+        return Ok(None);
+    };
+    let mut names = Vec::new(alloc);
+    if manifest.is_object() {
+        push_package(&mut names, manifest)?;
     }
-    package_fault_path(alloc, manifest)
+    Ok(Some(FaultPath { fault, names }))
 }
 
 /// Returns the fault of the manifest beside a lock file of version 1, and where it is, if it has one. `convert` of
@@ -53,27 +45,26 @@ fn path_in_manifest<'v>(alloc: Global, manifest: &'v Value) -> Result<Option<Fau
 ///
 /// Allocates the path, and nothing if there is no fault.
 pub fn root_fault_path<'v>(alloc: Global, manifest: &'v Value) -> Result<Option<FaultPath<'v>>>
-    ensures found { IfOk result (λ found. option_map fault_path_value found
-        ≡ FaultPaths.root_fault_path (view manifest.now)) }
-    ensures same { IfOk result (λ found. fault_of (option_map fault_path_value found)
-        ≡ VersionOne.manifest_fault (view manifest.now)) }
+    ensures { IfOk result (λ found. option_map (λ found. found.fault) found ≡ VersionOne.manifest_fault (view manifest.now)) }
 {
-    path_in_root(alloc, manifest)
+    let Err(fault) = check_root_manifest(manifest) else {
+        return Ok(None);
+    };
+    let mut names = Vec::new(alloc);
+    push_root(&mut names, manifest)?;
+    Ok(Some(FaultPath { fault, names }))
 }
 
-/// Where the fault of such a manifest is.
-fn path_in_root<'v>(alloc: Global, manifest: &'v Value) -> Result<Option<FaultPath<'v>>>
-    ensures { IfOk result (λ found. option_map fault_path_value found
-        ≡ FaultPaths.root_fault_path (view manifest.now)) }
-{
+/// The fault of such a manifest.
+fn push_root<'v>(names: &mut Vec<&'v str>, manifest: &'v Value) -> Result<bool> {
     if !manifest.is_object() {
-        return Ok(Some(FaultPath::of_value(alloc, Fault::Manifest)));
+        return Ok(true);
     }
     if is_link(manifest) {
-        return of_member(alloc, manifest, "link", Fault::Manifest);
+        return push_member(names, manifest, "link");
     }
     if !has_patterns(manifest) {
-        return of_member(alloc, manifest, "workspaces", Fault::Workspaces);
+        return push_member(names, manifest, "workspaces");
     }
-    package_fault_path(alloc, manifest)
+    push_package(names, manifest)
 }

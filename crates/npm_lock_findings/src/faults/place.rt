@@ -1,11 +1,4 @@
 //! A path in a text, and its place.
-ghost use Rattle.std.specs.Prelude.{◌≡◌, ◌∷◌, [], IfOk, Some};
-ghost use Rattle.std.specs.Fmt.{WritesOnOk};
-ghost use Rattle.std.specs.List.{flat_map};
-ghost use Rattle.json_places.specs.Places.{IsShownAt};
-ghost use Rattle.json_places.specs.Steps.{steps_seen};
-ghost use Rattle.npm_lock_findings.specs.ShownPlaces.{IsPlaceIn, later_words, of_file, path_words, place_words, shown_place_value};
-ghost use Rattle.npm_lock_findings.specs.ShownPlaces.{shown_step_value, shown_steps_seen, steps_words};
 
 use crate::faults::Result;
 use crate::faults::step::{ShownStep, copies};
@@ -36,9 +29,7 @@ impl ShownPlace {
     /// # Memory
     ///
     /// Allocates the steps with their names, and while the place is looked up what [`places_of`](json_places::places_of) does.
-    pub fn of_path(alloc: Global, text: &str, path: Path<'_>) -> Result<ShownPlace>
-        ensures { IfOk result (λ made. IsPlaceIn text.now (steps_seen path.entry.steps.items) (shown_place_value made)) }
-    {
+    pub fn of_path(alloc: Global, text: &str, path: Path<'_>) -> Result<ShownPlace> {
         let steps = copies(alloc, &path.steps)?;
         let place = place_in(alloc, text, path)?;
         Ok(ShownPlace {
@@ -48,10 +39,13 @@ impl ShownPlace {
         })
     }
 
+    /// The same of the member that these names lead to.
+    pub(crate) fn of_names(alloc: Global, text: &str, names: &[&str]) -> Result<ShownPlace> {
+        ShownPlace::of_path(alloc, text, Path::of_members(alloc, names, 0, 0)?)
+    }
+
     /// A place without a path: the beginning of the file. Does not allocate.
-    pub fn of_file(alloc: Global) -> ShownPlace
-        ensures { shown_place_value result ≡ of_file }
-    {
+    pub fn of_file(alloc: Global) -> ShownPlace {
         ShownPlace {
             steps: Vec::new(alloc),
             line: 1,
@@ -61,9 +55,7 @@ impl ShownPlace {
 }
 
 /// The place of what a path leads to, or of the beginning.
-fn place_in(alloc: Global, text: &str, path: Path<'_>) -> Result<Place>
-    ensures { IfOk result (IsShownAt text.now (steps_seen path.entry.steps.items ∷ [])) }
-{
+fn place_in(alloc: Global, text: &str, path: Path<'_>) -> Result<Place> {
     let found = places_of(alloc, text, &[path])?;
     let Some(Some(place)) = found.first() else {
         return Ok(Place::START);
@@ -73,52 +65,14 @@ fn place_in(alloc: Global, text: &str, path: Path<'_>) -> Result<Place>
 
 /// Prints the path and the place. Format options such as a width are ignored.
 impl fmt::Display for ShownPlace {
-    ghost output = { λ place. Some (place_words (shown_place_value place)) };
-
     fn fmt<W: fmt::Write>(&self, f: &mut fmt::Formatter<W>) -> fmt::Result {
+        let mut before = ": ";
+        for step in &self.steps {
+            write!(f, "{before}{step}")?;
+            before = ", ";
+        }
         let line = self.line;
         let column = self.column;
-        write_steps(f, &self.steps)?;
         write!(f, " (line {line}, column {column})")
     }
-}
-
-/// Prints the steps of a path.
-fn write_steps<W: fmt::Write>(f: &mut fmt::Formatter<W>, steps: &[ShownStep]) -> fmt::Result
-    ensures { WritesOnOk W.write_str_gives f.old result (steps_words (shown_steps_seen steps.now)) f.new }
-{
-    match steps.split_first() {
-        Some((first, others)) => write_path(f, first, others),
-        None => Ok(()),
-    }
-}
-
-/// Prints the first step of a path and the others.
-fn write_path<W: fmt::Write>(
-    f: &mut fmt::Formatter<W>,
-    first: &ShownStep,
-    others: &[ShownStep],
-) -> fmt::Result
-    ensures { WritesOnOk W.write_str_gives f.old result
-        (path_words (shown_step_value first.now) (shown_steps_seen others.now)) f.new }
-{
-    write!(f, ": {first}")?;
-    write_later(f, others)
-}
-
-/// Prints the steps after the first.
-fn write_later<W: fmt::Write>(f: &mut fmt::Formatter<W>, steps: &[ShownStep]) -> fmt::Result
-    ensures { WritesOnOk W.write_str_gives f.old result (flat_map later_words (shown_steps_seen steps.now)) f.new }
-{
-    for step in steps {
-        write_later_step(f, step)?;
-    }
-    Ok(())
-}
-
-/// Prints a step after another.
-fn write_later_step<W: fmt::Write>(f: &mut fmt::Formatter<W>, step: &ShownStep) -> fmt::Result
-    ensures { WritesOnOk W.write_str_gives f.old result (later_words (shown_step_value step.now)) f.new }
-{
-    write!(f, ", {step}")
 }

@@ -1,17 +1,14 @@
 //! The fault of a file and its place, or that there is none.
-ghost use Rattle.std.specs.Prelude.{◌≡◌, IfOk, IfSome, None, if◌then◌else◌, option_and_then, option_map};
+ghost use Rattle.std.specs.Prelude.{◌≡◌, IfOk, option_map};
 ghost use Rattle.serde_json.specs.View.{view};
 ghost use Rattle.npm_lock.specs.Mismatches as Mismatches;
-ghost use Rattle.npm_lock.specs.VersionOne as VersionOne;
 ghost use Rattle.npm_lock.specs.VersionOne.{any_fault};
-ghost use Rattle.npm_lock_findings.specs.FaultPlaces.{IsLockFaultPlace, IsManifestFaultPlace, fault_place_value};
 
-use crate::faults::Result;
 use crate::faults::fault_place::FaultPlace;
 use crate::faults::lock_file::lock_fault_path;
-use crate::faults::manifest::{manifest_fault_path, root_fault_path};
-use npm_lock::is_version_one;
-use npm_packages::Fault;
+use crate::faults::manifest::manifest_fault_path;
+use crate::faults::{Result, ShownPlace};
+use npm_lock::fault_of;
 use serde_json::Value;
 use std::alloc::Global;
 
@@ -31,36 +28,17 @@ pub fn lock_fault_place(
     lock: &Value,
     manifest: Option<&Value>,
 ) -> Result<Option<FaultPlace>>
-    ensures fault { IfOk result (λ found. option_map (λ place. place.fault) found
+    ensures { IfOk result (λ found. option_map (λ place. place.fault) found
         ≡ any_fault (view lock.now) (option_map (λ manifest. view manifest.now) manifest.entry)) }
-    ensures place { IfOk result (λ found. IfSome found
-        (λ place. IsLockFaultPlace text.now (view lock.now) (fault_place_value place))) }
 {
-    if let Some(found) = lock_fault_path(alloc, lock)? {
-        return Ok(Some(FaultPlace::in_text(alloc, text, &found)?));
-    }
-    match root_fault(alloc, lock, manifest)? {
-        Some(fault) => Ok(Some(FaultPlace::of_file(alloc, fault))),
-        None => Ok(None),
-    }
-}
-
-/// The fault of the manifest beside a lock file of version 1.
-fn root_fault(alloc: Global, lock: &Value, manifest: Option<&Value>) -> Result<Option<Fault>>
-    ensures { IfOk result (λ fault. fault ≡ (if VersionOne.is_version_one (view lock.now)
-        then option_and_then VersionOne.manifest_fault (option_map (λ manifest. view manifest.now) manifest.entry)
-        else None)) }
-{
-    let Some(manifest) = manifest else {
+    let Some(fault) = fault_of(alloc, lock, manifest) else {
         return Ok(None);
     };
-    if !is_version_one(lock) {
-        return Ok(None);
-    }
-    match root_fault_path(alloc, manifest)? {
-        Some(found) => Ok(Some(found.fault)),
-        None => Ok(None),
-    }
+    let place = match lock_fault_path(alloc, lock)? {
+        Some(found) => ShownPlace::of_names(alloc, text, &found.names)?,
+        None => ShownPlace::of_file(alloc),
+    };
+    Ok(Some(FaultPlace { fault, place }))
 }
 
 /// Returns the fault of a manifest with this text, and its place, if `mismatches_of` of npm_lock refuses the manifest.
@@ -77,10 +55,8 @@ pub fn manifest_fault_place(
     text: &str,
     manifest: &Value,
 ) -> Result<Option<FaultPlace>>
-    ensures fault { IfOk result (λ found. option_map (λ place. place.fault) found
+    ensures { IfOk result (λ found. option_map (λ place. place.fault) found
         ≡ Mismatches.manifest_fault (view manifest.now)) }
-    ensures place { IfOk result (λ found. IfSome found
-        (λ place. IsManifestFaultPlace text.now (view manifest.now) (fault_place_value place))) }
 {
     match manifest_fault_path(alloc, manifest)? {
         Some(found) => Ok(Some(FaultPlace::in_text(alloc, text, &found)?)),

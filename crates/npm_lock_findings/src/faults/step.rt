@@ -1,7 +1,4 @@
 //! A step of a path, with a name of its own.
-ghost use Rattle.std.specs.Prelude.{◌≡◌, IfOk, Some};
-ghost use Rattle.json_places.specs.Steps.{step_value, steps_seen};
-ghost use Rattle.npm_lock_findings.specs.ShownPlaces.{shown_step_value, shown_steps_seen, step_words};
 
 use crate::faults::Result;
 use command_lines::write_quoted;
@@ -20,8 +17,6 @@ pub enum ShownStep {
 
 /// Prints `"packages"`, or `[3]`. Format options such as a width are ignored.
 impl fmt::Display for ShownStep {
-    ghost output = { λ step. Some (step_words (shown_step_value step)) };
-
     fn fmt<W: fmt::Write>(&self, f: &mut fmt::Formatter<W>) -> fmt::Result {
         match self {
             ShownStep::Member(name) => write_quoted(f, name.as_bytes()),
@@ -31,9 +26,7 @@ impl fmt::Display for ShownStep {
 }
 
 /// Copies of these steps.
-pub(crate) fn copies(alloc: Global, steps: &[Step<'_>]) -> Result<Vec<ShownStep>>
-    ensures { IfOk result (λ made. shown_steps_seen made.items ≡ steps_seen steps.now) }
-{
+pub(crate) fn copies(alloc: Global, steps: &[Step<'_>]) -> Result<Vec<ShownStep>> {
     let mut made = Vec::new(alloc);
     for step in steps {
         made.push(copy(alloc, *step)?)?;
@@ -42,9 +35,7 @@ pub(crate) fn copies(alloc: Global, steps: &[Step<'_>]) -> Result<Vec<ShownStep>
 }
 
 /// A copy of a step.
-fn copy(alloc: Global, step: Step<'_>) -> Result<ShownStep>
-    ensures { IfOk result (λ made. shown_step_value made ≡ step_value step.entry) }
-{
+fn copy(alloc: Global, step: Step<'_>) -> Result<ShownStep> {
     match step {
         Step::Member(name) => Ok(ShownStep::Member(String::from_str(alloc, name)?)),
         Step::Item(position) => Ok(ShownStep::Item(position)),

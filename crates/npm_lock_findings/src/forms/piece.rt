@@ -1,13 +1,8 @@
 //! The pieces of a text.
 ghost use Rattle.std.specs.Prelude.{◌≡◌, ◌++◌, ℕ, List, OnOk, map};
-ghost use Rattle.std.specs.List.{flat_map};
-ghost use Rattle.npm_lock_findings.specs.Forms.{IsWritten, piece_value};
-ghost use Rattle.npm_lock_findings.specs.Private.Writing as Writing;
+ghost use Rattle.npm_lock_findings.specs.Forms.{IsShown, IsWritten, piece_value};
 
-use crate::forms::json::{push_json_bytes, push_message_bytes};
-use crate::forms::line::{push_data, push_property};
-use crate::forms::markup::push_text;
-use crate::forms::uri::push_uri_bytes;
+use crate::forms::escapes::{push_address, push_text};
 use std::alloc::AllocError;
 
 /// A form of text.
@@ -45,13 +40,6 @@ pub fn push_pieces(out: &mut Vec<u8>, form: Form, pieces: &[Piece<'_>]) -> Resul
     ensures { OnOk result ((text : List ℕ) × IsWritten form (map piece_value pieces.now) text
         × (out.new.items ≡ out.old.items ++ text)) }
 {
-    push_each(out, form, pieces)
-}
-
-/// Adds pieces.
-fn push_each(out: &mut Vec<u8>, form: Form, pieces: &[Piece<'_>]) -> Result<(), AllocError>
-    ensures { OnOk result (out.new.items ≡ out.old.items ++ flat_map (Writing.shown form) pieces.now) }
-{
     for piece in pieces {
         push_piece(out, form, *piece)?;
     }
@@ -60,37 +48,16 @@ fn push_each(out: &mut Vec<u8>, form: Form, pieces: &[Piece<'_>]) -> Result<(), 
 
 /// Adds a piece.
 fn push_piece(out: &mut Vec<u8>, form: Form, piece: Piece<'_>) -> Result<(), AllocError>
-    ensures { OnOk result (out.new.items ≡ out.old.items ++ Writing.shown form piece.entry) }
+    ensures { OnOk result ((shown : List ℕ) × IsShown form (piece_value piece.entry) shown
+        × (out.new.items ≡ out.old.items ++ shown)) }
 {
     match piece {
         Piece::Fixed(words) => out.extend_from_slice(words.as_bytes()),
-        Piece::Text(text) => push_text_in(out, form, text),
-        Piece::Message(text) => push_message_in(out, form, text),
-        Piece::Address(text) => push_uri_bytes(out, text),
+        Piece::Text(text) => push_text(out, form, text, false),
+        Piece::Message(text) => push_text(out, form, text, true),
+        Piece::Address(text) => push_address(out, form, text),
         Piece::Number(number) => {
-            out.extend_from_slice(itoa::Buffer::new().format(number).as_bytes())
+            push_text(out, form, itoa::Buffer::new().format(number).as_bytes(), false)
         }
-    }
-}
-
-/// Adds a text.
-fn push_text_in(out: &mut Vec<u8>, form: Form, text: &[u8]) -> Result<(), AllocError>
-    ensures { OnOk result (out.new.items ≡ out.old.items ++ Writing.text_shown form text.now) }
-{
-    match form {
-        Form::Line => push_property(out, text),
-        Form::Json => push_json_bytes(out, text),
-        Form::Markup => push_text(out, text),
-    }
-}
-
-/// Adds the message of a finding.
-fn push_message_in(out: &mut Vec<u8>, form: Form, text: &[u8]) -> Result<(), AllocError>
-    ensures { OnOk result (out.new.items ≡ out.old.items ++ Writing.message_shown form text.now) }
-{
-    match form {
-        Form::Line => push_data(out, text),
-        Form::Json => push_message_bytes(out, text),
-        Form::Markup => push_text(out, text),
     }
 }

@@ -2,8 +2,8 @@
 use Rattle.std.specs.Prelude.{◌≡◌, ℕ, List, option_map}
 use Rattle.serde_json.specs.Data.{Data}
 use Rattle.serde_json.specs.View.{view}
+use Rattle.npm_lock.specs.Mismatches.{member_at}
 use Rattle.npm_lock_reports.specs.Needed.{is_marked_at}
-use Rattle.npm_lock_reports.specs.Omissions.{member_at}
 use Rattle.npm_lock_reports.specs.declared.needed.Asker.{Asker}
 use Rattle.npm_lock_reports.specs.declared.omissions.Omissions.{Omissions}
 

@@ -7,7 +7,7 @@ use Rattle.serde_json.specs.Data.{Data, member, no_members, null, object, string
 use Rattle.npm_pick_reports.specs.Asks.{AskValue, manifest_asks}
 use Rattle.npm_packages.specs.Edges.{EdgeValue}
 use Rattle.npm_pick_reports.specs.Installed.{is_elsewhere, is_from_web}
-use Rattle.npm_pick_reports.specs.Mirror.{PackageValue, absent_of, kept_of, lacking_of, request_of, texts_for}
+use Rattle.npm_pick_reports.specs.Mirror.{PackageValue, is_complete, request_of, texts_for}
 
 abbrev ask : (name spec : List ℕ) → AskValue
 ask name spec = record { name = name; spec = spec; is_overridden = false }
@@ -21,9 +21,6 @@ pub each_group_counts :
     ≡ ask (codes "a") (codes "^1") ∷ ask (codes "a") (codes "^1") ∷ []
 each_group_counts = refl
 
-pub no_object_asks_for_nothing : manifest_asks (object (member (codes "dependencies") null no_members)) ≡ []
-no_object_asks_for_nothing = refl
-
 pub an_alias_asks_for_what_it_names : request_of (ask (codes "a") (codes "npm:b@^1"))
     ≡ Some (record { name = codes "b"; text = codes "^1" })
 unfolding trimmed chars encode
@@ -31,11 +28,6 @@ an_alias_asks_for_what_it_names = refl
 
 pub a_repository_asks_no_registry : request_of (ask (codes "a") (codes "github:b/a")) ≡ None
 a_repository_asks_no_registry = refl
-
-pub white_space_is_not_asked_for : request_of (ask (codes "a") (codes "npm:b@next "))
-    ≡ Some (record { name = codes "b"; text = codes "next" })
-unfolding trimmed chars encode
-white_space_is_not_asked_for = refl
 
 pub an_override_is_not_read : request_of (record { name = codes "a"; spec = codes "^1"; is_overridden = true }) ≡ None
 an_override_is_not_read = refl
@@ -45,25 +37,14 @@ pub a_name_has_its_own_texts : texts_for (codes "a") (record { name = codes "a";
     ≡ codes "^1" ∷ codes "next" ∷ []
 a_name_has_its_own_texts = refl
 
-abbrev wanted_of : (keys lacking : List (List ℕ)) → Bool → PackageValue
-wanted_of keys lacking is_absent = record { name = codes "@s/a"; keys = keys; lacking = lacking; is_absent = is_absent }
+abbrev kept_package : (keys lacking : List (List ℕ)) → Bool → PackageValue
+kept_package keys lacking is_absent = record { name = codes "@s/a"; keys = keys; lacking = lacking; is_absent = is_absent }
 
-pub a_version_has_its_name : kept_of (wanted_of (codes "1.0.0" ∷ codes "1.1.0" ∷ []) [] false)
-    ≡ codes "@s/a@1.0.0" ∷ codes "@s/a@1.1.0" ∷ []
-a_version_has_its_name = refl
+pub a_package_without_a_document_is_not_complete : is_complete (kept_package [] [] true) ≡ false
+a_package_without_a_document_is_not_complete = refl
 
-pub what_is_installed_is_kept_without_a_document : kept_of (wanted_of (codes "1.0.0" ∷ []) [] true)
-    ≡ codes "@s/a@1.0.0" ∷ []
-what_is_installed_is_kept_without_a_document = refl
-
-pub a_package_without_a_document_is_named : absent_of (wanted_of [] [] true) ≡ codes "@s/a" ∷ []
-a_package_without_a_document_is_named = refl
-
-pub a_document_without_such_versions_is_there : absent_of (wanted_of [] [] false) ≡ []
-a_document_without_such_versions_is_there = refl
-
-pub a_version_that_is_not_in_the_document : lacking_of (wanted_of [] (codes "1.0.0" ∷ []) false) ≡ codes "@s/a@1.0.0" ∷ []
-a_version_that_is_not_in_the_document = refl
+pub what_lacks_none_is : is_complete (kept_package (codes "1.0.0" ∷ []) [] false) ≡ true
+what_lacks_none_is = refl
 
 -- ---- what is installed
 
@@ -102,9 +83,3 @@ what_says_nothing_may_be = refl
 
 pub a_repository_is_not : is_from_web (from (codes "git+ssh://git@github.com/b/a.git#0")) ≡ false
 a_repository_is_not = refl
-
-pub a_file_is_not : is_from_web (from (codes "file:a-1.0.0.tgz")) ≡ false
-a_file_is_not = refl
-
-pub a_path_is_not : is_from_web (from (codes "../a-1.0.0.tgz")) ≡ false
-a_path_is_not = refl

@@ -59,9 +59,3 @@ a_peer_that_is_missing_does_not = refl
 
 pub one_in_development_that_is_missing_does_not : is_passed true (edge [] true false true false None) ≡ true
 one_in_development_that_is_missing_does_not = refl
-
-pub a_peer_that_is_there_counts : is_passed true (edge [] true true false false (Some (codes "node_modules/a"))) ≡ false
-a_peer_that_is_there_counts = refl
-
-pub an_optional_peer_that_is_missing_counts : is_passed true (edge [] false true false false None) ≡ false
-an_optional_peer_that_is_missing_counts = refl

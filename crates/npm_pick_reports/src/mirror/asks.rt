@@ -6,7 +6,7 @@ ghost use Rattle.npm_packages.specs.Edges.{edge_value};
 ghost use Rattle.npm_texts.specs.RegistrySpec.{registry_spec_value};
 ghost use Rattle.npm_pick_reports.specs.Asks as Asks;
 ghost use Rattle.npm_pick_reports.specs.Installed.{AreInstalled, AreInstalledIfAny};
-ghost use Rattle.npm_pick_reports.specs.LockFailures.{IsLockFailure};
+ghost use Rattle.npm_pick_reports.specs.Loading.{IsLockFailure};
 ghost use Rattle.npm_pick_reports.specs.Asks.{AreAsks, AreAsksOfEdge, AreAsksOfLock, AskValue, IsLinked, ask_value};
 
 use crate::mirror::installed::installed_of;

@@ -1,19 +1,15 @@
 //! The packages of a lock file that ask a registry, each with the version that is installed.
-ghost use Rattle.std.specs.Prelude.{◌≡◌, ◌≢◌, ◌↔◌, ◌⊎◌, [], ◌++◌, ℕ, IfOk, IsTrue, List, OnOk, Some, codes, map, option_map};
+ghost use Rattle.std.specs.Prelude.{◌≡◌, ◌↔◌, ◌⊎◌, ◌++◌, ℕ, IfOk, IsTrue, List, OnOk, Some, codes, map, option_map};
 ghost use Rattle.serde_json.specs.Data.{Members, object};
 ghost use Rattle.serde_json.specs.Find.{get};
 ghost use Rattle.serde_json.specs.View.{members_view, view};
 ghost use Rattle.npm_packages.specs.Edges.{edge_value};
-ghost use Rattle.npm_packages.specs.LastParts.{IsEnd};
-ghost use Rattle.npm_packages.specs.PackageValue.{package_value};
-ghost use Rattle.npm_packages.specs.Packages as Packages;
-ghost use Rattle.npm_packages.specs.Packages.{IsNamed};
+ghost use Rattle.npm_packages.specs.Lemmas.FolderMaps.{HasFolder};
 ghost use Rattle.npm_texts.specs.RegistrySpec.{RegistrySpecValue, registry_spec_value};
 ghost use Rattle.npm_pick_reports.specs.Installed as Rules;
 ghost use Rattle.npm_pick_reports.specs.Installed.{AreAskedBy, AsksRegistry, IsAskedBy, IsFoundElsewhere, IsFromElsewhere};
-ghost use Rattle.npm_pick_reports.specs.Private.Keys.{HasFolder};
 
-use npm_packages::{Edge, Package, end_of, is_installed, is_link, members_of, version_of};
+use npm_packages::{Edge, Package, is_installed, is_link, members_of, name_of, version_of};
 use npm_texts::{RegistrySpec, registry_spec};
 use serde_json::{Map, Value};
 use std::alloc::{AllocError, Global};
@@ -144,32 +140,4 @@ fn resolved_of(member: &Value) -> Option<&str>
     ensures { option_map (λ text. text.now) result ≡ Rules.resolved_of (view member.now) }
 {
     member.get("resolved")?.as_str()
-}
-
-/// The name of a package: the one that the lock file writes, or else that of its folder.
-fn name_of<'v>(placed: Package<'v>) -> &'v str
-    ensures { IsNamed (package_value placed.entry) result.now }
-{
-    match said_name(placed.member) {
-        Some(said) => said_or_placed(placed.folder, said),
-        None => end_of(placed.folder),
-    }
-}
-
-/// The name that is said, or that of the folder if it is empty.
-fn said_or_placed<'v>(folder: &'v str, said: &'v str) -> &'v str
-    ensures { ((result.now ≡ said.now) × (said.now ≢ [])) ⊎ ((said.now ≡ []) × IsEnd folder.now result.now) }
-{
-    if said.is_empty() {
-        end_of(folder)
-    } else {
-        said
-    }
-}
-
-/// The name that the lock file writes.
-fn said_name(member: &Value) -> Option<&str>
-    ensures { option_map (λ name. name.now) result ≡ Packages.said_name (view member.now) }
-{
-    member.get("name")?.as_str()
 }

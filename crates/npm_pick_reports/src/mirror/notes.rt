@@ -1,7 +1,8 @@
 //! Notes about the packages of a mirror, for standard error.
-use crate::mirror::Mirror;
+use crate::mirror::KeptPackage;
 use crate::mirror::asks::Ask;
 use crate::mirror::in_order::put_in_order;
+use crate::mirror::texts::{absent_names, lacking_texts, text_of};
 use npm_texts::registry_spec;
 use std::alloc::{AllocError, Global};
 
@@ -10,7 +11,7 @@ use std::alloc::{AllocError, Global};
 pub fn notes_of(
     alloc: Global,
     asks: &[Ask<'_>],
-    mirror: &Mirror,
+    packages: &[KeptPackage],
 ) -> Result<Vec<String>, AllocError> {
     let mut notes = Vec::new(alloc);
     for ask in asks {
@@ -18,18 +19,15 @@ pub fn notes_of(
             notes.push(ask_note(alloc, said, ask.name, ask.spec)?)?;
         }
     }
-    add_all(
-        alloc,
-        &mut notes,
-        "no document in the folder: ",
-        &mirror.absent,
-    )?;
-    add_all(
-        alloc,
-        &mut notes,
-        "installed, but not in the document: ",
-        &mirror.lacking,
-    )?;
+    for name in &absent_names(alloc, packages)? {
+        notes.push(text_of(alloc, &["no document in the folder: ", name])?)?;
+    }
+    for text in &lacking_texts(alloc, packages)? {
+        notes.push(text_of(
+            alloc,
+            &["installed, but not in the document: ", text.as_str()],
+        )?)?;
+    }
     put_in_order(&mut notes);
     Ok(notes)
 }
@@ -53,26 +51,4 @@ fn ask_note<'n>(
     spec: &'n str,
 ) -> Result<String, AllocError> {
     text_of(alloc, &[said, name, " (", spec, ")"])
-}
-
-/// Adds a note about each of these texts.
-fn add_all(
-    alloc: Global,
-    notes: &mut Vec<String>,
-    said: &str,
-    texts: &[String],
-) -> Result<(), AllocError> {
-    for text in texts {
-        notes.push(text_of(alloc, &[said, text.as_str()])?)?;
-    }
-    Ok(())
-}
-
-/// A text of these pieces.
-fn text_of(alloc: Global, pieces: &[&str]) -> Result<String, AllocError> {
-    let mut text = String::new(alloc);
-    for piece in pieces {
-        text.push_str(piece)?;
-    }
-    Ok(text)
 }

@@ -150,8 +150,8 @@ impl<'v> Groups<'v> {
     }
 }
 
-/// Copies of texts.
-fn copies_of(alloc: Global, texts: &[&str]) -> Result<Vec<String>, AllocError>
+/// Returns copies of texts.
+pub fn copies_of(alloc: Global, texts: &[&str]) -> Result<Vec<String>, AllocError>
     ensures { IfOk result (λ copies. map string_bytes copies.items ≡ map (λ text. text.now) texts.now) }
 {
     let mut copies = Vec::new(alloc);

@@ -1,5 +1,5 @@
 -- What the definitions say of small manifests and documents, and of the order of candidates.
-use Rattle.std.proofs.Common.{◌≡◌, ◌≤◌, ◌<◌, ◌∙◌, ◌∷◌, Bool, List, [], None, Ordering, Some, ap, codes, false, get_or, length, not, nat_cmp, refl, sym, true, ℕ}
+use Rattle.std.proofs.Common.{◌≡◌, ◌≤◌, ◌<◌, ◌∙◌, ◌∷◌, Bool, List, [], None, Ordering, ap, codes, false, get_or, length, not, refl, sym, true, ℕ}
 use Rattle.std.proofs.lemmas.List.Sorted.{ranks_by, sorted_far}
 use Rattle.std.specs.List.Sorted.{IsSorted}
 use Rattle.std.specs.Option.{option_map_or}
@@ -10,8 +10,8 @@ use Rattle.serde_json.specs.Data.{Data, boolean, member, no_members, object, str
 use Rattle.npm_pick.specs.Rank.{Rank, rank_cmp}
 use Rattle.npm_packages.specs.Asked.{asked_of}
 use Rattle.npm_packages.specs.Overrides.{rule_in}
-use Rattle.npm_resolve.specs.Asks.{RulesValue, asks_by, asks_on, is_registered, is_root}
-use Rattle.npm_resolve.specs.Candidates.{AreCandidates, is_tagged}
+use Rattle.npm_resolve.specs.Asks.{RulesValue, asks_by, asks_on, is_root}
+use Rattle.npm_resolve.specs.Candidates.{AreCandidates}
 use Rattle.npm_resolve.specs.Preference.{candidate_order, is_sound, lowest_order, version_preference}
 use Rattle.npm_resolve.specs.Private.Orders.{candidate_total}
 use Rattle.npm_resolve.specs.declared.candidates.candidate.Candidate.{Candidate}
@@ -44,18 +44,6 @@ same true v = refl
 pub the_lower_version_is_first : (a b : Candidate) → a.is_deprecated ≡ b.is_deprecated → a.fits ≡ b.fits
     → version_cmp a.version b.version ≡ Less → lowest_order a b ≡ Less
 the_lower_version_is_first a b alike fits lower = rw (alike, fits) (same (is_sound b) _ ∙ same b.fits _ ∙ same (not b.is_deprecated) _) ∙ lower
-
-pub what_is_deprecated_is_no_lowest : (a b : Candidate) → a.is_deprecated ≡ false → a.fits ≡ true → b.is_deprecated ≡ true
-    → lowest_order a b ≡ Less
-what_is_deprecated_is_no_lowest a b lasting fits deprecated = rw (lasting, fits, deprecated) refl
-
-pub what_fits_is_before_what_is_not_deprecated : (a b : Candidate) → a.is_default ≡ false → b.is_default ≡ false
-    → a.is_deprecated ≡ true → a.fits ≡ true → b.is_deprecated ≡ false → b.fits ≡ false → candidate_order a b ≡ Less
-what_fits_is_before_what_is_not_deprecated a b no_tag none deprecated fits lasting unfit =
-    rw (no_tag, none, deprecated, fits, lasting, unfit) refl
-
-pub the_version_of_the_tag_is_first : (a b : Candidate) → a.is_default ≡ true → b.is_default ≡ false → candidate_order a b ≡ Less
-the_version_of_the_tag_is_first a b tagged other = rw (tagged, other) refl
 
 -- Of two candidates that the tag does not tell apart, the later one has no higher rank. So the first one that a meaning admits has the highest
 -- rank of those that it admits, unless it is the version of the tag.
@@ -93,16 +81,9 @@ a_dependency_counts_before_a_peer = refl
 pub a_version_asks_for_no_dependency : asks_on manifest (Version Peers) no_rules nothing (codes "a") ≡ []
 a_version_asks_for_no_dependency = refl
 
-pub a_version_asks_for_its_peer : asks_on manifest (Version Peers) no_rules nothing (codes "b")
-    ≡ record { name = codes "b"; spec = codes "^3"; needed = true } ∷ []
-a_version_asks_for_its_peer = refl
-
 pub an_optional_peer_only_limits : asks_on manifest (Version Peers) no_rules nothing (codes "c")
     ≡ record { name = codes "c"; spec = codes "^4"; needed = false } ∷ []
 an_optional_peer_only_limits = refl
-
-pub peers_can_be_left_out : asks_on manifest (Version Peers) no_rules (record { dev = false; optional = false; peer = true }) (codes "b") ≡ []
-peers_can_be_left_out = refl
 
 -- ---- what a version asks for whose dependencies count: `{"devDependencies": {"a": "^1"}, "optionalDependencies": {"b": "^2"},
 -- "dependencies": {"b": "^3", "c": "^4"}}`
@@ -113,70 +94,21 @@ bundled = object (member (codes "devDependencies") (object (member (codes "a") (
     (member (codes "dependencies") (object (member (codes "b") (string (codes "^3")) (member (codes "c") (string (codes "^4")) no_members)))
     no_members)))
 
-pub a_flat_version_asks_for_its_dependency : asks_on bundled (Version Dependencies) no_rules nothing (codes "c")
-    ≡ record { name = codes "c"; spec = codes "^4"; needed = true } ∷ []
-a_flat_version_asks_for_its_dependency = refl
-
 pub an_optional_dependency_of_a_version_only_limits : asks_on bundled (Version Dependencies) no_rules nothing (codes "b")
     ≡ record { name = codes "b"; spec = codes "^2"; needed = false } ∷ []
 an_optional_dependency_of_a_version_only_limits = refl
 
-pub a_root_needs_its_optional_dependency : asks_on bundled Root no_rules nothing (codes "b")
-    ≡ record { name = codes "b"; spec = codes "^2"; needed = true } ∷ []
-a_root_needs_its_optional_dependency = refl
-
 pub development_of_a_version_never_counts : asks_on bundled (Version Dependencies) no_rules nothing (codes "a") ≡ []
 development_of_a_version_never_counts = refl
 
-pub optional_dependencies_are_left_out_everywhere : asks_on bundled (Version Dependencies) no_rules
-    (record { dev = false; optional = true; peer = false }) (codes "b") ≡ []
-optional_dependencies_are_left_out_everywhere = refl
-
--- ---- what `overrides` change: `{"overrides": {"a": "2.0.0", "b": {"c": "3.0.0"}}}`
-
-abbrev root : Data
-root = object (member (codes "overrides") (object (member (codes "a") (string (codes "2.0.0")) (member (codes "b")
-    (object (member (codes "c") (string (codes "3.0.0")) no_members)) no_members))) no_members)
-
-pub a_rule_counts_for_the_root : asks_on manifest Root (rule_in root) nothing (codes "a")
-    ≡ record { name = codes "a"; spec = codes "2.0.0"; needed = true } ∷ []
-a_rule_counts_for_the_root = refl
+-- ---- what `overrides` change
 
 pub a_rule_counts_for_a_version : asks_on bundled (Version Dependencies)
     (rule_in (object (member (codes "overrides") (object (member (codes "c") (string (codes "npm:d@1")) no_members)) no_members))) nothing (codes "c")
     ≡ record { name = codes "c"; spec = codes "npm:d@1"; needed = true } ∷ []
 a_rule_counts_for_a_version = refl
 
-pub a_rule_counts_for_a_peer_that_is_not_needed : asks_on manifest (Version Peers)
-    (rule_in (object (member (codes "overrides") (object (member (codes "c") (string (codes "5")) no_members)) no_members))) nothing (codes "c")
-    ≡ record { name = codes "c"; spec = codes "5"; needed = false } ∷ []
-a_rule_counts_for_a_peer_that_is_not_needed = refl
-
-pub by_a_rule_that_is_not_read_nothing_changes : asks_on bundled (Version Dependencies) (rule_in root) nothing (codes "c")
-    ≡ record { name = codes "c"; spec = codes "^4"; needed = true } ∷ []
-by_a_rule_that_is_not_read_nothing_changes = refl
-
-pub a_rule_asks_for_nothing_itself : asks_on bundled (Version Peers) (rule_in root) nothing (codes "a") ≡ []
-a_rule_asks_for_nothing_itself = refl
-
 pub without_a_rule_nothing_changes : (asker : Data) (owner : Owner) (rules : RulesValue) (omits : Omits) (name : List ℕ)
     → rules name ≡ None → asks_on asker owner rules omits name
     ≡ option_map_or (asks_by owner omits name) (asked_of asker (not (is_root owner)) name) []
 without_a_rule_nothing_changes asker owner rules omits name none = rw none refl
-
-pub a_folder_asks_no_registry : is_registered (record { name = codes "a"; spec = codes "file:a"; needed = true }) ≡ false
-a_folder_asks_no_registry = refl
-
-pub an_alias_asks_a_registry : is_registered (record { name = codes "a"; spec = codes "npm:b@^1"; needed = true }) ≡ true
-an_alias_asks_a_registry = refl
-
--- ---- tags: `{"dist-tags": {"latest": "1.2.0"}}`
-
-abbrev document : Data
-document = object (member (codes "dist-tags") (object (member (codes "latest") (string (codes "1.2.0")) no_members)) no_members)
-
-pub the_tag_names_it : is_tagged document (codes "latest") (codes "1.2.0") ≡ true
-the_tag_names_it = refl
-
-pub the_tag_names_no_other : is_tagged document (codes "latest") (codes "1.3.0") ≡ false
-the_tag_names_no_other = refl

@@ -1,7 +1,8 @@
 -- No member is left.
 use Rattle.std.proofs.Common.{◌≡◌, ◌∙◌, ◌+◌, ap, arith}
 use Rattle.serde_json.specs.View.{members_view, view}
-use Rattle.npm_lock_reports.specs.Count.{counted, omitted_in}
+use Rattle.npm_lock.specs.Findings.{counted}
+use Rattle.npm_lock_reports.specs.Count.{omitted_in}
 use Rattle.npm_lock_reports.proofs.count.count_in.Goals as goal
 
 pub returns : goal.returns

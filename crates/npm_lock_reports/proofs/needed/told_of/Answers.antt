@@ -1,10 +1,10 @@
 -- One dependency more, of this package.
 use Rattle.std.proofs.Common.{◌∙◌, ap, map, refl, sym}
 use Rattle.serde_json.specs.View.{view}
+use Rattle.npm_lock.specs.Mismatches.{member_at}
 use Rattle.npm_lock.specs.Outcomes.{dependency_value}
 use Rattle.npm_packages.specs.Edges.{edge_value}
 use Rattle.npm_lock_reports.specs.Needed.{is_marked_at, told_if, told_in}
-use Rattle.npm_lock_reports.specs.Omissions.{member_at}
 use Rattle.npm_lock_reports.proofs.Needing.{next_told}
 use Rattle.npm_lock_reports.proofs.needed.told_of.Goals as goal
 

@@ -4,7 +4,8 @@ use Rattle.std.proofs.lemmas.Bool.{le-ltb, lt-ltb}
 use Rattle.std.specs.List.{after_first, before_first, position_or_len}
 use Rattle.std.specs.Option.{MatchOption}
 use denote.Ref.{Bor}
-use Rattle.npm_lock_reports.specs.Projects.{is_slash, part_values, parts_of}
+use Rattle.npm_texts.specs.SpecGrammar.{is_slash}
+use Rattle.npm_lock_reports.specs.Projects.{part_values, parts_of}
 use Rattle.npm_lock_reports.proofs.workspace.parts_of.Goals as goal
 
 divided : (word : List ℕ) (r : Option (Bor (List ℕ) × Bor (List ℕ)))

@@ -2,10 +2,11 @@
 use Rattle.std.proofs.Common.{◌≡◌, inl, inr, string_bytes}
 use Rattle.std.specs.List.Sorted.{IsStrictlySortedBy}
 use Rattle.serde_json.specs.View.{members_view, view}
+use Rattle.npm_packages.specs.Lemmas.FolderMaps.{more_that, names_that, one_folder, passed}
 use Rattle.npm_packages.specs.LinkedFolders.{IsLinkTo}
 use Rattle.npm_packages.specs.PackageValue.{packages_data}
 use Rattle.npm_packages.proofs.Groups.{absent}
-use Rattle.npm_packages.proofs.LinkedLists.{more_that, names_that, one_folder, one_member, passed, passed_by}
+use Rattle.npm_packages.proofs.LinkedLists.{one_member, passed_by}
 use Rattle.npm_packages.proofs.linked.folders_of.Goals as goal
 
 pub loop-member-init : goal.loop-member-init

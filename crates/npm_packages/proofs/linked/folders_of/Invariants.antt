@@ -3,7 +3,8 @@ use Rattle.std.proofs.Common.{◌⊎◌, ◌↔◌, ℕ, List, string_cmp}
 use Rattle.std.specs.List.Sorted.{IsStrictlySortedBy}
 use Rattle.std.specs.Map.{keys_of}
 use Rattle.serde_json.specs.View.{members_view}
-use Rattle.npm_packages.specs.Private.Linked.{HasFolder, IsLinkedAmong}
+use Rattle.npm_packages.specs.Lemmas.FolderMaps.{HasFolder}
+use Rattle.npm_packages.specs.Private.Linked.{IsLinkedAmong}
 use Rattle.npm_packages.specs.PackageValue.{packages_data}
 use Rattle.npm_packages.proofs.linked.folders_of.Given as goal
 

@@ -3,7 +3,7 @@ use Rattle.version_solving.specs.Documents.{problem_of}
 use Rattle.version_solving.specs.Fitting.{IsChange}
 use Rattle.version_solving.specs.Naming.{IsAskOf}
 use Rattle.npm_resolve.specs.Explanations.{IsCulprit}
-use Rattle.npm_resolve.proofs.Zips.{one_more, zip_get_or, zip_inside}
+use Rattle.npm_pick.specs.Lemmas.Zips.{one_more, zip_get_or, zip_inside}
 use Rattle.npm_resolve.proofs.culprits.all_told.Goals as goal
 
 pub loop-place-init : goal.loop-place-init

@@ -1,6 +1,6 @@
 -- One line more.
 use Rattle.npm_resolve.specs.Explanations.{IsReasonOf}
-use Rattle.npm_resolve.proofs.Zips.{item_more}
+use Rattle.npm_pick.specs.Lemmas.Zips.{item_more}
 use Rattle.npm_resolve.proofs.explained.all_explained.Goals as goal
 
 pub loop-line-preserved : goal.loop-line-preserved

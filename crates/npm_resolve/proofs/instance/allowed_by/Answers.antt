@@ -3,7 +3,7 @@ use Rattle.std.specs.Prelude.{◌↔◌, Bool, IsTrue}
 use Rattle.std.proofs.lemmas.List.{take_all}
 use Rattle.npm_resolve.specs.Meanings.{IsAdmitted}
 use Rattle.npm_resolve.specs.declared.candidates.candidate.Candidate.{Candidate}
-use Rattle.npm_resolve.proofs.Zips.{item_more}
+use Rattle.npm_pick.specs.Lemmas.Zips.{item_more}
 use Rattle.npm_resolve.proofs.instance.allowed_by.Goals as goal
 
 pub loop-candidate-preserved : goal.loop-candidate-preserved

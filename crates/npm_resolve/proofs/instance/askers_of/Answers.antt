@@ -3,7 +3,7 @@ use Rattle.std.proofs.Common.{map}
 use Rattle.npm_packages.specs.Rules.{rule_at}
 use Rattle.npm_resolve.specs.Asks.{ask_value}
 use Rattle.npm_resolve.specs.Instance.{IsAsker}
-use Rattle.npm_resolve.proofs.Zips.{item_more}
+use Rattle.npm_pick.specs.Lemmas.Zips.{item_more}
 use Rattle.npm_resolve.proofs.instance.askers_of.Goals as goal
 
 pub loop-candidate-preserved : goal.loop-candidate-preserved

@@ -2,7 +2,7 @@
 use Rattle.std.proofs.Common.{refl}
 use Rattle.npm_packages.specs.Rules.{rule_at}
 use Rattle.npm_resolve.specs.Instance.{IsListedFor}
-use Rattle.npm_resolve.proofs.Zips.{item_more}
+use Rattle.npm_pick.specs.Lemmas.Zips.{item_more}
 use Rattle.npm_resolve.proofs.instance.lists_of.Goals as goal
 
 pub loop-offer-preserved : goal.loop-offer-preserved

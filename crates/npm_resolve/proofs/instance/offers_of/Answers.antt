@@ -1,6 +1,6 @@
 -- The candidates of one document more.
 use Rattle.npm_resolve.specs.Instance.{IsOffer}
-use Rattle.npm_resolve.proofs.Zips.{item_more}
+use Rattle.npm_pick.specs.Lemmas.Zips.{item_more}
 use Rattle.npm_resolve.proofs.instance.offers_of.Goals as goal
 
 pub loop-document-preserved : goal.loop-document-preserved

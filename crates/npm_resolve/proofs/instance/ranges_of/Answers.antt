@@ -1,6 +1,6 @@
 -- One range more.
 use Rattle.npm_resolve.specs.Instance.{IsRangeFor}
-use Rattle.npm_resolve.proofs.Zips.{one_more}
+use Rattle.npm_pick.specs.Lemmas.Zips.{one_more}
 use Rattle.npm_resolve.proofs.instance.ranges_of.Goals as goal
 
 pub loop-one-preserved : goal.loop-one-preserved

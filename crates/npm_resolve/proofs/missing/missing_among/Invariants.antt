@@ -2,7 +2,7 @@
 use Rattle.std.proofs.Common.{◌≡◌, ◌++◌, drop, map}
 use Rattle.version_solving.specs.declared.ask.Listed.{Listed}
 use Rattle.npm_resolve.specs.Missing.{missing_among}
-use Rattle.npm_resolve.specs.ReasonValues.{text}
+use Rattle.npm_resolve.specs.Texts.{text}
 use Rattle.npm_resolve.proofs.missing.missing_among.Given as goal
 
 abbrev pub invariant-loop-one : goal.invariant-loop-one

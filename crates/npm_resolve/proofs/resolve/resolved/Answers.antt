@@ -4,8 +4,8 @@ use Rattle.version_solving.specs.Naming.{IsDemandOf}
 use Rattle.version_solving.specs.declared.ask.Listed.{Listed}
 use Rattle.npm_resolve.specs.Asks.{RulesValue, ask_value}
 use Rattle.npm_resolve.proofs.Unmet.{root_length}
-use Rattle.npm_resolve.proofs.Zips.{zip_length}
-use Rattle.npm_resolve.specs.ReasonValues.{text}
+use Rattle.npm_pick.specs.Lemmas.Zips.{zip_length}
+use Rattle.npm_resolve.specs.Texts.{text}
 use Rattle.npm_resolve.specs.Rules.{unread_among}
 use Rattle.npm_resolve.proofs.resolve.resolved.Goals as goal
 

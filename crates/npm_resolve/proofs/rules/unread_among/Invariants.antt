@@ -2,7 +2,7 @@
 use Rattle.std.proofs.Common.{◌≡◌, ◌++◌, drop, map}
 use Rattle.version_solving.specs.declared.ask.Listed.{Listed}
 use Rattle.npm_packages.specs.Rules.{rule_at}
-use Rattle.npm_resolve.specs.ReasonValues.{text}
+use Rattle.npm_resolve.specs.Texts.{text}
 use Rattle.npm_resolve.specs.Rules as Counting
 use Rattle.npm_resolve.proofs.rules.unread_among.Given as goal
 

@@ -1,6 +1,6 @@
 -- The one choice is of the first candidate, which is the version that is picked.
 use Rattle.std.proofs.Common.{◌∙◌, ap, map, sym}
-use Rattle.npm_resolve.specs.ReasonValues.{text}
+use Rattle.npm_resolve.specs.Texts.{text}
 use Rattle.serde_json.specs.View.{view}
 use Rattle.npm_resolve_laws.proofs.Answering.{as_picked}
 use Rattle.npm_resolve_laws.proofs.WishPosing.{alone_posed}

@@ -1,7 +1,7 @@
 -- The package of one version more.
 use Rattle.std.proofs.Common.{[]}
+use Rattle.npm_pick.specs.Lemmas.Gathering.{made_all, made_at}
 use Rattle.npm_resolve.specs.Answers.{chosen_value}
-use Rattle.npm_resolve_reports.proofs.Gathered.{made_all, made_at}
 use Rattle.npm_resolve_reports.specs.Locks.{installed_by}
 use Rattle.npm_resolve_reports.proofs.lock.all_installed.Goals as goal
 

@@ -1,6 +1,6 @@
 -- The documents, the answer for them, and its lines.
 use Rattle.std.proofs.Common.{◌≡◌, ◌∙◌, false, map, refl, sym, true}
-use Rattle.npm_resolve.specs.ReasonValues.{text}
+use Rattle.npm_resolve.specs.Texts.{text}
 use Rattle.npm_resolve_reports.specs.Reply.{is_unread}
 use Rattle.npm_resolve_reports.proofs.reply.reply_of.Goals as goal
 

@@ -8,5 +8,5 @@ pub returns-in-Ok-Some-clause-refused : goal.returns-in-Ok-Some-clause-refused
 returns-in-Ok-Some-clause-refused c =
     let fault : Some c.in-Ok-Some.found.fault
     ≡ any_fault (view c.args.lock.now) (option_map (λ manifest. view manifest.now) c.args.manifest) =
-    rw c.in-Ok-Some.field-0-is at c.in-Ok-Some.ensures.fault in
+    rw c.in-Ok-Some.field-0-is at c.in-Ok-Some.ensures in
     inl (c.in-Ok-Some.found, refl, sym fault)

@@ -1,7 +1,7 @@
 -- The dependencies of one manifest more.
 use Rattle.serde_json.specs.View.{view}
 use Rattle.npm_pick_reports.specs.Asks.{manifest_asks}
-use Rattle.npm_pick_reports.proofs.Gathering.{made_all, made_more}
+use Rattle.npm_pick.specs.Lemmas.Gathering.{made_all, made_more}
 use Rattle.npm_pick_reports.proofs.mirror.asks.add_manifests.Goals as goal
 
 pub loop-manifest-preserved : goal.loop-manifest-preserved

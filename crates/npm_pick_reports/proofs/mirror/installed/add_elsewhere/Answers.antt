@@ -1,8 +1,8 @@
 -- A folder is inserted, or none.
 use Rattle.std.proofs.Common.{inl, inr}
 use Rattle.npm_packages.specs.Edges.{edge_value}
+use Rattle.npm_packages.specs.Lemmas.FolderMaps.{more_that, names_that, one_folder}
 use Rattle.npm_pick_reports.specs.Installed.{IsFoundElsewhere}
-use Rattle.npm_pick_reports.proofs.Elsewhere.{more_that, names_that, one_folder}
 use Rattle.npm_pick_reports.proofs.mirror.installed.add_elsewhere.Goals as goal
 
 pub returns-in_default : goal.returns-in_default

@@ -2,7 +2,7 @@
 use Rattle.std.proofs.Common.{◌∙◌, [], ◌∷◌, ap, append-nil, option_map, refl, sym}
 use Rattle.npm_texts.specs.RegistrySpec.{registry_spec_value}
 use Rattle.npm_pick_reports.specs.Installed.{asked, other, unversioned}
-use Rattle.npm_pick_reports.proofs.Gathering.{pushed-seen}
+use Rattle.npm_pick.specs.Lemmas.Gathering.{pushed-seen}
 use Rattle.npm_pick_reports.proofs.Mirrors.{no_truth}
 use Rattle.npm_pick_reports.proofs.mirror.installed.add_package.Goals as goal
 

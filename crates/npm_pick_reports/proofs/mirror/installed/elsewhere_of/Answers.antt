@@ -1,7 +1,8 @@
 -- One dependency more.
 use Rattle.std.proofs.Common.{inl, inr}
 use Rattle.std.proofs.lemmas.List.{drop_all}
-use Rattle.npm_pick_reports.proofs.Elsewhere.{left_at, passed}
+use Rattle.npm_packages.specs.Lemmas.FolderMaps.{passed}
+use Rattle.npm_pick_reports.proofs.Elsewhere.{left_at}
 use Rattle.npm_pick_reports.proofs.mirror.installed.elsewhere_of.Goals as goal
 
 pub loop-edge-init : goal.loop-edge-init
@@ -14,8 +15,8 @@ loop-edge-init c = λ folder. (
 )
 
 pub loop-edge-preserved : goal.loop-edge-preserved
-loop-edge-preserved c = λ folder. passed (left_at c.args.edges.now c.loop-edge.edge-index _ folder
-    c.loop-edge-test.true (c.loop-edge.invariant folder)) (c.in_ok-add_elsewhere.ensures folder)
+loop-edge-preserved c = λ folder. passed (c.loop-edge.invariant folder)
+    (left_at c.args.edges.now c.loop-edge.edge-index _ folder c.loop-edge-test.true) (c.in_ok-add_elsewhere.ensures folder)
 
 pub returns : goal.returns
 returns c = λ folder.

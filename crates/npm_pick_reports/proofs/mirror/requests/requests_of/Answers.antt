@@ -2,7 +2,7 @@
 use Rattle.std.proofs.Common.{[]}
 use Rattle.npm_pick_reports.specs.Asks.{ask_value}
 use Rattle.npm_pick_reports.specs.Mirror.{requests_by}
-use Rattle.npm_pick_reports.proofs.Gathering.{made_all, made_at}
+use Rattle.npm_pick.specs.Lemmas.Gathering.{made_all, made_at}
 use Rattle.npm_pick_reports.proofs.mirror.requests.requests_of.Goals as goal
 
 pub loop-ask-preserved : goal.loop-ask-preserved

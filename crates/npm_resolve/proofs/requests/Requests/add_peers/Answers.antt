@@ -4,7 +4,7 @@ use Rattle.std.proofs.lemmas.List.{take_all}
 use Rattle.std.specs.List.{flat_map}
 use Rattle.npm_resolve.specs.Asks.{AskValue, ask_value}
 use Rattle.npm_resolve.proofs.Gathering.{none_added, peers_more}
-use Rattle.npm_resolve.proofs.Zips.{item_more}
+use Rattle.npm_pick.specs.Lemmas.Zips.{item_more}
 use Rattle.npm_resolve.specs.Documents.{IsPeer}
 use Rattle.npm_resolve.specs.Rules.{rules_of}
 use Rattle.npm_resolve.proofs.requests.Requests.add_peers.Goals as goal

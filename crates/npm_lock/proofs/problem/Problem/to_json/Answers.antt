@@ -1,9 +1,0 @@
--- One member is put beside those of the dependency.
-use Rattle.std.proofs.Common.{rules}
-use Rattle.serde_json.proofs.OnLiterals.{serde_json_on_literals}
-use Rattle.serde_json.proofs.Views.{view-Object}
-use Rattle.npm_lock.proofs.problem.Problem.to_json.Goals as goal
-
-pub returns : goal.returns
-unfolding serde_json_on_literals
-returns c = search (rules, view-Object)

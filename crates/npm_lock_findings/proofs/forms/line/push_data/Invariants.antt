@@ -1,8 +1,0 @@
--- The text has the bytes so far.
-use Rattle.std.proofs.Common.{◌≡◌, ◌++◌, take}
-use Rattle.std.specs.List.{flat_map}
-use Rattle.npm_lock_findings.specs.Private.Writing.{data_byte}
-use Rattle.npm_lock_findings.proofs.forms.line.push_data.Given as goal
-
-abbrev pub invariant-loop-byte : goal.invariant-loop-byte
-invariant-loop-byte l = l.out.items ≡ l.initial.out.items ++ flat_map data_byte (take l.byte-index l.text)

@@ -86,17 +86,30 @@ fn outcome_of<'a>(rt: &HostRuntime, words: &'a [String]) -> Result<Option<Done>,
     let before = before_of(rt.alloc(), asked.before)?;
     let node = node_of(rt.alloc(), asked.node)?;
     let npm = npm_of(rt.alloc(), asked.npm)?;
-    let options = Options {
-        default_tag: asked.tag.unwrap_or("latest"),
-        before,
-        avoid: asked.avoid,
-        avoid_strict: asked.avoid_strict,
-        include_staged: asked.include_staged,
-        node: version_of(&node),
-        npm: version_of(&npm),
-    };
+    let mut options = options_of(asked.tag, asked.avoid, &node, &npm);
+    options.before = before;
+    options.avoid_strict = asked.avoid_strict;
+    options.include_staged = asked.include_staged;
     let done = do_task(rt, task, &asked, &options)?;
     Ok(Some(done))
+}
+
+/// Returns the options of a pick, without a time and without what may be set or not.
+fn options_of<'o>(
+    tag: Option<&'o str>,
+    avoid: Option<&'o str>,
+    node: &'o Option<String>,
+    npm: &'o Option<String>,
+) -> Options<'o> {
+    Options {
+        default_tag: tag.unwrap_or("latest"),
+        before: None,
+        avoid,
+        avoid_strict: false,
+        include_staged: false,
+        node: version_of(node),
+        npm: version_of(npm),
+    }
 }
 
 /// Writes a text about the program.

@@ -71,7 +71,11 @@ fn push_json_byte(out: &mut Vec<u8>, byte: u8) -> Result<(), AllocError>
         push_escape(out, Form::Json, "\\\\")
     } else if byte < 32 {
         push_escape(out, Form::Json, "\\u")?;
-        push_plain(out, Form::Json, &[b'0', b'0', hex(byte / 16, b'A'), hex(byte % 16, b'A')])
+        push_plain(
+            out,
+            Form::Json,
+            &[b'0', b'0', hex(byte / 16, b'A'), hex(byte % 16, b'A')],
+        )
     } else {
         push_plain(out, Form::Json, &[byte])
     }
@@ -104,7 +108,11 @@ fn push_markup_byte(out: &mut Vec<u8>, byte: u8, is_hidden: bool) -> Result<(), 
     ensures { OnOk result (Adds Form.Markup out.old.items out.new.items) }
 {
     match byte {
-        _ if is_hidden || byte < 32 || byte == 127 => push_plain(out, Form::Markup, &numbered(byte)),
+        _ if is_hidden || byte < 32 || byte == 127 => push_plain(
+            out,
+            Form::Markup,
+            &numbered(byte),
+        ),
         b'&' => push_escape(out, Form::Markup, "&amp;"),
         b'<' => push_escape(out, Form::Markup, "&lt;"),
         b'>' => push_escape(out, Form::Markup, "&gt;"),
@@ -116,11 +124,7 @@ fn push_markup_byte(out: &mut Vec<u8>, byte: u8, is_hidden: bool) -> Result<(), 
 
 /// Adds the bytes of an address: RFC 3986, section 2.3, "Unreserved Characters". A byte that has a meaning there is written by its number, as
 /// `%20`.
-pub(crate) fn push_address(
-    out: &mut Vec<u8>,
-    form: Form,
-    path: &[u8],
-) -> Result<(), AllocError>
+pub(crate) fn push_address(out: &mut Vec<u8>, form: Form, path: &[u8]) -> Result<(), AllocError>
     ensures { OnOk result (Adds form out.old.items out.new.items) }
 {
     for byte in path {
@@ -136,6 +140,10 @@ fn push_address_byte(out: &mut Vec<u8>, form: Form, byte: u8) -> Result<(), Allo
     if byte.is_ascii_alphanumeric() || b"-._~/".contains(&byte) {
         push_plain(out, form, &[byte])
     } else {
-        push_plain(out, form, &[b'%', hex(byte / 16, b'A'), hex(byte % 16, b'A')])
+        push_plain(
+            out,
+            form,
+            &[b'%', hex(byte / 16, b'A'), hex(byte % 16, b'A')],
+        )
     }
 }

@@ -57,7 +57,12 @@ fn push_piece(out: &mut Vec<u8>, form: Form, piece: Piece<'_>) -> Result<(), All
         Piece::Message(text) => push_text(out, form, text, true),
         Piece::Address(text) => push_address(out, form, text),
         Piece::Number(number) => {
-            push_text(out, form, itoa::Buffer::new().format(number).as_bytes(), false)
+            push_text(
+                out,
+                form,
+                itoa::Buffer::new().format(number).as_bytes(),
+                false,
+            )
         }
     }
 }

@@ -3,6 +3,7 @@
 # check that failed would make the answer `undecided`, which none is here where steps are left. It costs a second reading of all demands.
 import pytest
 
+import families
 import reasons
 import solving
 from support import programs
@@ -105,6 +106,23 @@ def test_more_than_a_thousand_lines_are_found():
     _, lines = lines_of(case)
     assert (len(lines), is_proof(case[0], lines, case)) == (1202, "reasons")
     assert is_proof(case[0], lines[:-1], case) == "no reasons"
+
+
+def test_versions_that_ask_for_ranges_of_their_own_have_a_line_each():
+    """Each of 25 candidates needs another one of the first 25 of name 1, and the root wants the last 25: the root's two lines, one for each
+    candidate, one for name 0 and one for name 1."""
+    own = [[int(place == one) for place in range(50)] for one in range(25)]
+    case = [[[0, 0, True], [1, 1, True]], [[[[1, 2 + one, True]] for one in range(25)], [[]] * 50], [[1] * 25, [0] * 25 + [1] * 25, *own]]
+    said, lines = lines_of(case)
+    assert (said, len(lines), reasons.fault_of(case, case[0], lines)) == ("none 0:0 1:1", 29, None)
+
+
+# Among names that follow one another the root wants an old version, and there are no more lines than these.
+@pytest.mark.parametrize("names, seed, most", [(40, 1, 53), (80, 1, 78)])
+def test_few_lines_say_why_a_wish_among_many_is_wrong(names, seed, most):
+    case = families.neighbours(names, seed)
+    said, lines = lines_of(case)
+    assert len(lines) <= most and reasons.fault_of(case, solving.culprits_of(case, said.split(" ")[1:]), lines) is None
 
 
 # Two candidates of each name need the candidate of the next one that has their number.

@@ -5,12 +5,15 @@
 
 mod check;
 mod demands;
+mod fewer;
 mod known;
 mod needed;
+mod order;
 mod path;
 mod reason;
 mod refute;
 mod terms;
+mod used;
 
 pub use check::is_proof;
 pub use reason::{Reason, Source, Term, Wish};

@@ -1,5 +1,6 @@
 //! Demands of the root and of chosen candidates.
 
+use crate::words::number;
 use crate::{Demand, Documents};
 
 /// A demand, and the name whose candidate makes it. The demands of the root have no such name.
@@ -17,9 +18,9 @@ pub fn chosen(table: &[Option<usize>], name: usize) -> Option<usize> {
     }
 }
 
-/// Returns `true` if a demand needs a name that is not chosen and has fewer candidates than that of another demand.
+/// Returns `true` if a demand needs a name that is not chosen and is lighter than that of another demand.
 fn is_nearer(
-    documents: &Documents,
+    weights: &[usize],
     demand: Demand,
     other: Option<Entry>,
     table: &[Option<usize>],
@@ -28,21 +29,21 @@ fn is_nearer(
         return false;
     }
     match other {
-        Some(other) => documents.count(demand.name) < documents.count(other.demand.name),
+        Some(other) => number(weights, demand.name) < number(weights, other.demand.name),
         None => true,
     }
 }
 
-/// Replaces a demand by one of these that needs a name with fewer candidates, if there is one.
+/// Replaces a demand by one of these that needs a lighter name, if there is one.
 pub fn add_wanter(
     wanter: &mut Option<Entry>,
-    documents: &Documents,
+    weights: &[usize],
     demands: &[Demand],
     table: &[Option<usize>],
     owner: Option<usize>,
 ) {
     for demand in demands {
-        if is_nearer(documents, *demand, *wanter, table) {
+        if is_nearer(weights, *demand, *wanter, table) {
             *wanter = Some(Entry {
                 owner,
                 demand: *demand,

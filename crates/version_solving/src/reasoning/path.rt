@@ -22,6 +22,8 @@ pub struct Path {
     pub tries: Vec<Try>,
     pub table: Vec<Option<usize>>,
     pub known: Known,
+    /// For each name what it weighs: of the names that are needed the lightest is chosen.
+    pub weights: Vec<usize>,
 }
 
 /// What a step found.
@@ -54,7 +56,11 @@ fn add_others(terms: &mut Vec<Term>, others: &[Term], name: usize) -> Result<(),
 }
 
 impl Path {
-    pub fn new(alloc: Global, documents: &Documents) -> Result<Path, AllocError> {
+    pub fn new(
+        alloc: Global,
+        documents: &Documents,
+        weights: Vec<usize>,
+    ) -> Result<Path, AllocError> {
         let mut table = Vec::new(alloc);
         for _ in &documents.packages {
             table.push(None)?;
@@ -63,19 +69,20 @@ impl Path {
             tries: Vec::new(alloc),
             table,
             known: Known::new(alloc, documents)?,
+            weights,
         })
     }
 
-    /// Returns the first candidate of a name that is needed, if one is: of the names that are needed that with the fewest candidates,
-    /// and of several the one that is needed first.
+    /// Returns the first candidate of a name that is needed, if one is: of the names that are needed the lightest, and of several the one
+    /// that is needed first.
     pub fn next(&self, alloc: Global, root: &[Demand], documents: &Documents) -> Option<Try> {
         let mut wanter = None;
-        add_wanter(&mut wanter, documents, root, &self.table, None);
+        add_wanter(&mut wanter, &self.weights, root, &self.table, None);
         for tried in &self.tries {
             let demands = documents.demands(tried.name, tried.candidate);
             add_wanter(
                 &mut wanter,
-                documents,
+                &self.weights,
                 demands,
                 &self.table,
                 Some(tried.name),

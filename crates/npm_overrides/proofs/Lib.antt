@@ -1,0 +1,4 @@
+pub mod Asked
+pub mod Choosing
+pub mod Examples
+pub mod Reading

@@ -1,0 +1,2 @@
+pub mod DependencyExamples
+pub mod TreeExamples

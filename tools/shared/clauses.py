@@ -42,7 +42,8 @@ class Call:
 @functools.cache
 def handed_on(crate):
     """What a crate hands on of others."""
-    return {way[-1] for path in files.sources(crate) for _, way in rattle.imported(rattle.source(path).code, "pub use")}
+    ways = (way for path in files.sources(crate) for _, way in rattle.imported(rattle.source(path).code, "pub use"))
+    return {way[-1] for way in ways if way[0] in listed()}
 
 
 def calls(name):

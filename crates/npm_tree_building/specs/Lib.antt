@@ -1,0 +1,1 @@
+-- This crate promises nothing of the trees that it builds.

@@ -196,6 +196,21 @@ def graph(count):
     return tree(count, False)
 
 
+def registry(count):
+    """A manifest, and the documents of the packages of a tree, by name. Each package has an old version too, and each tenth asks for that of one of
+    the shared ones, beside the new one in the root's folder."""
+    packages = tree(count)
+    root = packages.pop("")
+    documents = {}
+    for at, (folder, manifest) in enumerate(packages.items()):
+        name, asks = folder.removeprefix("node_modules/"), manifest["dependencies"]
+        if at % 10 == 5 and at < count - 200:
+            asks = {**asks, package(count - 1 - at % 200): "0.5.0"}
+        versions = {"0.5.0": {"name": name, "version": "0.5.0"}, manifest["version"]: {**manifest, "name": name, "dependencies": asks}}
+        documents[name] = {"name": name, "dist-tags": {"latest": manifest["version"]}, "versions": versions}
+    return root, documents
+
+
 def tree_advisories(count):
     """Advisories that hit each second package of a tree."""
     return {package(i): [{"id": i, "title": f"What {package(i)} does", "severity": "high", "vulnerable_versions": f"<={version(i)}",

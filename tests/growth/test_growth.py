@@ -1,5 +1,6 @@
-"""Counts the instructions of npm_lock_check at two sizes with valgrind: input of twice the size takes no more of them a byte, or a
-folder, but for a tenth."""
+"""Counts the instructions of npm_lock_check and npm_resolve at two sizes with valgrind: input of twice the size takes no more of them a byte, a
+folder or a package, but for a tenth."""
+import json
 import os
 import re
 import subprocess
@@ -10,10 +11,10 @@ from support import programs
 from growth import grown
 
 
-def instructions(words, given):
+def instructions(words, given, program="npm_lock_check"):
     """How many a run takes, and how many bytes it writes on standard output."""
     tool = ["valgrind", "--tool=callgrind", "--callgrind-out-file=/dev/null"]
-    ran = subprocess.run([*tool, programs.built("npm_lock_check"), *words], input=given.encode(), capture_output=True)
+    ran = subprocess.run([*tool, programs.built(program), *words], input=given.encode(), capture_output=True)
     return int(re.search(rb"Collected : (\d+)", ran.stderr)[1]), len(ran.stdout)
 
 
@@ -59,6 +60,19 @@ def of_folders(_, count, words):
     return instructions(["--manifest", f"{top}/package.json", *words], '{"lockfileVersion": 3, "packages": {"": {}}}')[0], count
 
 
+def of_registry(shape, count, words):
+    """A manifest and documents on disk, and how many packages the tree has."""
+    root, documents = shape(count)
+    mirror = f"mirror-{count}"
+    for name, document in documents.items():
+        os.makedirs(os.path.dirname(f"{mirror}/{name}"), exist_ok=True)
+        with open(f"{mirror}/{name}.json", "w", encoding="utf-8") as file:
+            json.dump(document, file)
+    found, written = instructions(["--manifest", "-", "--packuments", mirror, *words], json.dumps(root), "npm_resolve")
+    assert written, "no tree"
+    return found, count
+
+
 GROWTH = [
     ("deep folders, path", 1000, of_lock, grown.path),
     ("deep folders, modules", 130, of_lock, grown.modules),
@@ -84,6 +98,7 @@ GROWTH = [
     ("advisories, each of them excepted", 1600, of_exceptions, None),
     ("advisories", 2000, of_advisories, (grown.tree, grown.tree_advisories)),
     ("events of one OSV range", 2000, of_advisories, (grown.hit, grown.events)),
+    ("packages of a tree of folders", 500, of_registry, grown.registry, "--format", "lock"),
     ("askers of a package that is hit", 2000, of_advisories, (grown.hit, grown.one_advisory)),
 ]
 

@@ -9,7 +9,7 @@ import rattle
 # Libraries that no user calls, and those of which runs of the programs, or rows of the package for C, make each call.
 OTHERS = set("""named_calls node_semver_callers json_places npm_lock_findings command_lines npm_lock_reports npm_manifest_files
     npm_pick_reports version_solving npm_resolve npm_resolve_reports npm_resolve_laws npm_calls npm_overrides npm_trees npm_tree_building
-    npm_tree_locks""".split())
+    npm_tree_locks npm_tree_reports""".split())
 
 # The calls that make other functions, each with these functions.
 MAKES = {

@@ -57,7 +57,7 @@ def with_versions(manifest, versions):
 def selected(room, manifest, notes=""):
     """The versions that the program selects, or None if none fit together."""
     registry.put(os.path.join(room, "package.json"), manifest)
-    words = [programs.built("npm_resolve"), "--manifest", "package.json", "--packuments", "mirror", "--format", "json"]
+    words = [programs.built("npm_resolve"), "--peers", "--manifest", "package.json", "--packuments", "mirror", "--format", "json"]
     done = subprocess.run(words, cwd=room, stdin=subprocess.DEVNULL, capture_output=True, encoding="utf-8")
     assert done.returncode in (0, 1) and done.stderr == notes, f"{json.dumps(manifest)}: status {done.returncode}: {done.stderr}"
     said = json.loads(done.stdout)

@@ -71,7 +71,7 @@ def test_says_the_same(row, tmp_path, monkeypatch):
     put("package.json", row["manifest"])
     for name, document in documents_of(row).items():
         put(f"mirror/{name}.json", document)
-    words = [programs.built("npm_resolve"), "--manifest", "package.json", "--packuments", "mirror", *words_of(row.get("options", {}))]
+    words = [programs.built("npm_resolve"), "--peers", "--manifest", "package.json", "--packuments", "mirror", *words_of(row.get("options", {}))]
     ran = subprocess.run(words, stdin=subprocess.DEVNULL, capture_output=True, encoding="utf-8", env=programs.environment("npm_resolve"))
     if "error" in row:
         assert (ran.returncode, ran.stdout) == (2, "")

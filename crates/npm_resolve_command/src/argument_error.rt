@@ -20,14 +20,20 @@ pub enum ArgumentError<'a> {
     /// The value of `--omit` is no group.
     #[error("--omit takes dev, optional or peer, and not {0}; --help lists the options")]
     Omit(Quoted<'a>),
+    /// An option that has no meaning for a tree.
+    #[error("{0} takes --flat or --peers; --help lists the options")]
+    NotOfTrees(&'static str),
+    /// The folder of this manifest is not that of a workspace.
+    #[error("--manifest {0}: the folder of a workspace is below that of the first manifest, in no node_modules, and has one manifest; --help lists the options")]
+    NoWorkspace(Quoted<'a>),
     /// A lock file is asked for, and dependencies of versions do not count.
-    #[error("--format lock takes --flat: without it dependencies of versions are not selected; --help lists the options")]
+    #[error("--format lock takes no --peers: with it dependencies of versions are not selected; --help lists the options")]
     LockNotFlat,
     /// A lock file is asked for, and a group is left out.
     #[error("--format lock takes no --omit: a lock file has all groups; --help lists the options")]
     LockOmits,
     /// A lock file is asked for, and several manifests are named.
-    #[error("--format lock takes one --manifest; --help lists the options")]
+    #[error("--format lock with --flat takes one --manifest; --help lists the options")]
     LockOfManifests,
     /// No manifest is named.
     #[error("--manifest FILE is missing; --help lists the options")]

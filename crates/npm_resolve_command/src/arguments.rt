@@ -16,8 +16,8 @@ pub struct Arguments<'a> {
     pub packuments: Option<&'a str>,
     /// All manifests.
     pub manifests: Vec<&'a str>,
-    /// What counts of a version, by the last option that says so.
-    pub reach: Reach,
+    /// What counts of a version, by the last option that says so. `None`: npm's tree of folders is asked for.
+    pub reach: Option<Reach>,
     /// Each group that is left out.
     pub omits: Omits,
     pub tag: Option<&'a str>,
@@ -44,7 +44,7 @@ impl<'a> Arguments<'a> {
             format: Format::Text,
             packuments: None,
             manifests: Vec::new(alloc),
-            reach: Reach::Peers,
+            reach: None,
             omits: Omits {
                 dev: false,
                 optional: false,
@@ -65,8 +65,8 @@ impl<'a> Arguments<'a> {
     /// Sets an option that has no value. Returns `false` if the word is no such option.
     fn set_flag(&mut self, word: &str) -> bool {
         match word {
-            "--peers" => self.reach = Reach::Peers,
-            "--flat" => self.reach = Reach::Dependencies,
+            "--peers" => self.reach = Some(Reach::Peers),
+            "--flat" => self.reach = Some(Reach::Dependencies),
             "--lowest" => self.lowest = true,
             "--help" | "-h" => self.shown = Some(Shown::Help),
             "--version" | "-V" => self.shown = Some(Shown::Version),

@@ -41,3 +41,14 @@ fn lock_of_file<'a, 'v>(alloc: Global, file: &'v LockFile<'a>) -> Result<Lock<'v
         Err(fault) => Err(ProgramError::Lock(quoted, fault)),
     }
 }
+
+/// Checks that the lock file is one, if there is one.
+pub fn check_lock_file<'a>(
+    alloc: Global,
+    file: &Option<LockFile<'a>>,
+) -> Result<(), ProgramError<'a>> {
+    match lock_in(alloc, file) {
+        Ok(_) => Ok(()),
+        Err(error) => Err(error),
+    }
+}

@@ -4,6 +4,7 @@ use command_lines::{Quoted, WordsError};
 use npm_packages::Fault;
 use npm_pick_reports::ReadError;
 use npm_resolve_reports::RunError;
+use npm_tree_reports::TreeError;
 use std::alloc::AllocError;
 use thiserror::Error;
 
@@ -28,6 +29,9 @@ pub enum ProgramError<'a> {
     /// The lock file is of another version.
     #[error("--lock {0}: `lockfileVersion` is not 2 or 3")]
     LockVersion(Quoted<'a>),
+    /// There is no tree.
+    #[error("{0}")]
+    Tree(TreeError),
     /// The program stopped.
     #[error("{0}")]
     Run(RunError),
@@ -42,6 +46,12 @@ impl<'a> From<ArgumentError<'a>> for ProgramError<'a> {
 impl<'a> From<ReadError<'a>> for ProgramError<'a> {
     fn from(error: ReadError<'a>) -> ProgramError<'a> {
         ProgramError::Read(error)
+    }
+}
+
+impl<'a> From<TreeError> for ProgramError<'a> {
+    fn from(error: TreeError) -> ProgramError<'a> {
+        ProgramError::Tree(error)
     }
 }
 

@@ -24,7 +24,7 @@ pub fn check_lock<'a>(asked: &Arguments<'a>) -> Result<(), ArgumentError<'a>> {
     if asked.format != Format::Lock {
         return Ok(());
     }
-    if asked.reach != Reach::Dependencies {
+    if asked.reach == Some(Reach::Peers) {
         return Err(ArgumentError::LockNotFlat);
     }
     if asked.omits.dev || asked.omits.optional || asked.omits.peer {
@@ -32,6 +32,26 @@ pub fn check_lock<'a>(asked: &Arguments<'a>) -> Result<(), ArgumentError<'a>> {
     }
     if 1 < asked.manifests.len() {
         return Err(ArgumentError::LockOfManifests);
+    }
+    Ok(())
+}
+
+/// Checks that no argument has a meaning for a flat selection alone.
+pub fn check_tree<'a>(asked: &Arguments<'a>) -> Result<(), ArgumentError<'a>> {
+    if asked.omits.dev || asked.omits.optional || asked.omits.peer {
+        return Err(ArgumentError::NotOfTrees("--omit"));
+    }
+    if asked.lowest {
+        return Err(ArgumentError::NotOfTrees("--lowest"));
+    }
+    for (name, value) in [
+        ("--os", asked.os),
+        ("--cpu", asked.cpu),
+        ("--libc", asked.libc),
+    ] {
+        if value.is_some() {
+            return Err(ArgumentError::NotOfTrees(name));
+        }
     }
     Ok(())
 }

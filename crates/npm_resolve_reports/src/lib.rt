@@ -14,6 +14,7 @@ mod platform;
 mod reasons_json;
 mod reply;
 mod sentence;
+mod steps;
 mod text;
 
 pub use format::Format;

@@ -1,7 +1,7 @@
 //! Reasons as JSON objects. The first line has the number 0, as the first item of the array.
 use crate::Result;
 use crate::pieces::{Piece, push_pieces};
-use crate::sentence::Sentence;
+use crate::sentence::{Sentence, lines_of};
 use npm_resolve::{Document, Reason, Source, Term, Wish};
 use npm_texts::filled;
 use std::alloc::Global;
@@ -44,15 +44,15 @@ fn push_reason<'r>(
     documents: &'r [Document],
     reason: &'r Reason<'r>,
 ) -> Result<()> {
-    let said = text_of(
-        alloc,
-        Sentence {
-            documents,
-            reason,
-            together: slice::from_ref(reason),
-            numbers: &[],
-        },
-    )?;
+    let numbers = numbers_of(alloc, lines_of(reason))?;
+    let sentence = Sentence {
+        documents: &*documents,
+        reason: &*reason,
+        together: slice::from_ref(&*reason),
+        numbers: &numbers,
+        is_short: false,
+    };
+    let said = text_of(alloc, sentence)?;
     match &reason.source {
         Source::Root(wish) => {
             text.extend_from_slice(b"{\"source\":\"root\"")?;
@@ -83,6 +83,15 @@ fn push_reason<'r>(
         }
     }
     text.extend_from_slice(b"}")
+}
+
+/// The numbers of lines in sentences. The first line has the number 1 there.
+fn numbers_of(alloc: Global, lines: &[usize]) -> Result<Vec<usize>> {
+    let mut numbers = Vec::with_capacity(alloc, lines.len())?;
+    for line in lines {
+        numbers.push(line.saturating_add(1))?;
+    }
+    Ok(numbers)
 }
 
 /// The sentence.

@@ -1,8 +1,9 @@
 //! Lines for a person.
 use crate::Result;
 use crate::pieces::{Piece, push_pieces};
-use crate::sentence::{Sentence, wish_of_versions};
-use npm_resolve::{Chosen, Conflict, Culprit, Document, Reason, Resolution, Source};
+use crate::sentence::Sentence;
+use crate::steps::steps_of;
+use npm_resolve::{Chosen, Conflict, Culprit, Document, Reason, Resolution};
 use npm_texts::filled;
 use std::alloc::Global;
 
@@ -71,7 +72,7 @@ fn push_known(
     }
 }
 
-/// Adds why it cannot be installed. What the same versions ask for is one line.
+/// Adds why it cannot be installed.
 fn push_reasons<'r>(
     alloc: Global,
     lines: &mut Vec<u8>,
@@ -79,52 +80,21 @@ fn push_reasons<'r>(
     reasons: &'r [Reason<'r>],
 ) -> Result<()> {
     lines.extend_from_slice(b"because\n")?;
-    let numbers = numbers_of(alloc, reasons)?;
-    let mut said = 0_usize;
-    for (place, reason) in reasons.iter().enumerate() {
-        let number = match numbers.get(place) {
-            Some(number) => *number,
-            None => 0,
-        };
-        if said < number {
-            said = number;
+    let mut number = 0_usize;
+    for step in steps_of(alloc, documents, reasons)? {
+        number = number.saturating_add(1);
+        if let Some(reason) = reasons.get(step.place) {
             let sentence = Sentence {
                 documents: &*documents,
                 reason,
                 together: &*reasons,
-                numbers: &numbers,
+                numbers: &step.numbers,
+                is_short: true,
             };
             push_reason(alloc, lines, number, sentence)?;
         }
     }
     Ok(())
-}
-
-/// The numbers of the lines, of which the first one is 1. What the same versions ask for has one number.
-fn numbers_of(alloc: Global, reasons: &[Reason<'_>]) -> Result<Vec<usize>> {
-    let mut numbers = Vec::with_capacity(alloc, reasons.len())?;
-    let mut count = 0_usize;
-    for reason in reasons {
-        let before = number_before(reasons, &numbers, reason);
-        count = count.saturating_add(if before.is_none() { 1 } else { 0 });
-        numbers.push(before.unwrap_or(count))?;
-    }
-    Ok(numbers)
-}
-
-/// The number of the first line that is about the same versions, if it has one.
-fn number_before(reasons: &[Reason<'_>], numbers: &[usize], reason: &Reason<'_>) -> Option<usize> {
-    let Source::Versions(name, _, keys) = &reason.source else {
-        return None;
-    };
-    for (place, number) in numbers.iter().enumerate() {
-        if let Some(before) = reasons.get(place) {
-            if wish_of_versions(before, name, keys).is_some() {
-                return Some(*number);
-            }
-        }
-    }
-    None
 }
 
 /// Adds a line of the reasons.

@@ -357,7 +357,7 @@ def chain_reasons(numbers):
 def resolve_runs():
     """Runs of npm_resolve_command on many names, versions, peers, manifests and notes."""
     numbers = [f"{number:04}" for number in range(MANY)]
-    words = ["--packuments", "mirror", "--manifest", "package.json"]
+    words = ["--peers", "--packuments", "mirror", "--manifest", "package.json"]
     three = document("1.0.0", "1.2.0", "2.0.0")
     many = {"dependencies": {f"n{at}": "^1" for at in numbers}}
     files = {"package.json": many, **{f"mirror/n{at}.json": three for at in numbers}}
@@ -384,6 +384,10 @@ def resolve_runs():
     files = {"package.json": {"dependencies": {f"n{numbers[0]}": "*"}}, **chained, **last}
     yield PickRun([*words, "--flat"], files, [f"n{at}@1.0.0" for at in numbers])
     yield PickRun([*words, "--flat", "--format", "lock"], files, lock_lines(numbers))
+    # each in a tree, and the same where all are asked for at once
+    yield PickRun(words[1:], files, [f"node_modules/n{at} n{at}@1.0.0" for at in numbers])
+    wide = {"package.json": many, **{f"mirror/n{at}.json": three for at in numbers}}
+    yield PickRun(words[1:], wide, [f"node_modules/n{at} n{at}@1.2.0" for at in numbers])
     alone = ["This cannot be installed:", f"  n{numbers[0]} *, which the root asks for", "because", *chain_reasons(numbers)]
     yield PickRun(words, {"package.json": {"dependencies": {f"n{numbers[0]}": "*"}}, **chain}, alone, status=1)
     notes = [f"npm_resolve: not from a registry: n{at} (./n{at})" for at in numbers]
@@ -391,7 +395,7 @@ def resolve_runs():
     # as many manifests as the words of a command line name, with a dependency each
     few = numbers[:450]
     files = {f"{at}.json": {"dependencies": {f"n{at}": "npm:a@1.0.0"}} for at in few}
-    of_all = ["--packuments", "mirror", *[word for at in few for word in ("--manifest", f"{at}.json")]]
+    of_all = ["--peers", "--packuments", "mirror", *[word for at in few for word in ("--manifest", f"{at}.json")]]
     yield PickRun(of_all, {**files, "mirror/a.json": three}, [f"n{at}@npm:a@1.0.0" for at in few])
     # long texts
     long = "a" * 200

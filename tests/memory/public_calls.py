@@ -30,7 +30,8 @@ MAKES = {
     "npm_pick::pick": "npm_pick::is_engine_for npm_pick::text_of npm_pick::up_to",
     "npm_pick::keep": "npm_pick::keys_in_order",
     "npm_lock::check": """npm_texts::range_of npm_texts::copied npm_texts::put_text npm_packages::lock_of Index::of_lock SoundLock::of
-        npm_lock::check_sound_lock Lock::find npm_packages::asked_of npm_packages::rules_of npm_packages::rules_in Problem::to_json Unchecked::to_json""",
+        npm_lock::check_sound_lock Lock::find npm_packages::asked_of npm_packages::rules_of npm_packages::rules_in Problem::to_json Unchecked::to_json
+        npm_lock::dependency_of Dependency::to_json npm_lock::object_of""",
     "npm_lock::check_any": "npm_packages::place_text",
     "npm_lock::mismatches_of": "Mismatch::to_json",
     "npm_lock::suspicious_sources": "Source::to_json",
@@ -38,7 +39,7 @@ MAKES = {
     "Dependents::of_lock": "Dependents::of_sound_lock",
 }
 MADE_BY = {name: call for call, names in MAKES.items() for name in names.split()}
-FREES = r"SemverError::out_of_memory|node_semver_c::.*_free"  # (and one that returns nothing but an error)
+FREES = r"SemverError::out_of_memory|node_semver_c::.*_free|npm_lock::fault_of"  # (these ask for no memory)
 
 PUBLIC = re.compile(r"\bpub\s+(?:(?:async|unsafe|const|extern)\s+)*$")
 OUT_OF_MEMORY = re.compile(r"\b(?:(?:Alloc)?Global|AllocError|Allocator)\b|(?<![\w:])Result<(?:[^<>,]|<[^<>]*>|\([^()]*\))*>\s*$")

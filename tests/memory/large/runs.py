@@ -343,14 +343,26 @@ def lock_lines(numbers):
 
 
 def chain_reasons(numbers):
-    """Why the first name of a chain cannot be installed if the last one has no document."""
-    lines = []
+    """Why the first name of a chain cannot be installed if the last one has no document: a line says what follows from at most seven others."""
+    lines, sources = [], []
+
+    def add(line):
+        lines.append(line)
+        sources.append(len(lines))
+
+    def conclude(line):
+        before = f"{', '.join(map(str, sources[:-1]))} and {sources[-1]}" if sources[1:] else f"{sources[0]}"
+        lines.append(f"{line} (by {before})")
+        sources[:] = [len(lines)]
+
     for at, after in reversed(list(zip(numbers, numbers[1:]))):
-        lines.append(f"n{at} 1.0.0 asks for n{after}")
-        start, by = (f"since n{after} has no document,", "1") if len(lines) == 1 else ("so", f"{len(lines) - 1} and {len(lines)}")
-        lines.append(f"{start} no version of n{at} that asks for n{after} fits (by {by})")
-    lines.append(f"the root asks for n{numbers[0]} *")
-    lines.append(f"so no version of n{numbers[0]} is left (by {len(lines) - 1} and {len(lines)})")
+        add(f"n{at} 1.0.0 asks for n{after}")
+        if len(lines) == 1:
+            conclude(f"since n{after} has no document, no version of n{at} that asks for n{after} fits")
+        elif len(sources) == 7:
+            conclude(f"so no version of n{at} that asks for n{after} fits")
+    add(f"the root asks for n{numbers[0]} *")
+    conclude(f"so no version of n{numbers[0]} is left")
     return [f"  {place}. {line}" for place, line in enumerate(lines, 1)]
 
 

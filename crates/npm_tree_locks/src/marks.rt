@@ -27,15 +27,25 @@ impl Marks {
         })
     }
 
-    /// Adds the marks of a place.
-    pub(crate) fn put(&self, writer: &mut Writer, number: usize) -> Result<()> {
+    /// Adds the mark of this name, if a place has it.
+    pub(crate) fn put(&self, writer: &mut Writer, number: usize, name: &str) -> Result<()> {
+        if self.has(number, name) {
+            writer.put_word(name, "true")
+        } else {
+            Ok(())
+        }
+    }
+
+    fn has(&self, number: usize, name: &str) -> bool {
         let dev = !has(&self.without_dev, number);
         let optional = !has(&self.without_optional, number);
-        put_mark(writer, "dev", dev)?;
-        put_mark(writer, "optional", optional)?;
-        let dev_optional = !dev && !optional && !has(&self.without_both, number);
-        put_mark(writer, "devOptional", dev_optional)?;
-        put_mark(writer, "peer", !has(&self.without_peers, number))
+        match name {
+            "dev" => dev,
+            "optional" => optional,
+            "devOptional" => !dev && !optional && !has(&self.without_both, number),
+            "peer" => !has(&self.without_peers, number),
+            _ => false,
+        }
     }
 }
 
@@ -50,12 +60,4 @@ fn without(dev: bool, optional: bool, peer: bool) -> Groups {
 
 fn has(is_reached: &[bool], number: usize) -> bool {
     is_reached.get(number).copied().unwrap_or(false)
-}
-
-fn put_mark(writer: &mut Writer, name: &str, is_so: bool) -> Result<()> {
-    if is_so {
-        writer.put_word(name, "true")
-    } else {
-        Ok(())
-    }
 }

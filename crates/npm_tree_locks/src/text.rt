@@ -1,9 +1,10 @@
 //! The text of a lock file.
 
 use crate::Result;
+use crate::collation::sort_key;
 use crate::entries::{Entry, entries_of, folder_at, folders_of};
 use crate::marks::Marks;
-use crate::members::put_members;
+use crate::members::{put_link, put_members};
 use crate::writer::Writer;
 use npm_texts::is_true;
 use npm_trees::{Document, Stands, Tree};
@@ -11,8 +12,8 @@ use serde_json::Value;
 use std::alloc::Global;
 
 /// Returns the text of the lock file of version 3 for a tree of packages from these documents: a line for each member and item, with two
-/// spaces for each level, and a newline at the end. Packages are in the order of the bytes of their folders, dependencies in that of their
-/// names in English.
+/// spaces for each level, and a newline at the end. As npm writes it, packages are in the order of their folders in English, the members of
+/// each in that of their names, but its version and where it comes from before, and objects last.
 ///
 /// A package is `dev`, `optional`, `devOptional` or `peer` if each way to it from the root has such a dependency. What counts as false or
 /// is empty in a manifest is left out.
@@ -52,7 +53,8 @@ pub fn tree_lock<'d>(
     writer.open()?;
     let marks = Marks::of(alloc, tree)?;
     let folders = folders_of(alloc, tree)?;
-    for entry in &entries_of(alloc, tree, &folders)? {
+    for ordered in &ordered(alloc, entries_of(alloc, tree, &folders)?)? {
+        let entry = &ordered.entry;
         writer.key(entry.folder.as_str())?;
         writer.open()?;
         put_entry(&mut writer, alloc, tree, documents, &folders, &marks, entry)?;
@@ -61,6 +63,24 @@ pub fn tree_lock<'d>(
     writer.close()?;
     writer.close()?;
     writer.into_text()
+}
+
+/// An entry, and bytes that sort as folders do.
+#[derive(PartialEq, Eq, PartialOrd, Ord, Drop)]
+struct InOrder {
+    order: Vec<u8>,
+    entry: Entry,
+}
+
+/// The entries in the order of their folders in English.
+fn ordered(alloc: Global, entries: Vec<Entry>) -> Result<Vec<InOrder>> {
+    let mut all = Vec::with_capacity(alloc, entries.len())?;
+    for entry in entries {
+        let order = sort_key(alloc, entry.folder.as_str())?;
+        all.push(InOrder { order, entry })?;
+    }
+    all.sort()?;
+    Ok(all)
 }
 
 /// Adds a member of a manifest, if it counts as true.
@@ -85,18 +105,8 @@ fn put_entry<'d>(
         return Ok(());
     };
     match place.stands {
-        Stands::Link { to } => put_link(writer, folder_at(folders, Some(to)))?,
-        Stands::Top { at, .. } if entry.is_link => put_link(writer, at)?,
-        _ => put_members(writer, alloc, documents, place)?,
+        Stands::Link { to } => put_link(writer, folder_at(folders, Some(to)), entry.place, marks),
+        Stands::Top { at, .. } if entry.is_link => put_link(writer, at, entry.place, marks),
+        _ => put_members(writer, alloc, documents, place, entry.place, marks),
     }
-    if place.up.is_some() {
-        marks.put(writer, entry.place)?;
-    }
-    Ok(())
-}
-
-/// Adds the members of a link.
-fn put_link(writer: &mut Writer, folder: &str) -> Result<()> {
-    writer.put_text("resolved", folder)?;
-    writer.put_word("link", "true")
 }

@@ -9,9 +9,10 @@ MARKS = {"--flat": "flat", "--lowest": "lowest", "lock": "lockfile"}
 
 
 def rows():
-    """A manifest, the documents and the options of a run in which versions are selected, and their lines or the lock file."""
+    """A manifest, the documents and the options of a run in which versions are selected, not a tree, and their lines or the lock file."""
     for run in runs.resolve_runs():
-        if run.words.count("--manifest") == 1 and "json" not in run.words and run.status == 0 and run.output:
+        is_tree = not {"--peers", "--flat"} & {*run.words}
+        if run.words.count("--manifest") == 1 and "json" not in run.words and run.status == 0 and run.output and not is_tree:
             documents = {name[len(MIRROR):-len(JSON)]: value for name, value in run.files.items() if name.startswith(MIRROR)}
             options = {name: True for word, name in MARKS.items() if word in run.words}
             if "--lock" in run.words:

@@ -68,15 +68,10 @@ def mirror(room, names, address):
             registry.put(os.path.join(room, "mirror", f"{name}.json"), json.load(answer))
 
 
-def read(path):
-    with open(path, encoding="utf-8") as file:
-        return json.load(file)
-
-
 def installed(folder, lock):
     """What is wrong with the packages that npm installed, or None."""
     for place, member in lock["packages"].items():
-        if place and read(os.path.join(folder, place, "package.json"))["version"] != member["version"]:
+        if place and registry.read(os.path.join(folder, place, "package.json"))["version"] != member["version"]:
             return f"{place} is another version"
     return None
 
@@ -122,7 +117,7 @@ def fault(folder, lock, ran):
     for words, (status, told) in zip(COMMANDS, ran):
         if status != 0:
             return f"npm {' '.join(words)}: {told}"
-    kept = read(os.path.join(folder, "package-lock.json"))
+    kept = registry.read(os.path.join(folder, "package-lock.json"))
     return installed(folder, lock) or (None if kept == said(lock) else f"npm writes another file: {json.dumps(kept)}")
 
 
@@ -135,6 +130,6 @@ def test_are_checked_installed_and_kept(record_property, tmp_path):
         found = {folder: lock for names in sets for folder, lock in locks(r, room, names).items()}
         ran = registry.npm(room, address, [(folder, words) for folder in found for words in COMMANDS])
     faults = {folder: fault(folder, lock, ran[at * len(COMMANDS):]) for at, (folder, lock) in enumerate(found.items())}
-    wrong = [f"{json.dumps(read(os.path.join(folder, 'package.json')))}: {told}" for folder, told in faults.items() if told]
+    wrong = [f"{json.dumps(registry.read(os.path.join(folder, 'package.json')))}: {told}" for folder, told in faults.items() if told]
     assert not wrong, "\n".join(wrong)
     record_property("made", len(found))

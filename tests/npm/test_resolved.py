@@ -120,8 +120,7 @@ OPTIONS = [
 
 def locked(folder):
     """The versions in the lock file that npm wrote, by name."""
-    with open(os.path.join(folder, "package-lock.json"), encoding="utf-8") as file:
-        packages = json.load(file)["packages"]
+    packages = registry.read(os.path.join(folder, "package-lock.json"))["packages"]
     return {place[len("node_modules/"):]: one["version"] for place, one in packages.items() if place}
 
 

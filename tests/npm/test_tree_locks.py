@@ -8,10 +8,10 @@ import itertools
 import json
 import os
 import random
-import subprocess
 
 from support import made as making, programs, registry
 from test_flat_locks import manifest, packages
+from tree_projects import resolved
 
 LOCKS = 12
 NAMES = [f"{letter}0" for letter in "abcdefgh"]
@@ -43,8 +43,7 @@ def project(r, folder, has_workspace):
 def locked(r, folder, has_workspace):
     """The lock file that the program writes for a project, or None if it has no tree."""
     paths = project(r, folder, has_workspace)
-    words = [programs.built("npm_resolve"), "--format", "lock", "--packuments", "mirror", *(word for path in paths for word in ("--manifest", path))]
-    done = subprocess.run(words, cwd=folder, stdin=subprocess.DEVNULL, capture_output=True, encoding="utf-8")
+    done = resolved(folder, paths)
     if done.returncode == 1:
         return None
     assert done.returncode == 0, f"{folder}: status {done.returncode}: {done.stderr}"

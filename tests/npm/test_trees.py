@@ -10,8 +10,8 @@ import subprocess
 
 import pytest
 
-from support import made as making, programs, registry
-from tree_projects import documents_of_npm, project, read, written
+from support import made as making, registry
+from tree_projects import documents_of_npm, project, resolved, written
 
 PROJECTS, PARTS = 300, 4  # Projects in all, and tests that share them.
 HERE = os.path.dirname(os.path.abspath(__file__))
@@ -19,9 +19,7 @@ HERE = os.path.dirname(os.path.abspath(__file__))
 
 def lock_of(folder, paths):
     """The lock file that the program writes, or None where it has no tree."""
-    words = [programs.built("npm_resolve"), "--format", "lock", "--packuments", "mirror", "--node", "20.20.2"]
-    words += [word for path in paths for word in ("--manifest", path)]
-    done = subprocess.run(words, cwd=folder, stdin=subprocess.DEVNULL, capture_output=True, encoding="utf-8")
+    done = resolved(folder, paths, "--node", "20.20.2")
     assert done.returncode in (0, 1, 2), f"{folder}: status {done.returncode}: {done.stderr}"
     return json.loads(done.stdout) if done.returncode == 0 else None
 
@@ -85,7 +83,7 @@ def test_are_as_npms(part, record_property, tmp_path):
 
 def test_npms_own_packages_stand_where_npm_puts_them(record_property, tmp_path):
     top = os.path.join(subprocess.run(["npm", "root", "-g"], capture_output=True, encoding="utf-8").stdout.strip(), "npm")
-    documents, manifest = documents_of_npm(top), read(os.path.join(top, "package.json"))
+    documents, manifest = documents_of_npm(top), registry.read(os.path.join(top, "package.json"))
     root = {"name": "npm", "version": manifest["version"], "dependencies": manifest["dependencies"]}
     written(str(tmp_path), root, documents)
     lock = lock_of(str(tmp_path), ["package.json"])

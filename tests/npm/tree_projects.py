@@ -1,10 +1,10 @@
 """Projects for the tests of trees: made ones, with peers, optional dependencies, aliases, overrides and workspaces, and npm itself."""
 import base64
 import hashlib
-import json
 import os
+import subprocess
 
-from support import registry
+from support import programs, registry
 
 VERSIONS = ["0.1.0", "0.2.0", "1.0.0", "1.0.1", "1.2.0", "2.0.0-rc.1", "2.0.0", "2.1.0", "3.0.0"]
 WANTED = ("dependencies", "devDependencies", "optionalDependencies", "peerDependencies")
@@ -108,19 +108,21 @@ def written(folder, root, documents):
         registry.put(path, document)
 
 
-def read(path):
-    with open(path, encoding="utf-8") as file:
-        return json.load(file)
-
-
 def documents_of_npm(top):
     """A document for each package that is installed with npm, with the versions that are there."""
     found = {}
     for at, _, files in os.walk(os.path.join(top, "node_modules")):
         name = at.rpartition("node_modules/")[2]
         if "package.json" in files and name.count("/") == name.startswith("@"):
-            manifest = read(os.path.join(at, "package.json"))
+            manifest = registry.read(os.path.join(at, "package.json"))
             kept = {kind: value for kind, value in manifest.items() if kind in KEPT}
             kept["dist"] = dist(kept["name"], kept["version"])
             found.setdefault(kept["name"], {"name": kept["name"], "dist-tags": {}, "versions": {}})["versions"][kept["version"]] = kept
     return found
+
+
+def resolved(folder, paths, *words):
+    """A run of the program that writes the lock file of a project."""
+    manifests = [word for path in paths for word in ("--manifest", path)]
+    words = [programs.built("npm_resolve"), "--format", "lock", "--packuments", "mirror", *words, *manifests]
+    return subprocess.run(words, cwd=folder, stdin=subprocess.DEVNULL, capture_output=True, encoding="utf-8")

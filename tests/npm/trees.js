@@ -4,15 +4,15 @@
 // npm does not end on some projects, so a worker goes over them, and another one goes on after a project that took 20 seconds.
 'use strict';
 
-const { execFileSync } = require('node:child_process');
 const fs = require('node:fs');
 const http = require('node:http');
 const path = require('node:path');
 const { Worker, isMainThread, parentPort, workerData } = require('node:worker_threads');
 
+const { npms } = require('./shared.js');
+
 const LIMIT = 20000;
-const ROOT = execFileSync('npm', ['root', '-g'], { encoding: 'utf8' }).trim();
-const Arborist = require(path.join(ROOT, 'npm', 'node_modules', '@npmcli/arborist'));
+const Arborist = npms('@npmcli/arborist');
 const projects = JSON.parse(fs.readFileSync(process.argv[2], 'utf8'));
 
 // What npm finds wrong with a tree: dependencies that are missing or not met, and packages that nobody needs.

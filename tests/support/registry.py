@@ -15,6 +15,11 @@ def put(path, value):
         json.dump(value, out)
 
 
+def read(path):
+    with open(path, encoding="utf-8") as file:
+        return json.load(file)
+
+
 def with_options(room, address, words):
     """The words of a command of npm, with those that each has."""
     return [*words, "--no-audit", "--no-fund", "--ignore-scripts", "--no-update-notifier", "--logs-max=0", f"--registry={address}",

@@ -11,7 +11,7 @@ import random
 
 from support import made as making, programs, registry
 from test_flat_locks import manifest, packages
-from tree_projects import resolved
+from tree_projects import resolved, written
 
 LOCKS = 12
 NAMES = [f"{letter}0" for letter in "abcdefgh"]
@@ -28,15 +28,13 @@ def with_tarballs(name, document):
 
 def project(r, folder, has_workspace):
     """Writes the manifests and the documents of a project, and returns the paths of its manifests."""
-    os.makedirs(os.path.join(folder, "mirror"))
-    for name, document in packages(r, NAMES).items():
-        registry.put(os.path.join(folder, "mirror", f"{name}.json"), with_tarballs(name, document))
+    documents = {name: with_tarballs(name, document) for name, document in packages(r, NAMES).items()}
     root, paths = manifest(r, NAMES), ["package.json"]
     if has_workspace:
         root["workspaces"], paths = ["packages/*"], [*paths, "packages/w/package.json"]
         os.makedirs(os.path.join(folder, "packages", "w"))
         registry.put(os.path.join(folder, paths[1]), {**manifest(r, NAMES), "name": "w", "overrides": {}})
-    registry.put(os.path.join(folder, "package.json"), root)
+    written(folder, root, documents)
     return paths
 
 
